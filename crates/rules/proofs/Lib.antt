@@ -1,0 +1,3 @@
+pub mod Table
+pub mod Sheet
+pub mod Cases
