@@ -8,16 +8,12 @@ use lib.ListN.{replicate}
 use lib.IntN.{pos, negsuc}
 use lib.Ieee.{Float, nan, inf, fin}
 use Rattle.rules.specs.declared.MaybeTime.the-variants as MaybeTime
-use Rattle.rules.specs.declared.LastEvent.{LastEvent}
 use Rattle.rules.specs.declared.LastEvent.the-variants as LastEvent
 use Rattle.rules.specs.declared.Event.the-variants as Event
 use Rattle.rules.specs.declared.AutomationRate.the-variants as Rate
 use Rattle.rules.specs.Queue.{alone}
 use Rattle.rules.specs.Block.{step, linear, exponential, target, curve, cancel, hold}
-use Rattle.rules.proofs.Table.{Act, make, ask, block, lend, look, Said, ok, refused, output, state, Case, results, expected, bounds, n0, n1, n2, n3, n4, n5, n6, n7, n8, n9, n10, half, minus0, minus1, minus10}
-
-abbrev done : Float → Float → LastEvent
-done t v = LastEvent.Done (record { time = t; value = v })
+use Rattle.rules.proofs.Table.{Act, make, ask, block, lend, look, Said, ok, refused, output, state, Case, results, expected, bounds, done, n0, n1, n2, n3, n4, n5, n6, n7, n8, n9, n10, half, minus0, minus1, minus10}
 
 unfoldable pub cases : List Case
 cases =

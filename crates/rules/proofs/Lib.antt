@@ -1,3 +1,4 @@
 pub mod Table
 pub mod Sheet
 pub mod Cases
+pub mod Rust

@@ -10,6 +10,7 @@ use lib.Ieee.{Float, nan, inf, fin}
 use Rattle.rules.specs.declared.Bounds.{Bounds}
 use Rattle.rules.specs.declared.MaybeTime.{MaybeTime}
 use Rattle.rules.specs.declared.LastEvent.{LastEvent}
+use Rattle.rules.specs.declared.LastEvent.the-variants as LastEvent
 use Rattle.rules.specs.declared.AutomationRate.{AutomationRate}
 use Rattle.rules.specs.declared.AutomationRate.the-variants as Rate
 use Rattle.rules.specs.declared.Verdict.{Verdict}
@@ -81,17 +82,21 @@ mark = fin false 1 (pos 23)
 abbrev pub bounds : Float → Float → Float → Bounds
 bounds lo d hi = record { min = lo; default = d; max = hi }
 
+abbrev pub done : Float → Float → LastEvent
+done t v = LastEvent.Done (record { time = t; value = v })
+
 -- ---- calls, and what is said to them
 
 -- a block with its time, period, count, length of the output and input; `play` is one of period 1 with an output of just its count, of which the bench sheet
--- gives samples and steps alone
+-- gives samples and steps alone; `hear` and `glance` ask for what the Rust can say, too: no steps, no block time, no store
 pub data Act : Type 0 where
   make : Bounds → AutomationRate → Act
   ask : Command → Act
   block : Float → Float → ℕ → ℕ → List Float → Act
   play : Float → ℕ → List Float → Act
+  hear : Float → Float → ℕ → List Float → Act
   lend : ℕ → Act
-  look intrinsic : Act
+  look glance intrinsic : Act
 
 -- `state` has the intrinsic value, the last block's time, the last event, the waiting events with their numbers, and whether zeros stand behind these
 pub data Said : Type 0 where
@@ -101,6 +106,8 @@ pub data Said : Type 0 where
   heard : List Float → ℕ → Said
   state : Float → MaybeTime → LastEvent → List Waiting → Bool → Said
   value : Float → Said
+  sounds : Float → Bool → List Float → Said
+  seen : Float → LastEvent → List Waiting → Said
 
 pub record Case : Type 0 where
   pub acts : List Act
@@ -138,8 +145,11 @@ performed (block t d count out input ∷ acts) p store =
     let a = answered p store (callOf t d count out input) in outputSaid a ∷ performed acts (a .param) (a .store)
 performed (play t count input ∷ acts) p store =
     let a = answered p store (callOf t n1 count count input) in heard (a .output) (a .steps) ∷ performed acts (a .param) (a .store)
+performed (hear t d count input ∷ acts) p store =
+    let a = answered p store (callOf t d count count input) in sounds (a .current) (a .oneValued) (a .output) ∷ performed acts (a .param) (a .store)
 performed (lend n ∷ acts) p store = ok ∷ performed acts p (take n (store ++ replicate n plusZero))
 performed (look ∷ acts) p store = stateSaid p store ∷ performed acts p store
+performed (glance ∷ acts) p store = seen (p .intrinsic) (p .last) (attached (p .queue) store) ∷ performed acts p store
 performed (intrinsic ∷ acts) p store = value (p .intrinsic) ∷ performed acts p store
 
 -- what the rules say to each case; the names unfolded are all of specs/

@@ -1,0 +1,354 @@
+//! The parameter by 01: its calls with their refusals, the store, the answers.
+
+use crate::claims::{Claims, Reach};
+use crate::numbers::mixed;
+use crate::queue::{cancel, claim_arrival, hold, insert, Event, Kind};
+use crate::session::{curve_numbers, hex32, hex64, list32, Block, Call};
+use crate::walk::{Facts, Walk};
+
+const STORE: usize = 4096;
+
+#[derive(Clone)]
+pub struct Reference {
+    a_rate: bool,
+    min: f32,
+    default: f32,
+    max: f32,
+    intrinsic: f32,
+    queue: Vec<Event>,
+    block_time: Option<f64>,
+    last: Option<(f64, f32)>,
+    last_is_close: bool,
+    store: Vec<f32>,
+    lent: usize,
+    /// What param.rs does differently in the call just answered.
+    pub claims: Claims,
+}
+
+/// The lowest number among the rows that apply.
+fn refusal(rows: &[(u8, bool)]) -> Option<u8> {
+    rows.iter().find(|(_, applies)| *applies).map(|(number, _)| *number)
+}
+
+fn not_finite(numbers: &[f64]) -> bool {
+    numbers.iter().any(|n| !n.is_finite())
+}
+
+/// A time of -0 is taken as 0.
+fn plus_zero(time: f64) -> f64 {
+    time + 0.
+}
+
+fn is_minus_zero(time: f64) -> bool {
+    time == 0. && time.is_sign_negative()
+}
+
+impl Reference {
+    /// What refusal 1 returns, and what a session starts with.
+    pub fn empty() -> Self {
+        Self {
+            a_rate: true,
+            min: 0.,
+            default: 0.,
+            max: 0.,
+            intrinsic: 0.,
+            queue: Vec::new(),
+            block_time: None,
+            last: None,
+            last_is_close: false,
+            store: vec![0.; 8192],
+            lent: STORE,
+            claims: Claims::default(),
+        }
+    }
+
+    pub fn answer(&mut self, call: &Call) -> String {
+        self.claims = Claims::default();
+        let refused = match call {
+            Call::Make { min, default, max, a_rate } => self.make(*min, *default, *max, *a_rate),
+            Call::Set(v) => self.set(*v),
+            Call::Step(v, t) => self.simple(Kind::Step, *v, *t),
+            Call::Linear(v, t) => self.simple(Kind::Linear, *v, *t),
+            Call::Exponential(v, t) => self.simple(Kind::Exponential, *v, *t),
+            Call::Target(v, t, constant) => self.target(*v, *t, *constant),
+            Call::Curve(t, d, values) => self.curve(*t, *d, values),
+            Call::Cancel(t) => self.cancel(*t),
+            Call::Hold(t) => self.hold(*t),
+            Call::Block(b) => return self.block(b),
+            Call::Lend(n) => self.lend(*n),
+            Call::Poke(i, v) => self.poke(*i, *v),
+            Call::State => return self.state(),
+        };
+        refused.map_or("ok".to_string(), |n| format!("refused {n}"))
+    }
+
+    fn make(&mut self, min: f32, default: f32, max: f32, a_rate: bool) -> Option<u8> {
+        *self = Self::empty();
+        let finite = min.is_finite() && default.is_finite() && max.is_finite();
+        if !(finite && min <= default && default <= max) {
+            self.claims.note(Reach::Part, "refused", true);
+            return Some(1);
+        }
+        *self = Self { min, default, max, a_rate, intrinsic: default, ..Self::empty() };
+        None
+    }
+
+    /// A refusal, with what the Rust does there: rows up to 6 panic in it too.
+    fn refuse(&mut self, number: Option<u8>) -> Option<u8> {
+        let name = match number? {
+            ..=6 => "refused",
+            7 => "queue-limit",
+            8 => "curve-limit",
+            _ => "store",
+        };
+        let reach = if name == "refused" { Reach::Part } else { Reach::Ends };
+        self.claims.note(reach, name, true);
+        number
+    }
+
+    fn full(&self) -> bool {
+        self.queue.len() >= 64
+    }
+
+    fn schedule(&mut self, kind: Kind, value: f32, time: f64) {
+        self.claims.note(Reach::Ends, "minus-zero-time", is_minus_zero(time));
+        let event = Event { kind, value, time: plus_zero(time), hold: None };
+        claim_arrival(&self.queue, &event, self.last.is_none(), &mut self.claims);
+        insert(&mut self.queue, event);
+    }
+
+    fn set(&mut self, v: f32) -> Option<u8> {
+        let refused = refusal(&[(2, !v.is_finite()), (7, self.full())]);
+        if refused.is_none() {
+            let changes = v.to_bits() != self.intrinsic.to_bits();
+            self.claims.note(Reach::Ends, "set-now", changes);
+            self.schedule(Kind::Step, v, 0.);
+        }
+        self.refuse(refused)
+    }
+
+    fn simple(&mut self, kind: Kind, v: f32, t: f64) -> Option<u8> {
+        let zero = kind == Kind::Exponential && v == 0.;
+        let finite = v.is_finite() && t.is_finite();
+        let refused = refusal(&[(2, !finite), (3, t < 0.), (5, zero), (7, self.full())]);
+        if refused.is_none() {
+            self.schedule(kind, v, t);
+        }
+        self.refuse(refused)
+    }
+
+    fn target(&mut self, v: f32, t: f64, constant: f64) -> Option<u8> {
+        let bad = !v.is_finite() || not_finite(&[t, constant]);
+        let refused = refusal(&[(2, bad), (3, t < 0.), (4, constant < 0.), (7, self.full())]);
+        if refused.is_none() {
+            let kind = if constant == 0. { Kind::Step } else { Kind::Target { constant } };
+            self.schedule(kind, v, t);
+        }
+        self.refuse(refused)
+    }
+
+    fn curve(&mut self, t: f64, duration: f64, values: &[f32]) -> Option<u8> {
+        let not_numbers = values.iter().any(|v| !v.is_finite());
+        let waiting: usize = self.lengths().iter().sum();
+        let rust_panics =
+            values.len() < 2 || not_finite(&[t, duration]) || t < 0. || duration <= 0.;
+        let refused = refusal(&[
+            (2, not_finite(&[t, duration]) || not_numbers),
+            (3, t < 0.),
+            (4, duration <= 0.),
+            (6, values.len() < 2),
+            (7, self.full()),
+            (8, waiting + values.len() > STORE),
+            (14, self.lent != STORE),
+        ]);
+        if refused.is_none() {
+            self.read_store();
+            let numbers = values.to_vec();
+            self.schedule(Kind::Curve { duration, numbers }, 0., t);
+            self.pack_store();
+        }
+        if refused == Some(2) && !rust_panics {
+            self.claims.note(Reach::Ends, "curve-numbers", true);
+            return refused;
+        }
+        self.refuse(refused)
+    }
+
+    fn cancel(&mut self, c: f64) -> Option<u8> {
+        let rows = [(2, !c.is_finite()), (3, c < 0.), (14, self.lent != STORE)];
+        let refused = refusal(&rows);
+        if refused.is_none() {
+            self.read_store();
+            if cancel(&mut self.queue, c) {
+                self.claims.note(Reach::Ends, "no-last-event", self.last.is_none());
+                self.intrinsic = self.last.map_or(self.intrinsic, |(_, v)| v);
+            }
+            self.pack_store();
+        }
+        self.refuse(refused)
+    }
+
+    fn hold(&mut self, c: f64) -> Option<u8> {
+        let rows = [(2, !c.is_finite()), (3, c < 0.), (14, self.lent != STORE)];
+        let refused = refusal(&rows);
+        if refused.is_none() {
+            self.claims.note(Reach::Ends, "minus-zero-time", is_minus_zero(c));
+            self.read_store();
+            hold(&mut self.queue, plus_zero(c), &mut self.claims);
+            self.pack_store();
+        }
+        self.refuse(refused)
+    }
+
+    fn lend(&mut self, n: usize) -> Option<u8> {
+        self.lent = n;
+        None
+    }
+
+    fn poke(&mut self, i: usize, v: f32) -> Option<u8> {
+        let inside = i < self.lengths().iter().sum();
+        let changes = self.store[i].to_bits() != v.to_bits();
+        self.claims.note(Reach::Ends, "store", inside && changes);
+        self.store[i] = v;
+        None
+    }
+
+    /// How many numbers each waiting curve has, in queue order.
+    fn lengths(&self) -> Vec<usize> {
+        let length = |e: &Event| match &e.kind {
+            Kind::Curve { numbers, .. } => Some(numbers.len()),
+            _ => None,
+        };
+        self.queue.iter().filter_map(length).collect()
+    }
+
+    /// The waiting curves' numbers as they stand in the store.
+    fn read_store(&mut self) {
+        let mut at = 0;
+        for event in &mut self.queue {
+            if let Kind::Curve { numbers, .. } = &mut event.kind {
+                let n = numbers.len();
+                numbers.copy_from_slice(&self.store[at..at + n]);
+                at += n;
+            }
+        }
+    }
+
+    /// The waiting curves' numbers end to end, then zeros.
+    fn pack_store(&mut self) {
+        let mut at = 0;
+        self.store[..STORE].fill(0.);
+        for event in &self.queue {
+            if let Kind::Curve { numbers, .. } = &event.kind {
+                self.store[at..at + numbers.len()].copy_from_slice(numbers);
+                at += numbers.len();
+            }
+        }
+    }
+
+    fn block_refusal(&mut self, b: &Block) -> Option<u8> {
+        let time = plus_zero(b.time);
+        let fits = b.input.is_empty() || b.input.len() as u64 == b.count;
+        let lengths = b.count < 1 || b.count > 128 || (b.out as u64) < b.count || !fits;
+        let numbers = not_finite(&[time, b.period]) || time < 0. || b.period <= 0.;
+        let back = self.block_time.is_some_and(|last| time < last);
+        let rows = [(9, lengths || numbers), (10, back), (14, self.lent != STORE)];
+        let refused = refusal(&rows)?;
+        self.claims.note(Reach::Part, "refused", lengths);
+        self.claims.note(Reach::Ends, "block-unchecked", !lengths && refused < 14);
+        self.claims.note(Reach::Ends, "store", refused == 14);
+        Some(refused)
+    }
+
+    fn block(&mut self, b: &Block) -> String {
+        if let Some(number) = self.block_refusal(b) {
+            return format!("refused {number} clean");
+        }
+        self.claims.note(Reach::Ends, "minus-zero-time", is_minus_zero(b.time));
+        let (time, count) = (plus_zero(b.time), b.count as usize);
+        let next = (count as f64).mul_add(b.period, time);
+        let facts = Facts { time, period: b.period, count, next, a_rate: self.a_rate };
+        let before = self.intrinsic;
+        let odd = before.is_nan() || (before == 0. && before.is_sign_negative());
+        self.claims.note(Reach::Part, "current-value", odd);
+        self.read_store();
+        let (values, steps, constant) = self.values(facts);
+        let one = !self.a_rate || (constant && b.input.is_empty());
+        let single = count == 1 && b.input.is_empty() && !one;
+        self.claims.note(Reach::Part, "one-sample", single);
+        let samples = self.mix(&values, &b.input, count);
+        self.block_time = Some(time);
+        self.pack_store();
+        let current = mixed(before + 0., self.min, self.default, self.max);
+        let text = list32(&samples, " ");
+        format!("block {steps} {} {}{text} clean", hex32(current), u8::from(one))
+    }
+
+    /// The block's values, its steps, and whether it is one-valued.
+    fn values(&mut self, facts: Facts) -> (Vec<f32>, u32, bool) {
+        let waits = self.queue.first().map(|e| (e.is_ramp(), e.time));
+        let at_end = waits.is_some_and(|(ramp, t)| !ramp && t == facts.next);
+        self.claims.note(Reach::Ends, "block-end", at_end);
+        if waits.is_none_or(|(ramp, t)| !ramp && t > facts.next) {
+            return (vec![self.intrinsic], 1, true);
+        }
+        let mut walk = Walk {
+            facts,
+            queue: &mut self.queue,
+            intrinsic: &mut self.intrinsic,
+            last: &mut self.last,
+            close: &mut self.last_is_close,
+            claims: &mut self.claims,
+            buffer: Vec::with_capacity(facts.count),
+            steps: 0,
+        };
+        walk.run();
+        (walk.buffer, walk.steps, false)
+    }
+
+    /// Mixed with the input; one value serves all places, K-rate has one input.
+    fn mix(&mut self, values: &[f32], input: &[f32], count: usize) -> Vec<f32> {
+        let mut samples = Vec::with_capacity(count);
+        for i in 0..count {
+            let value = values[if values.len() == 1 { 0 } else { i }];
+            let with = input.get(if self.a_rate { i } else { 0 }).copied().unwrap_or(0.);
+            let sum = with + value;
+            let other = |bound: f32| sum == 0. && bound == 0. && sum.to_bits() != bound.to_bits();
+            let either = other(self.min) || other(self.max);
+            self.claims.note(Reach::Part, "zero-bound", either);
+            samples.push(mixed(sum, self.min, self.default, self.max));
+        }
+        samples
+    }
+
+    fn state(&mut self) -> String {
+        let mut seen = self.clone();
+        seen.read_store();
+        let packed: usize = seen.lengths().iter().sum();
+        let zeros = seen.store[packed..STORE].iter().all(|v| v.to_bits() == 0);
+        let rate = if self.a_rate { "a" } else { "k" };
+        let bounds = list32(&[self.min, self.default, self.max], " ");
+        let block = self.block_time.map_or("-".to_string(), hex64);
+        let pair = |(t, v): (f64, f32)| format!("{}:{}", hex64(t), hex32(v));
+        let last = self.last.map_or("-".to_string(), pair);
+        let events: String = seen.queue.iter().map(|e| format!(" {}", event(e))).collect();
+        let (intrinsic, n) = (hex32(self.intrinsic), seen.queue.len());
+        let rest = if zeros { "zeros" } else { "dirty" };
+        format!("state {rate}{bounds} {intrinsic} {block} {last} {n}{events} {rest}")
+    }
+}
+
+/// A waiting event as `state` prints it.
+fn event(e: &Event) -> String {
+    let (value, time) = (hex32(e.value), hex64(e.time));
+    let hold = e.hold.map_or("-".to_string(), hex64);
+    match &e.kind {
+        Kind::Step => format!("step:{value}:{time}"),
+        Kind::Linear => format!("linear:{value}:{time}:{hold}"),
+        Kind::Exponential => format!("exponential:{value}:{time}:{hold}"),
+        Kind::Target { constant } => format!("target:{value}:{time}:{}:{hold}", hex64(*constant)),
+        Kind::Curve { duration, numbers } => {
+            format!("curve:{time}:{}:{hold}:{}", hex64(*duration), curve_numbers(numbers))
+        }
+    }
+}
