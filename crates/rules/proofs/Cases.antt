@@ -1,5 +1,6 @@
 -- A second table beside the bench sheet, which has no target, no true exponential, no second hold and no walk at K-rate. What is expected does not come from the
--- definitions: a program written from document 01 alone worked it out (C1 to C26 of the cases). Under each case's name stand its calls in plain numbers.
+-- definitions: C1 to C26 are from a program written from document 01 alone, C27 to C49 from a second reader's interpreter of 01 in exact fractions, and the oracle's
+-- reference interpreter gives the same. Under each case's name stand its calls in plain numbers.
 use mathlib.Core.Path.{_≡_, refl}
 use mathlib.Core.Bool.{true, false}
 use mathlib.Core.List.{List, [], _∷_, _++_}
@@ -12,8 +13,8 @@ use Rattle.rules.specs.declared.LastEvent.the-variants as LastEvent
 use Rattle.rules.specs.declared.Event.the-variants as Event
 use Rattle.rules.specs.declared.AutomationRate.the-variants as Rate
 use Rattle.rules.specs.Queue.{alone}
-use Rattle.rules.specs.Block.{step, linear, exponential, target, curve, cancel, hold}
-use Rattle.rules.proofs.Table.{Act, make, ask, block, lend, look, Said, ok, refused, output, state, Case, results, expected, bounds, done, n0, n1, n2, n3, n4, n5, n6, n7, n8, n9, n10, half, minus0, minus1, minus10}
+use Rattle.rules.specs.Block.{set, step, linear, exponential, target, curve, cancel, hold}
+use Rattle.rules.proofs.Table.{Act, make, ask, block, lend, look, Said, ok, refused, turned, output, state, Case, results, expected, bounds, done, n0, n1, n2, n3, n4, n5, n6, n7, n8, n9, n10, half, minus0, minus1, minus10, mark}
 
 unfoldable pub cases : List Case
 cases =
@@ -565,22 +566,743 @@ cases =
           ∷ ok
           ∷ refused 4
           ∷ refused 6
-          ∷ refused 9
-          ∷ refused 9
-          ∷ refused 9
-          ∷ refused 9
-          ∷ refused 9
-          ∷ refused 9
+          ∷ turned 9 0 n0 false (replicate 4 mark)
+          ∷ turned 9 0 n0 false (replicate 4 mark)
+          ∷ turned 9 0 n0 false (replicate 0 mark)
+          ∷ turned 9 0 n0 false (replicate 129 mark)
+          ∷ turned 9 0 n0 false (replicate 3 mark)
+          ∷ turned 9 0 n0 false (replicate 4 mark)
           ∷ output 2 n0 false (n1 ∷ n1 ∷ n1 ∷ n1 ∷ [])
-          ∷ refused 10
+          ∷ turned 10 0 n0 false (replicate 4 mark)
           ∷ ok
-          ∷ refused 10
-          ∷ refused 14
+          ∷ turned 10 0 n0 false (replicate 4 mark)
+          ∷ turned 14 0 n0 false (replicate 4 mark)
           ∷ refused 14
           ∷ refused 14
           ∷ refused 14
           ∷ ok
           ∷ state n1 (MaybeTime.At n5) (done n1 n1) [] true
+          ∷ [];
+    }
+    -- C27 the snap's edge: a value just 1e-10 (f32) away from the target does not snap
+    -- make -10 1e-10 10 a; target 0 0 1e300; block 0 1 2; state
+    ∷ record {
+      acts =
+          make (bounds minus10 (fin false 14411519 (negsuc 56)) n10) Rate.A
+          ∷ ask (target n0 n0 (fin false 1681218273811815 (pos 946)))
+          ∷ block n0 n1 2 2 []
+          ∷ look
+          ∷ [];
+      said =
+          ok
+          ∷ ok
+          ∷ output 1 (fin false 14411519 (negsuc 56)) false ((fin false 14411519 (negsuc 56)) ∷ (fin false 14411519 (negsuc 56)) ∷ [])
+          ∷ state (fin false 14411519 (negsuc 56)) (MaybeTime.At n0) (done n0 (fin false 14411519 (negsuc 56))) (alone (Event.Target n0 n0 (fin false 1681218273811815 (pos 946)) MaybeTime.Missing) ∷ []) true
+          ∷ [];
+    }
+    -- C28 a target whose next event, or whose hold, lies just at the next block time does not end
+    -- make -10 1 10 a; target 5 0 2; step 2 4; block 0 1 4; state; block 4 1 2; state; make -10 1 10 a; target 5 0 2; hold 4; block 0 1 4; state; block 4 1 2; state
+    ∷ record {
+      acts =
+          make (bounds minus10 n1 n10) Rate.A
+          ∷ ask (target n5 n0 n2)
+          ∷ ask (step n2 n4)
+          ∷ block n0 n1 4 4 []
+          ∷ look
+          ∷ block n4 n1 2 2 []
+          ∷ look
+          ∷ make (bounds minus10 n1 n10) Rate.A
+          ∷ ask (target n5 n0 n2)
+          ∷ ask (hold n4)
+          ∷ block n0 n1 4 4 []
+          ∷ look
+          ∷ block n4 n1 2 2 []
+          ∷ look
+          ∷ [];
+      said =
+          ok
+          ∷ ok
+          ∷ ok
+          ∷ output 1 n1 false (n1 ∷ (fin false 1349453 (negsuc 18)) ∷ (fin false 14799527 (negsuc 21)) ∷ (fin false 1076751 (negsuc 17)) ∷ [])
+          ∷ state (fin false 9350485 (negsuc 20)) (MaybeTime.At n0) (done n0 n1) (alone (Event.Target n5 n0 n2 MaybeTime.Missing) ∷ alone (Event.Step n2 n4) ∷ []) true
+          ∷ output 3 (fin false 9350485 (negsuc 20)) false (n2 ∷ n2 ∷ [])
+          ∷ state n2 (MaybeTime.At n4) (done n4 n2) [] true
+          ∷ ok
+          ∷ ok
+          ∷ ok
+          ∷ output 1 n1 false (n1 ∷ (fin false 1349453 (negsuc 18)) ∷ (fin false 14799527 (negsuc 21)) ∷ (fin false 1076751 (negsuc 17)) ∷ [])
+          ∷ state (fin false 9350485 (negsuc 20)) (MaybeTime.At n0) (done n0 n1) (alone (Event.Target n5 n0 n2 (MaybeTime.At n4)) ∷ []) true
+          ∷ output 2 (fin false 9350485 (negsuc 20)) false ((fin false 9350485 (negsuc 20)) ∷ (fin false 9350485 (negsuc 20)) ∷ [])
+          ∷ state (fin false 9350485 (negsuc 20)) (MaybeTime.At n4) (done n4 (fin false 9350485 (negsuc 20))) [] true
+          ∷ [];
+    }
+    -- C29 a target and a curve that start just at the next block time have started; one behind it waits
+    -- make -10 1 10 a; step 1 0; target 1 4 2; block 0 1 4; state; make -10 1 10 a; step 1 0; curve 4 2 3 5; block 0 1 4; state; make -10 0 10 a; step 1 0; target 5 4.5 2; block 0 1 4; state; make -10 0 10 a; step 1 0; curve 4.5 2 3 5; block 0 1 4; state
+    ∷ record {
+      acts =
+          make (bounds minus10 n1 n10) Rate.A
+          ∷ ask (step n1 n0)
+          ∷ ask (target n1 n4 n2)
+          ∷ block n0 n1 4 4 []
+          ∷ look
+          ∷ make (bounds minus10 n1 n10) Rate.A
+          ∷ ask (step n1 n0)
+          ∷ ask (curve n4 n2 (n3 ∷ n5 ∷ []))
+          ∷ block n0 n1 4 4 []
+          ∷ look
+          ∷ make (bounds minus10 n0 n10) Rate.A
+          ∷ ask (step n1 n0)
+          ∷ ask (target n5 (fin false 9 (negsuc 0)) n2)
+          ∷ block n0 n1 4 4 []
+          ∷ look
+          ∷ make (bounds minus10 n0 n10) Rate.A
+          ∷ ask (step n1 n0)
+          ∷ ask (curve (fin false 9 (negsuc 0)) n2 (n3 ∷ n5 ∷ []))
+          ∷ block n0 n1 4 4 []
+          ∷ look
+          ∷ [];
+      said =
+          ok
+          ∷ ok
+          ∷ ok
+          ∷ output 2 n1 false (n1 ∷ n1 ∷ n1 ∷ n1 ∷ [])
+          ∷ state n1 (MaybeTime.At n0) (done n0 n1) (alone (Event.Step n1 n4) ∷ []) true
+          ∷ ok
+          ∷ ok
+          ∷ ok
+          ∷ output 2 n1 false (n1 ∷ n1 ∷ n1 ∷ n1 ∷ [])
+          ∷ state n3 (MaybeTime.At n0) (done n0 n1) (record { event = Event.Curve n4 n2 2 MaybeTime.Missing; numbers = (n3 ∷ n5 ∷ []) } ∷ []) true
+          ∷ ok
+          ∷ ok
+          ∷ ok
+          ∷ output 2 n0 false (n1 ∷ n1 ∷ n1 ∷ n1 ∷ [])
+          ∷ state n1 (MaybeTime.At n0) (done n0 n1) (alone (Event.Target n5 (fin false 9 (negsuc 0)) n2 MaybeTime.Missing) ∷ []) true
+          ∷ ok
+          ∷ ok
+          ∷ ok
+          ∷ output 2 n0 false (n1 ∷ n1 ∷ n1 ∷ n1 ∷ [])
+          ∷ state n1 (MaybeTime.At n0) (done n0 n1) (record { event = Event.Curve (fin false 9 (negsuc 0)) n2 2 MaybeTime.Missing; numbers = (n3 ∷ n5 ∷ []) } ∷ []) true
+          ∷ [];
+    }
+    -- C30 a sample at the very start is the curve's; before it the intrinsic value
+    -- make -10 1 10 a; curve 2 2 3 5; block 0 1 6; state
+    ∷ record {
+      acts =
+          make (bounds minus10 n1 n10) Rate.A
+          ∷ ask (curve n2 n2 (n3 ∷ n5 ∷ []))
+          ∷ block n0 n1 6 6 []
+          ∷ look
+          ∷ [];
+      said =
+          ok
+          ∷ ok
+          ∷ output 2 n1 false (n1 ∷ n1 ∷ n3 ∷ n4 ∷ n5 ∷ n5 ∷ [])
+          ∷ state n5 (MaybeTime.At n0) (done n4 n5) [] true
+          ∷ [];
+    }
+    -- C31 ramps with no last event make one, and keep it; so does an exponential that turns and waits on
+    -- make -10 1 10 a; linear 8 8; block 0 1 4; state; make -10 1 10 a; exponential 8 6; block 2 1 2; state; make -10 0 10 a; exponential 5 9; block 0 1 4; state; block 4 1 4; block 8 1 4; state
+    ∷ record {
+      acts =
+          make (bounds minus10 n1 n10) Rate.A
+          ∷ ask (linear n8 n8)
+          ∷ block n0 n1 4 4 []
+          ∷ look
+          ∷ make (bounds minus10 n1 n10) Rate.A
+          ∷ ask (exponential n8 n6)
+          ∷ block n2 n1 2 2 []
+          ∷ look
+          ∷ make (bounds minus10 n0 n10) Rate.A
+          ∷ ask (exponential n5 n9)
+          ∷ block n0 n1 4 4 []
+          ∷ look
+          ∷ block n4 n1 4 4 []
+          ∷ block n8 n1 4 4 []
+          ∷ look
+          ∷ [];
+      said =
+          ok
+          ∷ ok
+          ∷ output 1 n1 false (n1 ∷ (fin false 15 (negsuc 2)) ∷ (fin false 11 (negsuc 1)) ∷ (fin false 29 (negsuc 2)) ∷ [])
+          ∷ state (fin false 9 (negsuc 0)) (MaybeTime.At n0) (done n0 n1) (alone (Event.Linear n8 n8 MaybeTime.Missing) ∷ []) true
+          ∷ ok
+          ∷ ok
+          ∷ output 1 n1 false (n1 ∷ (fin false 14107901 (negsuc 22)) ∷ [])
+          ∷ state (fin false 11863283 (negsuc 21)) (MaybeTime.At n2) (done n2 n1) (alone (Event.Exponential n8 n6 MaybeTime.Missing) ∷ []) true
+          ∷ ok
+          ∷ ok
+          ∷ output 2 n0 false (n0 ∷ n0 ∷ n0 ∷ n0 ∷ [])
+          ∷ state n0 (MaybeTime.At n0) (done n0 n0) (alone (Event.Step n5 n9) ∷ []) true
+          ∷ output 1 n0 true (n0 ∷ n0 ∷ n0 ∷ n0 ∷ [])
+          ∷ output 2 n0 false (n0 ∷ n5 ∷ n5 ∷ n5 ∷ [])
+          ∷ state n5 (MaybeTime.At n8) (done n9 n5) [] true
+          ∷ [];
+    }
+    -- C32 cancel just at an event's time; a ramp at that time is lost, with no last event too
+    -- make -10 1 10 a; step 2 0; linear 8 6; block 0 1 4; step 3 9; cancel 6; state; make -10 1 10 a; linear 8 6; cancel 6; state; make -10 1 10 a; step 2 3; linear 8 6; cancel 6; state
+    ∷ record {
+      acts =
+          make (bounds minus10 n1 n10) Rate.A
+          ∷ ask (step n2 n0)
+          ∷ ask (linear n8 n6)
+          ∷ block n0 n1 4 4 []
+          ∷ ask (step n3 n9)
+          ∷ ask (cancel n6)
+          ∷ look
+          ∷ make (bounds minus10 n1 n10) Rate.A
+          ∷ ask (linear n8 n6)
+          ∷ ask (cancel n6)
+          ∷ look
+          ∷ make (bounds minus10 n1 n10) Rate.A
+          ∷ ask (step n2 n3)
+          ∷ ask (linear n8 n6)
+          ∷ ask (cancel n6)
+          ∷ look
+          ∷ [];
+      said =
+          ok
+          ∷ ok
+          ∷ ok
+          ∷ output 2 n1 false (n2 ∷ n3 ∷ n4 ∷ n5 ∷ [])
+          ∷ ok
+          ∷ ok
+          ∷ state n2 (MaybeTime.At n0) (done n0 n2) [] true
+          ∷ ok
+          ∷ ok
+          ∷ ok
+          ∷ state n1 MaybeTime.Missing LastEvent.None [] true
+          ∷ ok
+          ∷ ok
+          ∷ ok
+          ∷ ok
+          ∷ state n1 MaybeTime.Missing LastEvent.None (alone (Event.Step n2 n3) ∷ []) true
+          ∷ [];
+    }
+    -- C33 hold just at a curve's end and just at a ramp's time holds nothing
+    -- make -10 1 10 a; curve 0 4 1 2 3; hold 4; state; make -10 1 10 a; linear 8 8; hold 8; state
+    ∷ record {
+      acts =
+          make (bounds minus10 n1 n10) Rate.A
+          ∷ ask (curve n0 n4 (n1 ∷ n2 ∷ n3 ∷ []))
+          ∷ ask (hold n4)
+          ∷ look
+          ∷ make (bounds minus10 n1 n10) Rate.A
+          ∷ ask (linear n8 n8)
+          ∷ ask (hold n8)
+          ∷ look
+          ∷ [];
+      said =
+          ok
+          ∷ ok
+          ∷ ok
+          ∷ state n1 MaybeTime.Missing LastEvent.None (record { event = Event.Curve n0 n4 3 MaybeTime.Missing; numbers = (n1 ∷ n2 ∷ n3 ∷ []) } ∷ []) true
+          ∷ ok
+          ∷ ok
+          ∷ ok
+          ∷ state n1 MaybeTime.Missing LastEvent.None (alone (Event.Linear n8 n8 MaybeTime.Missing) ∷ []) true
+          ∷ [];
+    }
+    -- C34 hold: the ramp alone is held; a later step goes and the target is held; a step is never held
+    -- make -10 1 10 a; target 5 0 2; linear 8 8; step 3 9; hold 3; state; make -10 1 10 a; target 5 0 2; step 3 9; linear 4 12; hold 3; state; make -10 1 10 a; target 5 0 2; step 3 1; step 3 9; hold 3; state
+    ∷ record {
+      acts =
+          make (bounds minus10 n1 n10) Rate.A
+          ∷ ask (target n5 n0 n2)
+          ∷ ask (linear n8 n8)
+          ∷ ask (step n3 n9)
+          ∷ ask (hold n3)
+          ∷ look
+          ∷ make (bounds minus10 n1 n10) Rate.A
+          ∷ ask (target n5 n0 n2)
+          ∷ ask (step n3 n9)
+          ∷ ask (linear n4 (fin false 3 (pos 2)))
+          ∷ ask (hold n3)
+          ∷ look
+          ∷ make (bounds minus10 n1 n10) Rate.A
+          ∷ ask (target n5 n0 n2)
+          ∷ ask (step n3 n1)
+          ∷ ask (step n3 n9)
+          ∷ ask (hold n3)
+          ∷ look
+          ∷ [];
+      said =
+          ok
+          ∷ ok
+          ∷ ok
+          ∷ ok
+          ∷ ok
+          ∷ state n1 MaybeTime.Missing LastEvent.None (alone (Event.Target n5 n0 n2 MaybeTime.Missing) ∷ alone (Event.Linear n8 n8 (MaybeTime.At n3)) ∷ []) true
+          ∷ ok
+          ∷ ok
+          ∷ ok
+          ∷ ok
+          ∷ ok
+          ∷ state n1 MaybeTime.Missing LastEvent.None (alone (Event.Target n5 n0 n2 (MaybeTime.At n3)) ∷ []) true
+          ∷ ok
+          ∷ ok
+          ∷ ok
+          ∷ ok
+          ∷ ok
+          ∷ state n1 MaybeTime.Missing LastEvent.None (alone (Event.Target n5 n0 n2 MaybeTime.Missing) ∷ alone (Event.Step n3 n1) ∷ []) true
+          ∷ [];
+    }
+    -- C35 zeros of times; a target with time constant 0; an immediate set, played at the block time
+    -- make -10 1 10 a; step 2 -0; linear 4 -0; target 5 3 0; set 7; hold -0; state; block -0 1 4; state; make -10 1 10 a; block 0 1 2; set 7; linear 9 6; block 2 1 4; state
+    ∷ record {
+      acts =
+          make (bounds minus10 n1 n10) Rate.A
+          ∷ ask (step n2 minus0)
+          ∷ ask (linear n4 minus0)
+          ∷ ask (target n5 n3 n0)
+          ∷ ask (set n7)
+          ∷ ask (hold minus0)
+          ∷ look
+          ∷ block minus0 n1 4 4 []
+          ∷ look
+          ∷ make (bounds minus10 n1 n10) Rate.A
+          ∷ block n0 n1 2 2 []
+          ∷ ask (set n7)
+          ∷ ask (linear n9 n6)
+          ∷ block n2 n1 4 4 []
+          ∷ look
+          ∷ [];
+      said =
+          ok
+          ∷ ok
+          ∷ ok
+          ∷ ok
+          ∷ ok
+          ∷ ok
+          ∷ state n1 MaybeTime.Missing LastEvent.None (alone (Event.Step n2 n0) ∷ alone (Event.Linear n4 n0 MaybeTime.Missing) ∷ alone (Event.Step n7 n0) ∷ []) true
+          ∷ output 4 n1 false (n7 ∷ n7 ∷ n7 ∷ n7 ∷ [])
+          ∷ state n7 (MaybeTime.At n0) (done n0 n7) [] true
+          ∷ ok
+          ∷ output 1 n1 true (n1 ∷ n1 ∷ [])
+          ∷ ok
+          ∷ ok
+          ∷ output 2 n1 false (n7 ∷ (fin false 15 (negsuc 0)) ∷ n8 ∷ (fin false 17 (negsuc 0)) ∷ [])
+          ∷ state n9 (MaybeTime.At n2) (done n2 n7) (alone (Event.Linear n9 n6 MaybeTime.Missing) ∷ []) true
+          ∷ [];
+    }
+    -- C36 the current value is mixed, and is the one before the walk; K-rate repeats the first input
+    -- make -1 0 3 k; step 5 0; block 0 1 2 2 0.5 2; block 2 1 3 3 -9 2 2; state
+    ∷ record {
+      acts =
+          make (bounds minus1 n0 n3) Rate.K
+          ∷ ask (step n5 n0)
+          ∷ block n0 n1 2 2 (half ∷ n2 ∷ [])
+          ∷ block n2 n1 3 3 ((fin true 9 (pos 0)) ∷ n2 ∷ n2 ∷ [])
+          ∷ look
+          ∷ [];
+      said =
+          ok
+          ∷ ok
+          ∷ output 2 n0 true (half ∷ half ∷ [])
+          ∷ output 1 n3 true (minus1 ∷ minus1 ∷ minus1 ∷ [])
+          ∷ state n5 (MaybeTime.At n2) (done n0 n5) [] true
+          ∷ [];
+    }
+    -- C37 one-valued only with silence
+    -- make -10 1 10 a; block 0 1 2 2 0 0; block 2 1 2
+    ∷ record {
+      acts =
+          make (bounds minus10 n1 n10) Rate.A
+          ∷ block n0 n1 2 2 (n0 ∷ n0 ∷ [])
+          ∷ block n2 n1 2 2 []
+          ∷ [];
+      said =
+          ok
+          ∷ output 1 n1 false (n1 ∷ n1 ∷ [])
+          ∷ output 1 n1 true (n1 ∷ n1 ∷ [])
+          ∷ [];
+    }
+    -- C38 a sample equal to a bound keeps its own zero
+    -- make -0 0 5 a; block 0 1 2 2 0 -0; step -0 0; block 2 1 2 2 -0 -0; make -5 -0 -0 a; step 0 0; block 0 1 2 2 0 0
+    ∷ record {
+      acts =
+          make (bounds minus0 n0 n5) Rate.A
+          ∷ block n0 n1 2 2 (n0 ∷ minus0 ∷ [])
+          ∷ ask (step minus0 n0)
+          ∷ block n2 n1 2 2 (minus0 ∷ minus0 ∷ [])
+          ∷ make (bounds (fin true 5 (pos 0)) minus0 minus0) Rate.A
+          ∷ ask (step n0 n0)
+          ∷ block n0 n1 2 2 (n0 ∷ n0 ∷ [])
+          ∷ [];
+      said =
+          ok
+          ∷ output 1 n0 false (n0 ∷ n0 ∷ [])
+          ∷ ok
+          ∷ output 2 n0 false (minus0 ∷ minus0 ∷ [])
+          ∷ ok
+          ∷ ok
+          ∷ output 2 n0 false (n0 ∷ n0 ∷ [])
+          ∷ [];
+    }
+    -- C39 ramps of no duration: NaN at the next block time, and the default is the current value; a ratio that underflows; negative floors
+    -- make -10 2 10 a; step 1 4; exponential 8 4; block 0 1 4; state; block 4 1 2; make -10 2 10 a; step 1 4; linear 8 4; block 0 1 4; state; block 4 1 2; state; make -3.4e38 1 3.4e38 a; step 3e38 0; exponential 1e-44 4; block 0 1 6; state; make -10 1 10 a; step 7 0; exponential 0.3 5; block 0 0.7 8; state
+    ∷ record {
+      acts =
+          make (bounds minus10 n2 n10) Rate.A
+          ∷ ask (step n1 n4)
+          ∷ ask (exponential n8 n4)
+          ∷ block n0 n1 4 4 []
+          ∷ look
+          ∷ block n4 n1 2 2 []
+          ∷ make (bounds minus10 n2 n10) Rate.A
+          ∷ ask (step n1 n4)
+          ∷ ask (linear n8 n4)
+          ∷ block n0 n1 4 4 []
+          ∷ look
+          ∷ block n4 n1 2 2 []
+          ∷ look
+          ∷ make (bounds (fin true 8381647 (pos 105)) n1 (fin false 8381647 (pos 105))) Rate.A
+          ∷ ask (step (fin false 7395571 (pos 105)) n0)
+          ∷ ask (exponential (fin false 7 (negsuc 148)) n4)
+          ∷ block n0 n1 6 6 []
+          ∷ look
+          ∷ make (bounds minus10 n1 n10) Rate.A
+          ∷ ask (step n7 n0)
+          ∷ ask (exponential (fin false 5033165 (negsuc 23)) n5)
+          ∷ block n0 (fin false 3152519739159347 (negsuc 51)) 8 8 []
+          ∷ look
+          ∷ [];
+      said =
+          ok
+          ∷ ok
+          ∷ ok
+          ∷ output 2 n2 false (n2 ∷ n2 ∷ n2 ∷ n2 ∷ [])
+          ∷ state nan (MaybeTime.At n0) (done n4 n1) (alone (Event.Exponential n8 n4 MaybeTime.Missing) ∷ []) true
+          ∷ output 2 n2 false (n8 ∷ n8 ∷ [])
+          ∷ ok
+          ∷ ok
+          ∷ ok
+          ∷ output 2 n2 false (n2 ∷ n2 ∷ n2 ∷ n2 ∷ [])
+          ∷ state nan (MaybeTime.At n0) (done n4 n1) (alone (Event.Linear n8 n4 MaybeTime.Missing) ∷ []) true
+          ∷ output 2 n2 false (n8 ∷ n8 ∷ [])
+          ∷ state n8 (MaybeTime.At n4) (done n4 n8) [] true
+          ∷ ok
+          ∷ ok
+          ∷ ok
+          ∷ output 4 n1 false ((fin false 7395571 (pos 105)) ∷ (fin false 7395571 (pos 105)) ∷ (fin false 7395571 (pos 105)) ∷ (fin false 7395571 (pos 105)) ∷ (fin false 7 (negsuc 148)) ∷ (fin false 7 (negsuc 148)) ∷ [])
+          ∷ state (fin false 7 (negsuc 148)) (MaybeTime.At n0) (done n4 (fin false 7 (negsuc 148))) [] true
+          ∷ ok
+          ∷ ok
+          ∷ ok
+          ∷ output 3 n1 false (n7 ∷ (fin false 9445201 (negsuc 20)) ∷ (fin false 12154145 (negsuc 21)) ∷ (fin false 7820017 (negsuc 21)) ∷ (fin false 9827 (negsuc 12)) ∷ (fin false 12948939 (negsuc 23)) ∷ (fin false 8331389 (negsuc 23)) ∷ (fin false 5033165 (negsuc 23)) ∷ [])
+          ∷ state (fin false 5033165 (negsuc 23)) (MaybeTime.At n0) (done n5 (fin false 5033165 (negsuc 23))) [] true
+          ∷ [];
+    }
+    -- C40 a target at its far end: the factor below f32's normals, and 0 from y = 160 on
+    -- make -3.4e38 3e38 3.4e38 a; target 0 0 1; block 0 12 12; state; make -3.4e38 3e38 3.4e38 a; target 1e-44 0 1; block 0 14 9; state
+    ∷ record {
+      acts =
+          make (bounds (fin true 8381647 (pos 105)) (fin false 7395571 (pos 105)) (fin false 8381647 (pos 105))) Rate.A
+          ∷ ask (target n0 n0 n1)
+          ∷ block n0 (fin false 3 (pos 2)) 12 12 []
+          ∷ look
+          ∷ make (bounds (fin true 8381647 (pos 105)) (fin false 7395571 (pos 105)) (fin false 8381647 (pos 105))) Rate.A
+          ∷ ask (target (fin false 7 (negsuc 148)) n0 n1)
+          ∷ block n0 (fin false 7 (pos 1)) 9 9 []
+          ∷ look
+          ∷ [];
+      said =
+          ok
+          ∷ ok
+          ∷ output 1 (fin false 7395571 (pos 105)) false ((fin false 7395571 (pos 105)) ∷ (fin false 11911813 (pos 87)) ∷ (fin false 4796495 (pos 71)) ∷ (fin false 15451127 (pos 52)) ∷ (fin false 12443321 (pos 35)) ∷ (fin false 10021031 (pos 18)) ∷ (fin false 8070279 (pos 1)) ∷ (fin false 12998543 (negsuc 16)) ∷ (fin false 5232511 (negsuc 32)) ∷ n0 ∷ n0 ∷ n0 ∷ [])
+          ∷ state n0 (MaybeTime.At n0) (done n0 (fin false 7395571 (pos 105))) (alone (Event.Step n0 (fin false 9 (pos 4))) ∷ []) true
+          ∷ ok
+          ∷ ok
+          ∷ output 1 (fin false 7395571 (pos 105)) false ((fin false 7395571 (pos 105)) ∷ (fin false 3224177 (pos 86)) ∷ (fin false 702807 (pos 68)) ∷ (fin false 2451169 (pos 46)) ∷ (fin false 8548903 (pos 24)) ∷ (fin false 14907937 (pos 3)) ∷ (fin false 12998543 (negsuc 16)) ∷ (fin false 2831117 (negsuc 34)) ∷ (fin false 7 (negsuc 148)) ∷ [])
+          ∷ state (fin false 7 (negsuc 148)) (MaybeTime.At n0) (done n0 (fin false 7395571 (pos 105))) (alone (Event.Step (fin false 7 (negsuc 148)) (fin false 63 (pos 1))) ∷ []) true
+          ∷ [];
+    }
+    -- C41 sample times: the first of a run fused, the next added; positions and phases that are not exact
+    -- make -10 0 10 a; curve 0.1 0.7 1 -2 4 3; linear 9 1.3; block 0.1 0.1 14; state; make -1000 0 1000 a; step 0 0; linear 1000 1; block 0 0.1 8; curve 3 0.3 1 -2 4 3 7 9; block 2.9 0.01 48; state; make -10 0 10 a; step 1 0.6; curve 0.6000000000000001 1 5 5; block 0.1 0.1 7; state
+    ∷ record {
+      acts =
+          make (bounds minus10 n0 n10) Rate.A
+          ∷ ask (curve (fin false 3602879701896397 (negsuc 54)) (fin false 3152519739159347 (negsuc 51)) (n1 ∷ (fin true 1 (pos 1)) ∷ n4 ∷ n3 ∷ []))
+          ∷ ask (linear n9 (fin false 5854679515581645 (negsuc 51)))
+          ∷ block (fin false 3602879701896397 (negsuc 54)) (fin false 3602879701896397 (negsuc 54)) 14 14 []
+          ∷ look
+          ∷ make (bounds (fin true 125 (pos 3)) n0 (fin false 125 (pos 3))) Rate.A
+          ∷ ask (step n0 n0)
+          ∷ ask (linear (fin false 125 (pos 3)) n1)
+          ∷ block n0 (fin false 3602879701896397 (negsuc 54)) 8 8 []
+          ∷ ask (curve n3 (fin false 5404319552844595 (negsuc 53)) (n1 ∷ (fin true 1 (pos 1)) ∷ n4 ∷ n3 ∷ n7 ∷ n9 ∷ []))
+          ∷ block (fin false 6530219459687219 (negsuc 50)) (fin false 5764607523034235 (negsuc 58)) 48 48 []
+          ∷ look
+          ∷ make (bounds minus10 n0 n10) Rate.A
+          ∷ ask (step n1 (fin false 5404319552844595 (negsuc 52)))
+          ∷ ask (curve (fin false 1351079888211149 (negsuc 50)) n1 (n5 ∷ n5 ∷ []))
+          ∷ block (fin false 3602879701896397 (negsuc 54)) (fin false 3602879701896397 (negsuc 54)) 7 7 []
+          ∷ look
+          ∷ [];
+      said =
+          ok
+          ∷ ok
+          ∷ ok
+          ∷ output 3 n0 false (n1 ∷ (fin true 9586981 (negsuc 24)) ∷ (fin true 6591049 (negsuc 21)) ∷ (fin true 4793489 (negsuc 23)) ∷ (fin false 9586981 (negsuc 21)) ∷ (fin false 8089015 (negsuc 20)) ∷ (fin false 14380471 (negsuc 21)) ∷ n3 ∷ (fin false 4404019 (negsuc 19)) ∷ (fin false 11324621 (negsuc 20)) ∷ (fin false 3460301 (negsuc 18)) ∷ (fin false 8178893 (negsuc 19)) ∷ n9 ∷ n9 ∷ [])
+          ∷ state n9 (MaybeTime.At (fin false 3602879701896397 (negsuc 54))) (done (fin false 5854679515581645 (negsuc 51)) n9) [] true
+          ∷ ok
+          ∷ ok
+          ∷ ok
+          ∷ output 2 n0 false (n0 ∷ (fin false 25 (pos 2)) ∷ (fin false 25 (pos 3)) ∷ (fin false 75 (pos 2)) ∷ (fin false 25 (pos 4)) ∷ (fin false 125 (pos 2)) ∷ (fin false 75 (pos 3)) ∷ (fin false 175 (pos 2)) ∷ [])
+          ∷ ok
+          ∷ output 3 (fin false 25 (pos 5)) false ((fin false 125 (pos 3)) ∷ (fin false 125 (pos 3)) ∷ (fin false 125 (pos 3)) ∷ (fin false 125 (pos 3)) ∷ (fin false 125 (pos 3)) ∷ (fin false 125 (pos 3)) ∷ (fin false 125 (pos 3)) ∷ (fin false 125 (pos 3)) ∷ (fin false 125 (pos 3)) ∷ (fin false 125 (pos 3)) ∷ (fin false 125 (pos 3)) ∷ half ∷ (fin true 1 (negsuc 24)) ∷ (fin true 1 (negsuc 0)) ∷ minus1 ∷ (fin true 3 (negsuc 0)) ∷ (fin true 1 (pos 1)) ∷ minus1 ∷ (fin false 1 (negsuc 23)) ∷ n1 ∷ n2 ∷ n3 ∷ n4 ∷ (fin false 16078165 (negsuc 21)) ∷ (fin false 15379115 (negsuc 21)) ∷ (fin false 7 (negsuc 0)) ∷ (fin false 13981013 (negsuc 21)) ∷ (fin false 13281963 (negsuc 21)) ∷ n3 ∷ (fin false 15379115 (negsuc 21)) ∷ (fin false 9087659 (negsuc 20)) ∷ n5 ∷ (fin false 5941931 (negsuc 19)) ∷ (fin false 6640981 (negsuc 19)) ∷ n7 ∷ (fin false 15379115 (negsuc 20)) ∷ (fin false 16078165 (negsuc 20)) ∷ n8 ∷ (fin false 8738133 (negsuc 19)) ∷ (fin false 9087659 (negsuc 19)) ∷ n9 ∷ n9 ∷ n9 ∷ n9 ∷ n9 ∷ n9 ∷ n9 ∷ n9 ∷ [])
+          ∷ state n9 (MaybeTime.At (fin false 6530219459687219 (negsuc 50))) (done (fin false 3715469692580659 (negsuc 49)) n9) [] true
+          ∷ ok
+          ∷ ok
+          ∷ ok
+          ∷ output 2 n0 false (n0 ∷ n0 ∷ n0 ∷ n0 ∷ n0 ∷ n5 ∷ n5 ∷ [])
+          ∷ state n5 (MaybeTime.At (fin false 3602879701896397 (negsuc 54))) (done (fin false 5404319552844595 (negsuc 52)) n1) (record { event = Event.Curve (fin false 1351079888211149 (negsuc 50)) n1 2 MaybeTime.Missing; numbers = (n5 ∷ n5 ∷ []) } ∷ []) true
+          ∷ [];
+    }
+    -- C42 a next block time that is infinite, with a curve and a ramp
+    -- make -10 1 10 a; curve 1.7e308 1e307 3 5; linear 4 1.75e308; block 1.7e308 1e307 2; state
+    ∷ record {
+      acts =
+          make (bounds minus10 n1 n10) Rate.A
+          ∷ ask (curve (fin false 4258857765019067 (pos 972)) (fin false 8016673440035891 (pos 967)) (n3 ∷ n5 ∷ []))
+          ∷ ask (linear n4 (fin false 1096029571879907 (pos 974)))
+          ∷ block (fin false 4258857765019067 (pos 972)) (fin false 8016673440035891 (pos 967)) 2 2 []
+          ∷ look
+          ∷ [];
+      said =
+          ok
+          ∷ ok
+          ∷ ok
+          ∷ output 1 n1 false (n3 ∷ n5 ∷ [])
+          ∷ state n5 (MaybeTime.At (fin false 4258857765019067 (pos 972))) LastEvent.None (record { event = Event.Curve (fin false 4258857765019067 (pos 972)) (fin false 8016673440035891 (pos 967)) 2 MaybeTime.Missing; numbers = (n3 ∷ n5 ∷ []) } ∷ alone (Event.Linear n4 (fin false 1096029571879907 (pos 974)) MaybeTime.Missing) ∷ []) true
+          ∷ [];
+    }
+    -- C43 the flush: +0 also of a negative sample, and only below 2^-126
+    -- make -10 -1e-40 10 k; target 0 0 0.01; block 0 1 2 2 -0 -0; make -10 1e-38 10 k; target 0 0 0.01; block 0 1 2; make -10 1.17549435e-38 10 k; target 0 0 0.01; block 0 1 2
+    ∷ record {
+      acts =
+          make (bounds minus10 (fin true 35681 (negsuc 147)) n10) Rate.K
+          ∷ ask (target n0 n0 (fin false 5764607523034235 (negsuc 58)))
+          ∷ block n0 n1 2 2 (minus0 ∷ minus0 ∷ [])
+          ∷ make (bounds minus10 (fin false 3568119 (negsuc 147)) n10) Rate.K
+          ∷ ask (target n0 n0 (fin false 5764607523034235 (negsuc 58)))
+          ∷ block n0 n1 2 2 []
+          ∷ make (bounds minus10 (fin false 1 (negsuc 125)) n10) Rate.K
+          ∷ ask (target n0 n0 (fin false 5764607523034235 (negsuc 58)))
+          ∷ block n0 n1 2 2 []
+          ∷ [];
+      said =
+          ok
+          ∷ ok
+          ∷ output 1 (fin true 35681 (negsuc 147)) true (n0 ∷ n0 ∷ [])
+          ∷ ok
+          ∷ ok
+          ∷ output 1 (fin false 3568119 (negsuc 147)) true (n0 ∷ n0 ∷ [])
+          ∷ ok
+          ∷ ok
+          ∷ output 1 (fin false 1 (negsuc 125)) true ((fin false 1 (negsuc 125)) ∷ (fin false 1 (negsuc 125)) ∷ [])
+          ∷ [];
+    }
+    -- C44 a ramp held far before its start: factors below 2^-200 and above 2^128
+    -- make -3.4e38 0 3.4e38 a; step 2.5e30 9; exponential 8e37 10; block 0 1 10; hold 0; block 10 1 2; state; make -3.4e38 0 3.4e38 a; step 7e-37 9; exponential 7e-43 10; block 0 1 10; hold 0; block 10 1 2; state
+    ∷ record {
+      acts =
+          make (bounds (fin true 8381647 (pos 105)) n0 (fin false 8381647 (pos 105))) Rate.A
+          ∷ ask (step (fin false 4135903 (pos 79)) n9)
+          ∷ ask (exponential (fin false 7888609 (pos 103)) n10)
+          ∷ block n0 n1 10 10 []
+          ∷ ask (hold n0)
+          ∷ block n10 n1 2 2 []
+          ∷ look
+          ∷ make (bounds (fin true 8381647 (pos 105)) n0 (fin false 8381647 (pos 105))) Rate.A
+          ∷ ask (step (fin false 7805261 (negsuc 142)) n9)
+          ∷ ask (exponential (fin false 125 (negsuc 146)) n10)
+          ∷ block n0 n1 10 10 []
+          ∷ ask (hold n0)
+          ∷ block n10 n1 2 2 []
+          ∷ look
+          ∷ [];
+      said =
+          ok
+          ∷ ok
+          ∷ ok
+          ∷ output 2 n0 false (n0 ∷ n0 ∷ n0 ∷ n0 ∷ n0 ∷ n0 ∷ n0 ∷ n0 ∷ n0 ∷ (fin false 4135903 (pos 79)) ∷ [])
+          ∷ ok
+          ∷ output 2 (fin false 7888609 (pos 103)) false ((fin false 6338253 (negsuc 145)) ∷ (fin false 6338253 (negsuc 145)) ∷ [])
+          ∷ state (fin false 6338253 (negsuc 145)) (MaybeTime.At n10) (done n0 (fin false 6338253 (negsuc 145))) [] true
+          ∷ ok
+          ∷ ok
+          ∷ ok
+          ∷ output 2 n0 false (n0 ∷ n0 ∷ n0 ∷ n0 ∷ n0 ∷ n0 ∷ n0 ∷ n0 ∷ n0 ∷ (fin false 7805261 (negsuc 142)) ∷ [])
+          ∷ ok
+          ∷ output 2 (fin false 125 (negsuc 146)) false ((fin false 10101711 (pos 36)) ∷ (fin false 10101711 (pos 36)) ∷ [])
+          ∷ state (fin false 10101711 (pos 36)) (MaybeTime.At n10) (done n0 (fin false 10101711 (pos 36))) [] true
+          ∷ [];
+    }
+    -- C45 a curve at its very end: time − start = duration, and a position that rounds up to length − 1
+    -- make -10 0 10 a; curve 0 3.8 0 0 1e8 0.1; block 0 3.8 1; state; make -10 0 10 a; curve 0 3.4 1 2 3 4 5 6 -0; block 3.3999999999999995 4e-16 2 2 -0 -0; state
+    ∷ record {
+      acts =
+          make (bounds minus10 n0 n10) Rate.A
+          ∷ ask (curve n0 (fin false 4278419646001971 (negsuc 49)) (n0 ∷ n0 ∷ (fin false 390625 (pos 8)) ∷ (fin false 13421773 (negsuc 26)) ∷ []))
+          ∷ block n0 (fin false 4278419646001971 (negsuc 49)) 1 1 []
+          ∷ look
+          ∷ make (bounds minus10 n0 n10) Rate.A
+          ∷ ask (curve n0 (fin false 7656119366529843 (negsuc 50)) (n1 ∷ n2 ∷ n3 ∷ n4 ∷ n5 ∷ n6 ∷ minus0 ∷ []))
+          ∷ block (fin false 3828059683264921 (negsuc 49)) (fin false 2028240960365167 (negsuc 101)) 2 2 (minus0 ∷ minus0 ∷ [])
+          ∷ look
+          ∷ [];
+      said =
+          ok
+          ∷ ok
+          ∷ output 1 n0 false (n0 ∷ [])
+          ∷ state (fin false 13421773 (negsuc 26)) (MaybeTime.At n0) LastEvent.None (record { event = Event.Curve n0 (fin false 4278419646001971 (negsuc 49)) 4 MaybeTime.Missing; numbers = (n0 ∷ n0 ∷ (fin false 390625 (pos 8)) ∷ (fin false 13421773 (negsuc 26)) ∷ []) } ∷ []) true
+          ∷ ok
+          ∷ ok
+          ∷ output 2 n0 false (minus0 ∷ minus0 ∷ [])
+          ∷ state minus0 (MaybeTime.At (fin false 3828059683264921 (negsuc 49))) (done (fin false 7656119366529843 (negsuc 50)) minus0) [] true
+          ∷ [];
+    }
+    -- C46 64 events wait: 7, but 6 comes before it and 8 and 14 after it; cancel is answered
+    -- make -10 0 10 a; 65 times step 1 1; set 1; curve 1 1 5; curve 1 1 5000 times 1; cancel 1; state
+    ∷ record {
+      acts =
+          make (bounds minus10 n0 n10) Rate.A
+          ∷ (replicate 65 (ask (step n1 n1)) ++ (ask (set n1)
+          ∷ ask (curve n1 n1 (n5 ∷ []))
+          ∷ ask (curve n1 n1 (replicate 5000 n1))
+          ∷ ask (cancel n1)
+          ∷ look
+          ∷ []));
+      said =
+          (replicate 65 ok ++ (refused 7
+          ∷ refused 7
+          ∷ refused 6
+          ∷ refused 7
+          ∷ ok
+          ∷ state n0 MaybeTime.Missing LastEvent.None [] true
+          ∷ []));
+    }
+    -- C47 the store's ceiling; room is used again
+    -- make -10 0 10 a; curve 1 1 4000 times 1; curve 3 1 97 times 2; curve 3 1 96 times 2; curve 0 1 2 3; cancel 3; curve 0 1 2 3; block 0 1 1; state
+    ∷ record {
+      acts =
+          make (bounds minus10 n0 n10) Rate.A
+          ∷ ask (curve n1 n1 (replicate 4000 n1))
+          ∷ ask (curve n3 n1 (replicate 97 n2))
+          ∷ ask (curve n3 n1 (replicate 96 n2))
+          ∷ ask (curve n0 n1 (n2 ∷ n3 ∷ []))
+          ∷ ask (cancel n3)
+          ∷ ask (curve n0 n1 (n2 ∷ n3 ∷ []))
+          ∷ block n0 n1 1 1 []
+          ∷ look
+          ∷ [];
+      said =
+          ok
+          ∷ ok
+          ∷ refused 8
+          ∷ ok
+          ∷ refused 8
+          ∷ ok
+          ∷ ok
+          ∷ output 1 n0 false (n2 ∷ [])
+          ∷ state n3 (MaybeTime.At n0) LastEvent.None (record { event = Event.Curve n0 n1 2 MaybeTime.Missing; numbers = (n2 ∷ n3 ∷ []) } ∷ record { event = Event.Curve n1 n1 4000 MaybeTime.Missing; numbers = (replicate 4000 n1) } ∷ []) true
+          ∷ [];
+    }
+    -- C48 64 exponentials that turn: 129 steps
+    -- make -10 0 10 a; exponential 5 1; exponential -5 2; ..; exponential -5 64; block 0 1 64; block 64 1 2; state
+    ∷ record {
+      acts =
+          make (bounds minus10 n0 n10) Rate.A
+          ∷ ask (exponential n5 n1)
+          ∷ ask (exponential (fin true 5 (pos 0)) n2)
+          ∷ ask (exponential n5 n3)
+          ∷ ask (exponential (fin true 5 (pos 0)) n4)
+          ∷ ask (exponential n5 n5)
+          ∷ ask (exponential (fin true 5 (pos 0)) n6)
+          ∷ ask (exponential n5 n7)
+          ∷ ask (exponential (fin true 5 (pos 0)) n8)
+          ∷ ask (exponential n5 n9)
+          ∷ ask (exponential (fin true 5 (pos 0)) n10)
+          ∷ ask (exponential n5 (fin false 11 (pos 0)))
+          ∷ ask (exponential (fin true 5 (pos 0)) (fin false 3 (pos 2)))
+          ∷ ask (exponential n5 (fin false 13 (pos 0)))
+          ∷ ask (exponential (fin true 5 (pos 0)) (fin false 7 (pos 1)))
+          ∷ ask (exponential n5 (fin false 15 (pos 0)))
+          ∷ ask (exponential (fin true 5 (pos 0)) (fin false 1 (pos 4)))
+          ∷ ask (exponential n5 (fin false 17 (pos 0)))
+          ∷ ask (exponential (fin true 5 (pos 0)) (fin false 9 (pos 1)))
+          ∷ ask (exponential n5 (fin false 19 (pos 0)))
+          ∷ ask (exponential (fin true 5 (pos 0)) (fin false 5 (pos 2)))
+          ∷ ask (exponential n5 (fin false 21 (pos 0)))
+          ∷ ask (exponential (fin true 5 (pos 0)) (fin false 11 (pos 1)))
+          ∷ ask (exponential n5 (fin false 23 (pos 0)))
+          ∷ ask (exponential (fin true 5 (pos 0)) (fin false 3 (pos 3)))
+          ∷ ask (exponential n5 (fin false 25 (pos 0)))
+          ∷ ask (exponential (fin true 5 (pos 0)) (fin false 13 (pos 1)))
+          ∷ ask (exponential n5 (fin false 27 (pos 0)))
+          ∷ ask (exponential (fin true 5 (pos 0)) (fin false 7 (pos 2)))
+          ∷ ask (exponential n5 (fin false 29 (pos 0)))
+          ∷ ask (exponential (fin true 5 (pos 0)) (fin false 15 (pos 1)))
+          ∷ ask (exponential n5 (fin false 31 (pos 0)))
+          ∷ ask (exponential (fin true 5 (pos 0)) (fin false 1 (pos 5)))
+          ∷ ask (exponential n5 (fin false 33 (pos 0)))
+          ∷ ask (exponential (fin true 5 (pos 0)) (fin false 17 (pos 1)))
+          ∷ ask (exponential n5 (fin false 35 (pos 0)))
+          ∷ ask (exponential (fin true 5 (pos 0)) (fin false 9 (pos 2)))
+          ∷ ask (exponential n5 (fin false 37 (pos 0)))
+          ∷ ask (exponential (fin true 5 (pos 0)) (fin false 19 (pos 1)))
+          ∷ ask (exponential n5 (fin false 39 (pos 0)))
+          ∷ ask (exponential (fin true 5 (pos 0)) (fin false 5 (pos 3)))
+          ∷ ask (exponential n5 (fin false 41 (pos 0)))
+          ∷ ask (exponential (fin true 5 (pos 0)) (fin false 21 (pos 1)))
+          ∷ ask (exponential n5 (fin false 43 (pos 0)))
+          ∷ ask (exponential (fin true 5 (pos 0)) (fin false 11 (pos 2)))
+          ∷ ask (exponential n5 (fin false 45 (pos 0)))
+          ∷ ask (exponential (fin true 5 (pos 0)) (fin false 23 (pos 1)))
+          ∷ ask (exponential n5 (fin false 47 (pos 0)))
+          ∷ ask (exponential (fin true 5 (pos 0)) (fin false 3 (pos 4)))
+          ∷ ask (exponential n5 (fin false 49 (pos 0)))
+          ∷ ask (exponential (fin true 5 (pos 0)) (fin false 25 (pos 1)))
+          ∷ ask (exponential n5 (fin false 51 (pos 0)))
+          ∷ ask (exponential (fin true 5 (pos 0)) (fin false 13 (pos 2)))
+          ∷ ask (exponential n5 (fin false 53 (pos 0)))
+          ∷ ask (exponential (fin true 5 (pos 0)) (fin false 27 (pos 1)))
+          ∷ ask (exponential n5 (fin false 55 (pos 0)))
+          ∷ ask (exponential (fin true 5 (pos 0)) (fin false 7 (pos 3)))
+          ∷ ask (exponential n5 (fin false 57 (pos 0)))
+          ∷ ask (exponential (fin true 5 (pos 0)) (fin false 29 (pos 1)))
+          ∷ ask (exponential n5 (fin false 59 (pos 0)))
+          ∷ ask (exponential (fin true 5 (pos 0)) (fin false 15 (pos 2)))
+          ∷ ask (exponential n5 (fin false 61 (pos 0)))
+          ∷ ask (exponential (fin true 5 (pos 0)) (fin false 31 (pos 1)))
+          ∷ ask (exponential n5 (fin false 63 (pos 0)))
+          ∷ ask (exponential (fin true 5 (pos 0)) (fin false 1 (pos 6)))
+          ∷ block n0 n1 64 64 []
+          ∷ block (fin false 1 (pos 6)) n1 2 2 []
+          ∷ look
+          ∷ [];
+      said =
+          (replicate 65 ok ++ (output 129 n0 false (n0 ∷ n5 ∷ (fin true 5 (pos 0)) ∷ n5 ∷ (fin true 5 (pos 0)) ∷ n5 ∷ (fin true 5 (pos 0)) ∷ n5 ∷ (fin true 5 (pos 0)) ∷ n5 ∷ (fin true 5 (pos 0)) ∷ n5 ∷ (fin true 5 (pos 0)) ∷ n5 ∷ (fin true 5 (pos 0)) ∷ n5 ∷ (fin true 5 (pos 0)) ∷ n5 ∷ (fin true 5 (pos 0)) ∷ n5 ∷ (fin true 5 (pos 0)) ∷ n5 ∷ (fin true 5 (pos 0)) ∷ n5 ∷ (fin true 5 (pos 0)) ∷ n5 ∷ (fin true 5 (pos 0)) ∷ n5 ∷ (fin true 5 (pos 0)) ∷ n5 ∷ (fin true 5 (pos 0)) ∷ n5 ∷ (fin true 5 (pos 0)) ∷ n5 ∷ (fin true 5 (pos 0)) ∷ n5 ∷ (fin true 5 (pos 0)) ∷ n5 ∷ (fin true 5 (pos 0)) ∷ n5 ∷ (fin true 5 (pos 0)) ∷ n5 ∷ (fin true 5 (pos 0)) ∷ n5 ∷ (fin true 5 (pos 0)) ∷ n5 ∷ (fin true 5 (pos 0)) ∷ n5 ∷ (fin true 5 (pos 0)) ∷ n5 ∷ (fin true 5 (pos 0)) ∷ n5 ∷ (fin true 5 (pos 0)) ∷ n5 ∷ (fin true 5 (pos 0)) ∷ n5 ∷ (fin true 5 (pos 0)) ∷ n5 ∷ (fin true 5 (pos 0)) ∷ n5 ∷ (fin true 5 (pos 0)) ∷ n5 ∷ (fin true 5 (pos 0)) ∷ n5 ∷ [])
+          ∷ output 1 (fin true 5 (pos 0)) true ((fin true 5 (pos 0)) ∷ (fin true 5 (pos 0)) ∷ [])
+          ∷ state (fin true 5 (pos 0)) (MaybeTime.At (fin false 1 (pos 6))) (done (fin false 1 (pos 6)) (fin true 5 (pos 0))) [] true
+          ∷ []));
+    }
+    -- C49 refusal 1 returns an empty A-rate parameter with all numbers 0
+    -- make -1 1 2 k; step 1 1; make 2 1 3 k; state; block 0 1 2 2 5 5
+    ∷ record {
+      acts =
+          make (bounds minus1 n1 n2) Rate.K
+          ∷ ask (step n1 n1)
+          ∷ make (bounds n2 n1 n3) Rate.K
+          ∷ look
+          ∷ block n0 n1 2 2 (n5 ∷ n5 ∷ [])
+          ∷ [];
+      said =
+          ok
+          ∷ ok
+          ∷ refused 1
+          ∷ state n0 MaybeTime.Missing LastEvent.None [] true
+          ∷ output 1 n0 false (n0 ∷ n0 ∷ [])
           ∷ [];
     }
     ∷ []

@@ -98,11 +98,13 @@ pub data Act : Type 0 where
   lend : ℕ → Act
   look glance intrinsic : Act
 
+-- `output` and `turned` are a block's, answered and refused: steps, current value, one-valued, the whole output, `turned` with its number first;
 -- `state` has the intrinsic value, the last block's time, the last event, the waiting events with their numbers, and whether zeros stand behind these
 pub data Said : Type 0 where
   ok : Said
   refused : ℕ → Said
   output : ℕ → Float → Bool → List Float → Said
+  turned : ℕ → ℕ → Float → Bool → List Float → Said
   heard : List Float → ℕ → Said
   state : Float → MaybeTime → LastEvent → List Waiting → Bool → Said
   value : Float → Said
@@ -129,13 +131,17 @@ abbrev pub callOf : Float → Float → ℕ → ℕ → List Float → Call
 callOf t p count out input =
     record { time = t; period = p; count = count; input = input; output = replicate out mark }
 
+unfoldable pub outputAs : Verdict → Answer → Said
+outputAs Verdict.Answered a = output (a .steps) (a .current) (a .oneValued) (a .output)
+outputAs (Verdict.Refused r) a = turned (numberOf r) (a .steps) (a .current) (a .oneValued) (a .output)
+
 unfoldable pub outputSaid : Answer → Said
-outputSaid a = verdictSaid (a .verdict) (output (a .steps) (a .current) (a .oneValued) (a .output))
+outputSaid a = outputAs (a .verdict) a
 
 unfoldable pub stateSaid : Param → List Float → Said
 stateSaid p store = state (p .intrinsic) (p .lastBlock) (p .last) (attached (p .queue) store) (allZeros (drop (lengthsOf (p .queue)) store))
 
--- each call on the parameter and the store that the one before left
+-- each call on the parameter and the store that the one before left; `lend` cuts the store or lengthens it by zeros, so it stands only where no curve waits
 unfoldable pub performed : List Act → Param → List Float → List Said
 performed [] p store = []
 performed (make b r ∷ acts) p store =
@@ -154,7 +160,7 @@ performed (intrinsic ∷ acts) p store = value (p .intrinsic) ∷ performed acts
 
 -- what the rules say to each case; the names unfolded are all of specs/
 unfoldable pub results : List Case → List (List Said)
-unfolding verdictSaid allZeros outputSaid stateSaid performed
+unfolding verdictSaid allZeros outputAs outputSaid stateSaid performed
     Ieee.ofInt Ieee.neg Ieee.add Ieee.sub Ieee.mul Ieee.div Ieee.lt Ieee.le Ieee.eq Ieee.isNan Ieee.size Ieee.toUnsigned
     Numbers.isFinite Numbers.isZero Numbers.isPositive Numbers.isNegative Numbers.magnitude Numbers.isSubnormal Numbers.takenTime Numbers.laterOf Numbers.wide Numbers.wholePart Numbers.product Numbers.fused Numbers.narrowed Numbers.limit Numbers.placeFrom Numbers.periodsTo Numbers.endPlace Numbers.timeAt Numbers.run Numbers.filledAt Numbers.filled
     Kernels.rootFrom Kernels.root Kernels.tableFrom Kernels.table Kernels.fallingFrom Kernels.falling Kernels.logFrom Kernels.log

@@ -22,7 +22,7 @@ mostEvents = 64
 abbrev pub storeLength : ℕ
 storeLength = 4096
 
--- "block count 1 to 128": the ceiling. What is said over count takes it as a parameter, and only the block's refusals name it.
+-- "block count 1 to 128": the ceiling. What is said over count takes it as a parameter; `Block.verdictOf` alone names it.
 abbrev pub mostCount : ℕ
 mostCount = 128
 
@@ -63,7 +63,7 @@ isSubnormal (fin s m e) = not (eqb m 0) && Ieee.lt (fin false m e) (fin false 1 
 unfoldable pub takenTime : Float → Float
 takenTime t = cond (isZero t) plusZero t
 
--- the later of two times
+-- the later of two times, and the larger of two numbers: max(x, 0) is laterOf 0 x, which is 0 where x is NaN
 unfoldable pub laterOf : Float → Float → Float
 laterOf s t = cond (Ieee.lt s t) t s
 

@@ -113,7 +113,7 @@ unfoldable pub fitsCount : List Float → ℕ → Bool
 fitsCount [] count = true
 fitsCount (x ∷ xs) count = eqb (length (x ∷ xs)) count
 
--- 9 applies to what is none of this; "output shorter than count" too
+-- 9 applies where this is false; "output shorter than count" is among it
 unfoldable pub isBlock : ℕ → Float → Float → ℕ → List Float → List Float → Bool
 isBlock most t period count input output = isTime t && (isPeriod period && (isCount most count && (leb count (length output) && fitsCount input count)))
 

@@ -31,7 +31,7 @@ ratioOf from value = Ieee.div binary32 value (from .value)
 unfoldable pub isRatio : Float → Bool
 isRatio r = isFinite r && isPositive r
 
--- "ratio = m × 2^(e−31), L = e × N + a", m of 32 binary digits and a its log. A ratio is finite and above 0; of any other L is 0.
+-- "ratio = m × 2^(e−31), L = e × N + a", m of 32 binary digits and a its log. A ratio is finite and above 0; of another float L means nothing.
 unfoldable pub ratioLog : Float → ℤ
 ratioLog nan = pos 0
 ratioLog (inf s) = pos 0
@@ -60,7 +60,7 @@ factorOf nan = nan
 factorOf (inf s) = cond s plusZero (inf false)
 factorOf (fin s m e) = power (floorOf s (m * Ieee.up e) (Ieee.down e))
 
--- "Sample: start × factor in f64, narrowed", L's ratio given
+-- "Sample: start × factor in f64, narrowed", for a given L and phase
 unfoldable pub exponentialBy : ℤ → Float → Float → Float
 exponentialBy l from phase = narrowed (Ieee.mul binary64 from (factorOf (Ieee.mul binary64 (Ieee.ofInt binary64 l) phase)))
 

@@ -189,7 +189,7 @@ targetRun f w x target sample (MaybeTime.At end) = on (consumed end (sample end)
 unfoldable pub fromStart : Float → Float → (Float → Float) → Float → Float
 fromStart start v sample t = cond (Ieee.lt t start) v (sample t)
 
--- "It uses the last event's value, made as for a ramp where none exists. If its start is after the next block time, fill and stop."
+-- "It uses the last event's value, made as for a ramp where none exists. If its start is after the next block time, fill and stop": it stops, and `ended` fills.
 unfoldable pub targetTurn : BlockInfos → Walk → Waiting → Float → Float → Float → MaybeTime → Head → Turn
 targetTurn f w x v t c h n =
     let from = startOf f w in
@@ -200,7 +200,7 @@ targetTurn f w x v t c h n =
 
 -- ---- curve
 
--- "Not yet started: as for the target" (it makes no last event: readings, 12). "End is the hold time, else start + duration; fill and stop as for a ramp;
+-- "Not yet started: as for the target": it stops, and `ended` fills (it makes no last event: readings, 12). "End is the hold time, else start + duration; fill and stop as for a ramp;
 -- a finished curve's value is its last number."
 unfoldable pub curveTurn : BlockInfos → Walk → Waiting → Float → Float → MaybeTime → Turn
 curveTurn f w x s d h =

@@ -67,7 +67,7 @@ pub enum LastEvent {
     Done(Finished),
 }
 
-// What a body may know of its block: its time, the sample period, the next block's time.
+// What a body may know of its block: its time, the sample period, the next block's time, the count of samples, the rate.
 pub struct BlockInfos {
     pub time: f64,
     pub dt: f64,

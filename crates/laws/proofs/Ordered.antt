@@ -1,0 +1,298 @@
+-- A queue in order: inserting behind is inserting before the first later one; what cancel and hold keep is a prefix. Assumes nothing.
+use mathlib.Core.Path.{_≡_, refl, sym, ap, _∙_}
+use mathlib.Core.Bool.{Bool, true, false, cond, not, _||_}
+use mathlib.Core.List.{List, [], _∷_, _++_}
+use Prim.Native.Nat.{ℕ, zero, suc, _≤_, _<_}
+use lib.ListN.{length, take, drop, getD, drop-of-length-le}
+use lib.Seq.{drop-cons, take-suc}
+use borrow.Author.Tests.{not-true}
+use lib.Ieee as Ieee
+use lib.Ieee.{Float}
+use Rattle.rules.specs.declared.Event.{Event}
+use Rattle.rules.specs.Queue.{Waiting, alone, filedUnder, eventsOf, hasNotLater, placeBehind, putAt, arrived, those, isBefore, cancelled, heldEvent, heldAt, isRamp, runsAt, heldIfRunning, lastHeld, isLater, isNotLater, heldBy, held}
+use Rattle.laws.specs.Sound.{isNumber, isClear, areClear, goesBefore, inOrder}
+use Rattle.laws.specs.Search.{placeOf, isLaterThan, isNotBefore, firstLater, firstNotBefore}
+use Rattle.laws.proofs.Tests.{clash, both, and}
+use Rattle.laws.proofs.Order.{le-le, lt-le, not-lt, lt-not-le, le-lt, lt-le-lt}
+use Rattle.laws.proofs.Events.{events-one, events-take, events-append, events-get, place-events}
+
+-- ---- in order, and from a time on
+
+abbrev pub AllFrom : Float → List Event → Type 0
+AllFrom t [] = Unit {0}
+AllFrom t (e ∷ es) = (Ieee.le t (filedUnder e) ≡ true) × AllFrom t es
+
+pub all-from : (t : Float) (q : List Event) → goesBefore t q ≡ true → inOrder q ≡ true → AllFrom t q
+unfolding goesBefore inOrder
+all-from t [] h o = tt
+all-from t (e ∷ q) h o = let a = both (goesBefore (filedUnder e) q) (inOrder q) o in (h, earlier t (filedUnder e) q h (all-from (filedUnder e) q (a .0) (a .1)))
+  where
+    earlier : (s t : Float) (q : List Event) → Ieee.le s t ≡ true → AllFrom t q → AllFrom s q
+    earlier s t [] h f = tt
+    earlier s t (e ∷ q) h f = (le-le s t (filedUnder e) h (f .0), earlier s t q h (f .1))
+
+-- what a queue's first event is at or before, and the others in order
+pub order-parts : (e : Event) (q : List Event) → inOrder (e ∷ q) ≡ true → (goesBefore (filedUnder e) q ≡ true) × (inOrder q ≡ true)
+unfolding inOrder
+order-parts e q o = both (goesBefore (filedUnder e) q) (inOrder q) o
+
+pub order-drop : (n : ℕ) (q : List Event) → inOrder q ≡ true → inOrder (drop n q) ≡ true
+order-drop zero q o = o
+order-drop (suc n) [] o = o
+order-drop (suc n) (e ∷ q) o = order-drop n q (order-parts e q o .1)
+
+pub before-take : (t : Float) (n : ℕ) (q : List Event) → goesBefore t q ≡ true → goesBefore t (take n q) ≡ true
+unfolding goesBefore
+before-take t zero q h = refl
+before-take t (suc n) [] h = refl
+before-take t (suc n) (e ∷ q) h = h
+
+pub order-take : (n : ℕ) (q : List Event) → inOrder q ≡ true → inOrder (take n q) ≡ true
+unfolding inOrder
+order-take zero q o = refl
+order-take (suc n) [] o = refl
+order-take (suc n) (e ∷ q) o =
+    let a = order-parts e q o in and (before-take (filedUnder e) n q (a .0)) (order-take n q (a .1))
+
+-- ---- arrival
+
+-- no event of these is at or before t, where all are at or after a later time
+none-earlier : (t s : Float) (q : List Event) → Ieee.lt t s ≡ true → AllFrom s q → hasNotLater t q ≡ false
+unfolding hasNotLater
+none-earlier t s [] h f = refl
+none-earlier t s (e ∷ q) h f =
+    rw (lt-not-le t (filedUnder e) (lt-le-lt t s (filedUnder e) h (f .0)), none-earlier t s q h (f .1))
+
+-- behind the last event of equal or smaller time is before the first later one
+pub behind-is-first-later : (t : Float) (q : List Event) → isNumber t ≡ true → areClear q ≡ true → inOrder q ≡ true → placeBehind t q ≡ firstLater t q
+unfolding placeBehind firstLater placeOf isLaterThan areClear isClear hasNotLater
+behind-is-first-later t [] n c o = refl
+behind-is-first-later t (e ∷ q) n c o =
+    let a = both (isClear e) (areClear q) c in
+    let r = order-parts e q o in
+    go
+    (Ieee.lt t (filedUnder e))
+    refl
+    (both (isNumber (filedUnder e)) _ (a .0) .0)
+    (all-from (filedUnder e) q (r .0) (r .1))
+    (behind-is-first-later t q n (a .1) (r .1))
+  where
+    go : (b : Bool) → Ieee.lt t (filedUnder e) ≡ b → isNumber (filedUnder e) ≡ true → AllFrom (filedUnder e) q → placeBehind t q ≡ placeOf (isLaterThan t) q
+        → cond (Ieee.le (filedUnder e) t || hasNotLater t q) (suc (placeBehind t q)) 0 ≡ cond b 0 (suc (placeOf (isLaterThan t) q))
+    go true h m f k = rw (lt-not-le t (filedUnder e) h, none-earlier t (filedUnder e) q h f)
+    go false h m f k = rw (not-lt t (filedUnder e) n m h, k)
+
+-- so an arrival keeps the order
+arrives : (b : Bool) (k : ℕ) (e d : Event) (q : List Event) → putAt (cond b 0 (suc k)) e (d ∷ q) ≡ cond b (e ∷ d ∷ q) (d ∷ putAt k e q)
+unfolding putAt
+arrives true k e d q = refl
+arrives false k e d q = refl
+
+before-put : (t : Float) (k : ℕ) (e : Event) (q : List Event) → Ieee.le t (filedUnder e) ≡ true → goesBefore t q ≡ true → goesBefore t (putAt k e q) ≡ true
+unfolding putAt goesBefore
+before-put t zero e q h g = h
+before-put t (suc k) e [] h g = h
+before-put t (suc k) e (d ∷ q) h g = g
+
+put-order : (e : Event) (q : List Event) → isNumber (filedUnder e) ≡ true → areClear q ≡ true → inOrder q ≡ true → inOrder (putAt (firstLater (filedUnder e) q) e q) ≡ true
+unfolding firstLater placeOf isLaterThan areClear isClear inOrder goesBefore
+put-order e [] n c o = unfold putAt in refl
+put-order e (d ∷ q) n c o =
+    let a = both (isClear d) (areClear q) c in
+    let r = order-parts d q o in
+    let m : isNumber (filedUnder d) ≡ true = both (isNumber (filedUnder d)) _ (a .0) .0 in
+    rw (arrives (Ieee.lt (filedUnder e) (filedUnder d)) (placeOf (isLaterThan (filedUnder e)) q) e d q)
+    (go (Ieee.lt (filedUnder e) (filedUnder d)) refl m r (put-order e q n (a .1) (r .1)))
+  where
+    k : ℕ
+    k = placeOf (isLaterThan (filedUnder e)) q
+
+    go : (b : Bool) → Ieee.lt (filedUnder e) (filedUnder d) ≡ b → isNumber (filedUnder d) ≡ true
+        → (goesBefore (filedUnder d) q ≡ true) × (inOrder q ≡ true) → inOrder (putAt k e q) ≡ true
+        → inOrder (cond b (e ∷ d ∷ q) (d ∷ putAt k e q)) ≡ true
+    go true h m r i = and (lt-le (filedUnder e) (filedUnder d) h) (and (r .0) (r .1))
+    go false h m r i = and (before-put (filedUnder d) k e q (not-lt (filedUnder e) (filedUnder d) n m h) (r .0)) i
+
+pub arrived-order : (e : Event) (q : List Event) → isNumber (filedUnder e) ≡ true → areClear q ≡ true → inOrder q ≡ true → inOrder (arrived e q) ≡ true
+unfolding arrived
+arrived-order e q n c o = rw (behind-is-first-later (filedUnder e) q n c o) (put-order e q n c o)
+
+-- ---- the place behind, looked for from the back: the last event decides, or is as if not there
+
+module _ (t : Float) (e : Event) where
+  has-last : (q : List Event) → Ieee.le (filedUnder e) t ≡ true → hasNotLater t (q ++ (e ∷ [])) ≡ true
+  unfolding hasNotLater
+  has-last [] h = rw h
+  has-last (d ∷ q) h = rw (has-last q h) (go (Ieee.le (filedUnder d) t))
+    where
+      go : (b : Bool) → (b || true) ≡ true
+      go true = refl
+      go false = refl
+
+  pub behind-last : (q : List Event) → Ieee.le (filedUnder e) t ≡ true → placeBehind t (q ++ (e ∷ [])) ≡ suc (length q)
+  unfolding placeBehind
+  behind-last [] h = rw (has-last [] h)
+  behind-last (d ∷ q) h = rw (has-last (d ∷ q) h, behind-last q h)
+
+  has-others : (q : List Event) → Ieee.le (filedUnder e) t ≡ false → hasNotLater t (q ++ (e ∷ [])) ≡ hasNotLater t q
+  unfolding hasNotLater
+  has-others [] h = rw h
+  has-others (d ∷ q) h = rw (has-others q h)
+
+  pub behind-others : (q : List Event) → Ieee.le (filedUnder e) t ≡ false → placeBehind t (q ++ (e ∷ [])) ≡ placeBehind t q
+  unfolding placeBehind
+  behind-others [] h = unfold hasNotLater in rw h
+  behind-others (d ∷ q) h = rw (has-others (d ∷ q) h, behind-others q h)
+
+-- ---- what a test cuts in two
+
+abbrev pub AllPass : {A : Type 0} → (A → Bool) → List A → Type 0
+AllPass test [] = Unit {0}
+AllPass test (x ∷ xs) = (test x ≡ true) × AllPass test xs
+
+-- behind one that passes all pass
+abbrev pub Cut : {A : Type 0} → (A → Bool) → List A → Type 0
+Cut test [] = Unit {0}
+Cut test (x ∷ xs) = (test x ≡ true → AllPass test xs) × Cut test xs
+
+pub those-pass : {A : Type 0} (test : A → Bool) (xs : List A) → AllPass test (those test xs)
+unfolding those
+those-pass test [] = tt
+those-pass test (x ∷ xs) = go (test x) refl (those-pass test xs)
+  where
+    go : (b : Bool) → test x ≡ b → AllPass test (those test xs) → AllPass test (cond b (x ∷ those test xs) (those test xs))
+    go true e h = (e, h)
+    go false e h = h
+
+those-all : {A : Type 0} (test : A → Bool) (xs : List A) → AllPass test xs → those test xs ≡ xs
+unfolding those
+those-all test [] h = refl
+those-all test (x ∷ xs) h = rw (h .0, those-all test xs (h .1))
+
+pub cut-rest : {A : Type 0} (test : A → Bool) (xs : List A) → Cut test xs → those test xs ≡ drop (placeOf test xs) xs
+unfolding those placeOf
+cut-rest test [] h = refl
+cut-rest test (x ∷ xs) h = go (test x) refl (cut-rest test xs (h .1))
+  where
+    go : (b : Bool) → test x ≡ b → those test xs ≡ drop (placeOf test xs) xs → cond b (x ∷ those test xs) (those test xs) ≡ drop (cond b 0 (suc (placeOf test xs))) (x ∷ xs)
+    go true e k = ap (λ l. x ∷ l) (those-all test xs (h .0 e))
+    go false e k = k
+
+module _ {A : Type 0} (keep test : A → Bool) (opposite : (x : A) → keep x ≡ not (test x)) where
+  those-none : (xs : List A) → AllPass test xs → those keep xs ≡ []
+  unfolding those
+  those-none [] h = refl
+  those-none (x ∷ xs) h = rw (opposite x, h .0, those-none xs (h .1))
+
+  pub cut-prefix : (xs : List A) → Cut test xs → those keep xs ≡ take (placeOf test xs) xs
+  unfolding those placeOf
+  cut-prefix [] h = refl
+  cut-prefix (x ∷ xs) h = rw (opposite x) (go (test x) refl (cut-prefix xs (h .1)))
+    where
+      go : (b : Bool) → test x ≡ b → those keep xs ≡ take (placeOf test xs) xs → cond (not b) (x ∷ those keep xs) (those keep xs) ≡ take (cond b 0 (suc (placeOf test xs))) (x ∷ xs)
+      go true e k = those-none xs (h .0 e)
+      go false e k = ap (λ l. x ∷ l) k
+
+-- a test that a later event passes where an earlier does
+module _ (test : Waiting → Bool)
+    (up : (w v : Waiting) → Ieee.le (filedUnder (w .event)) (filedUnder (v .event)) ≡ true → test w ≡ true → test v ≡ true) where
+  all-up : (w : Waiting) (ws : List Waiting) → AllFrom (filedUnder (w .event)) (eventsOf ws) → test w ≡ true → AllPass test ws
+  unfolding eventsOf
+  all-up w [] f h = tt
+  all-up w (v ∷ ws) f h = (up w v (f .0) h, all-up w ws (f .1) h)
+
+  order-cut : (ws : List Waiting) → inOrder (eventsOf ws) ≡ true → Cut test ws
+  unfolding eventsOf
+  order-cut [] o = tt
+  order-cut (w ∷ ws) o =
+      let r = order-parts (w .event) (eventsOf ws) o in
+      (λ h. all-up w ws (all-from (filedUnder (w .event)) (eventsOf ws) (r .0) (r .1)) h, order-cut ws (r .1))
+
+-- ---- cancel, and hold
+
+module _ (c : Float) where
+  not-before : (w v : Waiting) → Ieee.le (filedUnder (w .event)) (filedUnder (v .event)) ≡ true → isNotBefore c (w .event) ≡ true → isNotBefore c (v .event) ≡ true
+  unfolding isNotBefore
+  not-before w v l h = go (Ieee.lt (filedUnder (v .event)) c) refl
+    where
+      go : (b : Bool) → Ieee.lt (filedUnder (v .event)) c ≡ b → not b ≡ true
+      go true e = clash (le-lt (filedUnder (w .event)) (filedUnder (v .event)) c l e) (not-true (Ieee.lt (filedUnder (w .event)) c) h)
+      go false e = refl
+
+  opposite : (w : Waiting) → isBefore c w ≡ not (isNotBefore c (w .event))
+  unfolding isBefore isNotBefore
+  opposite w = go (Ieee.lt (filedUnder (w .event)) c)
+    where
+      go : (b : Bool) → b ≡ not (not b)
+      go true = refl
+      go false = refl
+
+module _ (c : Float) (ws : List Waiting) (o : inOrder (eventsOf ws) ≡ true) where
+  later-cut : Cut (isLater c) ws
+  unfolding isLater
+  later-cut = order-cut (isLater c) (λ w v l h. lt-le-lt c (filedUnder (w .event)) (filedUnder (v .event)) h l) ws o
+
+  -- the events later than c are the last ones
+  pub late-is : those (isLater c) ws ≡ drop (firstLater c (eventsOf ws)) ws
+  unfolding firstLater isLater isLaterThan
+  late-is = cut-rest (isLater c) ws later-cut ∙ ap (λ (k : ℕ). drop k ws) (place-events (isLaterThan c) ws)
+
+  pub early-is : those (isNotLater c) ws ≡ take (firstLater c (eventsOf ws)) ws
+  unfolding firstLater isLater isLaterThan isNotLater
+  early-is = cut-prefix (isNotLater c) (isLater c) (λ w. refl) ws later-cut ∙ ap (λ (k : ℕ). take k ws) (place-events (isLaterThan c) ws)
+
+  -- those before c are the first ones
+  pub cancelled-is : cancelled c ws ≡ take (firstNotBefore c (eventsOf ws)) ws
+  unfolding cancelled firstNotBefore
+  cancelled-is =
+      cut-prefix (isBefore c) (λ w. isNotBefore c (w .event)) (opposite c) ws (order-cut (λ w. isNotBefore c (w .event)) (not-before c) ws o)
+      ∙ ap (λ (k : ℕ). take k ws) (place-events (isNotBefore c) ws)
+
+  pub held-is : held c ws ≡ heldBy c (take (firstLater c (eventsOf ws)) ws) (drop (firstLater c (eventsOf ws)) ws)
+  unfolding held
+  held-is = rw (early-is, late-is)
+
+  -- the first later event is a ramp, and stays
+  pub held-ramp : (d : Waiting) → firstLater c (eventsOf ws) < length ws → isRamp (getD ws (firstLater c (eventsOf ws)) d .event) ≡ true
+      → held c ws ≡ take (firstLater c (eventsOf ws)) ws ++ (heldAt c (getD ws (firstLater c (eventsOf ws)) d) ∷ [])
+  unfolding heldBy
+  held-ramp d l r = rw (held-is, drop-cons ws (firstLater c (eventsOf ws)) d l, r)
+
+  -- it is none, or there is none
+  pub held-other : (d : Waiting) → firstLater c (eventsOf ws) < length ws → isRamp (getD ws (firstLater c (eventsOf ws)) d .event) ≡ false
+      → held c ws ≡ lastHeld c (take (firstLater c (eventsOf ws)) ws)
+  unfolding heldBy
+  held-other d l r = rw (held-is, drop-cons ws (firstLater c (eventsOf ws)) d l, r)
+
+  pub held-all : length ws ≤ firstLater c (eventsOf ws) → held c ws ≡ lastHeld c (take (firstLater c (eventsOf ws)) ws)
+  unfolding heldBy
+  held-all l = rw (held-is, drop-of-length-le ws l)
+
+  -- the events alone
+  pub events-held-ramp : (d : Event) → firstLater c (eventsOf ws) < length ws → isRamp (getD (eventsOf ws) (firstLater c (eventsOf ws)) d) ≡ true
+      → eventsOf (held c ws) ≡ take (firstLater c (eventsOf ws)) (eventsOf ws) ++ (heldEvent c (getD (eventsOf ws) (firstLater c (eventsOf ws)) d) ∷ [])
+  unfolding heldAt
+  events-held-ramp d l r =
+      let k : ℕ = firstLater c (eventsOf ws) in
+      let e : getD (eventsOf ws) k d ≡ getD ws k (alone d) .event = events-get ws k (alone d) in
+      rw (held-ramp (alone d) l (sym (ap isRamp e) ∙ r), events-append (take k ws) (heldAt c (getD ws k (alone d)) ∷ []), events-one, events-take, e)
+
+-- only the last one of these can be held
+pub last-held-is : (c : Float) (xs : List Waiting) (x : Waiting) → lastHeld c (xs ++ (x ∷ [])) ≡ xs ++ (heldIfRunning c x ∷ [])
+unfolding lastHeld
+last-held-is c [] x = refl
+last-held-is c (y ∷ []) x = refl
+last-held-is c (y ∷ z ∷ xs) x = ap (λ (l : List Waiting). y ∷ l) (last-held-is c (z ∷ xs) x)
+
+pub events-last-held : (c : Float) (ws : List Waiting) (n : ℕ) (d : Event) → n < length ws
+    → eventsOf (lastHeld c (take (suc n) ws))
+    ≡ take n (eventsOf ws) ++ (cond (runsAt c (getD (eventsOf ws) n d)) (heldEvent c (getD (eventsOf ws) n d)) (getD (eventsOf ws) n d) ∷ [])
+unfolding heldIfRunning
+events-last-held c ws n d l =
+    let x : Waiting = getD ws n (alone d) in
+    rw (take-suc ws n (alone d) l, last-held-is c (take n ws) x, events-append (take n ws) (heldIfRunning c x ∷ []), events-one, events-take, events-get ws n (alone d))
+    (ap (λ (e : Event). take n (eventsOf ws) ++ (e ∷ [])) (go (runsAt c (x .event)) x))
+  where
+    go : (b : Bool) (x : Waiting) → cond b (heldAt c x) x .event ≡ cond b (heldEvent c (x .event)) (x .event)
+    go true x = unfold heldAt in refl
+    go false x = refl

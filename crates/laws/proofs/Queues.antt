@@ -1,0 +1,237 @@
+-- The queue's invariant is kept by an arrival, a cancel and a hold. Assumes nothing.
+use mathlib.Core.Path.{_≡_, refl, sym, ap, _∙_}
+use mathlib.Core.Bool.{Bool, true, false, cond}
+use mathlib.Core.List.{List, [], _∷_, _++_}
+use Prim.Native.Nat.{ℕ, zero, suc, _+_, _≤_, _<_}
+use native.Mathlib.Omega.{arith}
+use lib.ListN.{length, take, drop, length-take, length-drop, take-append-drop}
+use lib.Seq.{take-append-seam, append-snoc}
+use lib.Ieee as Ieee
+use lib.Ieee.{Float, binary64}
+use Rattle.rules.specs.declared.MaybeTime.{MaybeTime}
+use Rattle.rules.specs.declared.MaybeTime.the-variants as MaybeTime
+use Rattle.rules.specs.declared.Event.{Event}
+use Rattle.rules.specs.declared.Event.the-variants as Event
+use Rattle.rules.specs.Numbers.{mostEvents, storeLength}
+use Rattle.rules.specs.Queue.{Waiting, filedUnder, isRamp, lengthOf, lengthsOf, eventsOf, putAt, placeBehind, arrived, those, cancelled, sooner, heldEvent, heldAt, runsAt, heldIfRunning, lastHeld, isLater, isNotLater, heldBy, held}
+use Rattle.laws.specs.Sound.{isNumber, isNumberIfAny, isHeldBy, endsClear, isClear, areClear, goesBefore, inOrder, SoundQueue}
+use Rattle.laws.specs.Search.{firstLater, firstNotBefore}
+use Rattle.laws.proofs.Tests.{never, both, and}
+use Rattle.laws.proofs.Order.{lt-le}
+use Rattle.laws.proofs.Events.{events-take, lengths-split, put-length, put-lengths, held-filed, held-size}
+use Rattle.laws.proofs.Ordered.{order-take, order-drop, arrived-order, AllPass, those-pass, cancelled-is, early-is, late-is}
+
+-- ---- clear events
+
+pub clear-append : (p q : List Event) → areClear p ≡ true → areClear q ≡ true → areClear (p ++ q) ≡ true
+unfolding areClear
+clear-append [] q h k = k
+clear-append (e ∷ p) q h k = let a = both (isClear e) (areClear p) h in and (a .0) (clear-append p q (a .1) k)
+
+pub clear-take : (n : ℕ) (q : List Event) → areClear q ≡ true → areClear (take n q) ≡ true
+unfolding areClear
+clear-take zero q h = refl
+clear-take (suc n) [] h = refl
+clear-take (suc n) (e ∷ q) h = let a = both (isClear e) (areClear q) h in and (a .0) (clear-take n q (a .1))
+
+pub clear-drop : (n : ℕ) (q : List Event) → areClear q ≡ true → areClear (drop n q) ≡ true
+unfolding areClear
+clear-drop zero q h = h
+clear-drop (suc n) [] h = h
+clear-drop (suc n) (e ∷ q) h = clear-drop n q (both (isClear e) (areClear q) h .1)
+
+pub clear-number : (e : Event) → isClear e ≡ true → isNumber (filedUnder e) ≡ true
+unfolding isClear
+clear-number e h = both (isNumber (filedUnder e)) (endsClear e) h .0
+
+-- ---- a part of the queue
+
+pub empty-sound : SoundQueue []
+unfolding inOrder areClear lengthsOf
+empty-sound = record { few = omega arith; ordered = refl; clear = refl; room = omega arith }
+
+-- fewer events with fewer numbers
+part-sound : (p q : List Event) → length p ≤ length q → lengthsOf p ≤ lengthsOf q → inOrder p ≡ true → areClear p ≡ true → SoundQueue q → SoundQueue p
+part-sound p q l m o c s =
+    let a : length q ≤ mostEvents = s .few in
+    let b : lengthsOf q ≤ storeLength = s .room in
+    record { few = omega arith; ordered = o; clear = c; room = omega arith }
+
+module _ (n : ℕ) (q : List Event) (s : SoundQueue q) where
+  split : lengthsOf (take n q) + lengthsOf (drop n q) ≡ lengthsOf q
+  split = lengths-split n q
+
+  pub prefix-sound : SoundQueue (take n q)
+  prefix-sound =
+      part-sound (take n q) q (rw length-take (omega arith)) (omega (arith, split)) (order-take n q (s .ordered)) (clear-take n q (s .clear)) s
+
+  pub suffix-sound : SoundQueue (drop n q)
+  suffix-sound =
+      part-sound (drop n q) q (rw length-drop (omega arith)) (omega (arith, split)) (order-drop n q (s .ordered)) (clear-drop n q (s .clear)) s
+
+-- what stands in front of other events
+front-sound : (ws xs : List Waiting) → SoundQueue (eventsOf (ws ++ xs)) → SoundQueue (eventsOf ws)
+front-sound ws xs s =
+    let e : take (length ws) (eventsOf (ws ++ xs)) ≡ eventsOf ws = sym (events-take (length ws) (ws ++ xs)) ∙ ap eventsOf (take-append-seam ws xs) in
+    rw e at (prefix-sound (length ws) (eventsOf (ws ++ xs)) s)
+
+-- ---- an arrival
+
+pub arrived-sound : (e : Event) (q : List Event) → isClear e ≡ true → length q < mostEvents → lengthsOf q + lengthOf e ≤ storeLength → SoundQueue q → SoundQueue (arrived e q)
+unfolding arrived
+arrived-sound e q c l r s =
+    let k : ℕ = placeBehind (filedUnder e) q in
+    let n : length (putAt k e q) ≡ suc (length q) = put-length k e q in
+    let m : lengthsOf (putAt k e q) ≡ lengthOf e + lengthsOf q = put-lengths k e q in
+    record {
+      few = omega arith;
+      ordered = unfold arrived in arrived-order e q (clear-number e c) (s .clear) (s .ordered);
+      clear = put-clear k;
+      room = omega arith;
+    }
+  where
+    put-clear : (k : ℕ) → areClear (putAt k e q) ≡ true
+    put-clear k =
+        unfold putAt areClear in
+        clear-append (take k q) (e ∷ drop k q) (clear-take k q (s .clear)) (and c (clear-drop k q (s .clear)))
+
+-- ---- a cancel
+
+pub cancelled-sound : (c : Float) (ws : List Waiting) → SoundQueue (eventsOf ws) → SoundQueue (eventsOf (cancelled c ws))
+cancelled-sound c ws s =
+    rw (cancelled-is c ws (s .ordered), events-take) (prefix-sound (firstNotBefore c (eventsOf ws)) (eventsOf ws) s)
+
+-- ---- a hold: an event is held where it stands
+
+-- d stands for e in a queue
+pub record Like (e d : Event) : Type 0 where
+  pub filed : filedUnder d ≡ filedUnder e
+  pub size : lengthOf d ≡ lengthOf e
+  pub clear : isClear e ≡ true → isClear d ≡ true
+
+pub data Likes : List Event → List Event → Type 0 where
+  none : Likes [] []
+  more : {e d : Event} {p q : List Event} → Like e d → Likes p q → Likes (e ∷ p) (d ∷ q)
+
+like-self : (e : Event) → Like e e
+like-self e = record { filed = refl; size = refl; clear = λ h. h }
+
+likes-before : (t : Float) (p q : List Event) → Likes p q → goesBefore t p ≡ true → goesBefore t q ≡ true
+unfolding goesBefore
+likes-before t p q none h = h
+likes-before t p q (more l ls) h = rw (l .filed) h
+
+likes-order : (p q : List Event) → Likes p q → inOrder p ≡ true → inOrder q ≡ true
+unfolding inOrder
+likes-order p q none h = h
+likes-order p q (more {e = e} {p = p'} {q = q'} l ls) h =
+    let a = both (goesBefore (filedUnder e) p') (inOrder p') h in
+    and (likes-before _ p' q' ls (rw (l .filed) (a .0))) (likes-order p' q' ls (a .1))
+
+likes-clear : (p q : List Event) → Likes p q → areClear p ≡ true → areClear q ≡ true
+unfolding areClear
+likes-clear p q none h = h
+likes-clear p q (more {e = e} {p = p'} {q = q'} l ls) h =
+    let a = both (isClear e) (areClear p') h in and (l .clear (a .0)) (likes-clear p' q' ls (a .1))
+
+likes-length : (p q : List Event) → Likes p q → length q ≡ length p
+likes-length p q none = refl
+likes-length p q (more {p = p'} {q = q'} l ls) = ap suc (likes-length p' q' ls)
+
+likes-lengths : (p q : List Event) → Likes p q → lengthsOf q ≡ lengthsOf p
+unfolding lengthsOf
+likes-lengths p q none = refl
+likes-lengths p q (more {p = p'} {q = q'} l ls) = rw (l .size, likes-lengths p' q' ls)
+
+pub likes-sound : (p q : List Event) → Likes p q → SoundQueue p → SoundQueue q
+likes-sound p q l s =
+    record {
+      few = rw (likes-length p q l) (s .few);
+      ordered = likes-order p q l (s .ordered);
+      clear = likes-clear p q l (s .clear);
+      room = rw (likes-lengths p q l) (s .room);
+    }
+
+module _ (c : Float) (number : isNumber c ≡ true) where
+  sooner-number : (h : MaybeTime) → isNumberIfAny h ≡ true → isNumberIfAny (sooner h c) ≡ true
+  unfolding sooner isNumberIfAny
+  sooner-number MaybeTime.Missing k = number
+  sooner-number (MaybeTime.At t) k = go (Ieee.lt t c)
+    where
+      go : (b : Bool) → isNumberIfAny (cond b (MaybeTime.At t) (MaybeTime.At c)) ≡ true
+      go true = unfold isNumberIfAny in k
+      go false = unfold isNumberIfAny in number
+
+  sooner-held : (t : Float) (h : MaybeTime) → Ieee.le c t ≡ true → isHeldBy t h ≡ true → isHeldBy t (sooner h c) ≡ true
+  unfolding sooner isHeldBy
+  sooner-held t MaybeTime.Missing l k = l
+  sooner-held t (MaybeTime.At s) l k = go (Ieee.lt s c)
+    where
+      go : (b : Bool) → isHeldBy t (cond b (MaybeTime.At s) (MaybeTime.At c)) ≡ true
+      go true = unfold isHeldBy in k
+      go false = unfold isHeldBy in l
+
+  -- a ramp is held before its own time
+  held-clear : (e : Event) → (isRamp e ≡ true → Ieee.le c (filedUnder e) ≡ true) → isClear e ≡ true → isClear (heldEvent c e) ≡ true
+  unfolding heldEvent isClear endsClear isRamp filedUnder
+  held-clear (Event.Step v t) l k = k
+  held-clear (Event.Linear v t h) l k = let a = both (isNumber t) (isHeldBy t h) k in and (a .0) (sooner-held t h (l refl) (a .1))
+  held-clear (Event.Exponential v t h) l k = let a = both (isNumber t) (isHeldBy t h) k in and (a .0) (sooner-held t h (l refl) (a .1))
+  held-clear (Event.Target v t k h) l m = let a = both (isNumber t) (isNumberIfAny h) m in and (a .0) (sooner-number h (a .1))
+  held-clear (Event.Curve s d n h) l k =
+      let a = both (isNumber s) _ k in
+      let b = both (isNumber (Ieee.add binary64 s d)) _ (a .1) in
+      let m = both (isNumberIfAny h) _ (b .1) in
+      and (a .0) (and (b .0) (and (sooner-number h (m .0)) (m .1)))
+
+  held-like : (e : Event) → (isRamp e ≡ true → Ieee.le c (filedUnder e) ≡ true) → Like e (heldEvent c e)
+  held-like e l = record { filed = held-filed c e; size = held-size c e; clear = held-clear e l }
+
+  -- a target or a curve is no ramp
+  runs-no-ramp : (e : Event) → runsAt c e ≡ true → isRamp e ≡ true → ⊥
+  unfolding runsAt isRamp
+  runs-no-ramp (Event.Step v t) r h = never r
+  runs-no-ramp (Event.Linear v t k) r h = never r
+  runs-no-ramp (Event.Exponential v t k) r h = never r
+  runs-no-ramp (Event.Target v t k m) r h = never h
+  runs-no-ramp (Event.Curve s d n k) r h = never h
+
+  running-like : (w : Waiting) → Like (w .event) (heldIfRunning c w .event)
+  unfolding heldIfRunning
+  running-like w = go (runsAt c (w .event)) refl
+    where
+      go : (b : Bool) → runsAt c (w .event) ≡ b → Like (w .event) (cond b (heldAt c w) w .event)
+      go true r = unfold heldAt in held-like (w .event) (λ h. absurd (runs-no-ramp (w .event) r h))
+      go false r = like-self (w .event)
+
+  last-likes : (ws : List Waiting) → Likes (eventsOf ws) (eventsOf (lastHeld c ws))
+  unfolding eventsOf lastHeld
+  last-likes [] = none
+  last-likes (w ∷ []) = more (running-like w) none
+  last-likes (w ∷ x ∷ ws) = more (like-self (w .event)) (last-likes (x ∷ ws))
+
+  ramp-likes : (ws : List Waiting) (x : Waiting) → (isRamp (x .event) ≡ true → Ieee.le c (filedUnder (x .event)) ≡ true)
+      → Likes (eventsOf (ws ++ (x ∷ []))) (eventsOf (ws ++ (heldAt c x ∷ [])))
+  unfolding eventsOf heldAt
+  ramp-likes [] x l = more (held-like (x .event) l) none
+  ramp-likes (w ∷ ws) x l = more (like-self (w .event)) (ramp-likes ws x l)
+
+  -- by the events at or before c and those later, the first of these being later
+  held-by-sound : (early late : List Waiting) → AllPass (isLater c) late → SoundQueue (eventsOf (early ++ late)) → SoundQueue (eventsOf (heldBy c early late))
+  unfolding heldBy isLater
+  held-by-sound early [] a s = likes-sound (eventsOf early) _ (last-likes early) (front-sound early [] s)
+  held-by-sound early (x ∷ late) a s = go (isRamp (x .event))
+    where
+      with-ramp : SoundQueue (eventsOf (early ++ (x ∷ [])))
+      with-ramp = front-sound (early ++ (x ∷ [])) late (rw (append-snoc early x late) s)
+
+      go : (b : Bool) → SoundQueue (eventsOf (cond b (early ++ (heldAt c x ∷ [])) (lastHeld c early)))
+      go true = likes-sound (eventsOf (early ++ (x ∷ []))) _ (ramp-likes early x (λ r. lt-le c (filedUnder (x .event)) (a .0))) with-ramp
+      go false = likes-sound (eventsOf early) _ (last-likes early) (front-sound early (x ∷ late) s)
+
+  pub held-sound : (ws : List Waiting) → SoundQueue (eventsOf ws) → SoundQueue (eventsOf (held c ws))
+  unfolding held
+  held-sound ws s =
+      let k : ℕ = firstLater c (eventsOf ws) in
+      let e : those (isNotLater c) ws ++ those (isLater c) ws ≡ ws = rw (early-is c ws (s .ordered), late-is c ws (s .ordered)) (take-append-drop k ws) in
+      held-by-sound (those (isNotLater c) ws) (those (isLater c) ws) (those-pass (isLater c) ws) (rw e s)

@@ -1,0 +1,3 @@
+pub mod Sound
+pub mod Search
+pub mod Fits

@@ -1,0 +1,1 @@
+// No code: a parameter's invariant (specs/), and theorems over `rules` that many proofs want (proofs/).
