@@ -1,0 +1,13 @@
+-- `floats::is_zero64` meets its contract. Assumes nothing.
+use mathlib.Core.Path.{refl}
+use lib.Ieee.{ofBits}
+use Rattle.rules.specs.Numbers.{isZero}
+use Rattle.floats.proofs.is_zero64.Statement.{statement}
+use Rattle.floats.proofs.is_zero64.Tie as tie
+
+returns : tie.Need-returns
+unfolding isZero ofBits
+returns c = refl
+
+pub is-zero64-spec : {M : Type 1} → statement M
+is-zero64-spec = tie.close (tie.spec returns)
