@@ -1,0 +1,20 @@
+-- The laws of rounding. Assumes nothing.
+pub mod Powers
+pub mod Closest
+pub mod Value
+pub mod Pack
+pub mod At
+pub mod Sticky
+pub mod Pattern
+pub mod Sum
+pub mod Adding
+pub mod Fuse
+pub mod Parts
+pub mod Nearest
+pub mod Rounded
+pub mod Decode
+pub mod Lead
+pub mod Twice
+pub mod Cut
+pub mod Wide
+pub mod Exact

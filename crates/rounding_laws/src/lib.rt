@@ -1,0 +1,1 @@
+// No code: laws of rounding over the format, for every crate that rounds.

@@ -1,0 +1,229 @@
+// The samples of the four kinds of event, named as in the Rust, and the end place of a time.
+ghost use mathlib.Core.Path.{_≡_};
+ghost use Prim.Native.Nat.{_*_, _^_, _≤_, _<_};
+ghost use lib.ListN.{length};
+ghost use lib.IntN.{pos, negℤ};
+ghost use Rattle.rules.specs.Numbers.{wholePart, narrowed, periodsTo, placeFrom, endPlace};
+ghost use Rattle.rules.specs.Samples.{decayOf, decay as decayAt, ratioLog, power as powerOf, factorOf, curveSample};
+ghost use Rattle.samples.specs.At.{linearAt, exponentialAt, exponentialOver, targetAt, held};
+use rules::BlockInfos;
+
+// Rust's `x as u64`: without the fraction, 0 below 0 and for a NaN, and the largest number past the end.
+pub fn whole(x: f64) -> u64
+    ensures { λ r. ⌜ r ≡ wholePart x ⌝ }
+{
+    if x > -1.0 {
+        if x < 18446744073709551616.0 {
+            std::num::truncating_f64_to_u64(x)
+        } else {
+            18446744073709551615
+        }
+    } else {
+        0
+    }
+}
+
+// The factor of a target after p steps of 2^-24.
+pub fn decay_steps(p: u64) -> f32
+    requires { ⌜ p < 161 * 2 ^ 24 ⌝ }
+    ensures { λ r. ⌜ r ≡ narrowed (decayOf p) ⌝ }
+{
+    rounding::norm32(
+        false,
+        kernels::falling_power(p % 16777216),
+        331 - p / 16777216,
+    )
+}
+
+// The factor of a target at y = x * log2(e).
+pub fn decay(y: f64) -> f32
+    ensures { λ r. ⌜ r ≡ decayAt y ⌝ }
+{
+    if y >= 160.0 {
+        return 0.0;
+    }
+    decay_steps(whole(y * 16777216.0))
+}
+
+// L of a ratio: the log of its leading 32 digits behind the place of the first. As an f64 every f32 but 0 has its digits in one place.
+pub fn ratio_log(ratio: f32) -> i64
+    ensures { λ r. ⌜ r ≡ ratioLog ratio ⌝ }
+{
+    if floats::is_finite32(ratio) {
+        if ratio == 0.0 {
+            return -16777216;
+        }
+        let b = f64::to_bits(ratio as f64) % 0x8000_0000_0000_0000;
+        let m = (b % 0x10_0000_0000_0000 + 0x10_0000_0000_0000) / 0x20_0000;
+        let l = b / 0x10_0000_0000_0000 * 16777216 + kernels::log(m);
+        return (l as i64) - 17163091968;
+    }
+    0
+}
+
+// 2^(n / 2^24).
+fn risen(n: u64) -> f64
+    ensures { λ r. ⌜ r ≡ held (powerOf (pos n)) ⌝ }
+{
+    if n >= 4294967296 {
+        return f64::from_bits(0x7ff0_0000_0000_0000);
+    }
+    let q = n / 16777216;
+    let f = n % 16777216;
+    if f == 0 {
+        rounding::norm64(false, 1, q + 1139)
+    } else {
+        rounding::norm64(false, kernels::falling_power(16777216 - f), q + 1108)
+    }
+}
+
+// 2^-(n / 2^24).
+fn fallen(n: u64) -> f64
+    ensures { λ r. ⌜ r ≡ held (powerOf (negℤ (pos n))) ⌝ }
+{
+    if n >= 5033164800 {
+        return 0.0;
+    }
+    rounding::norm64(
+        false,
+        kernels::falling_power(n % 16777216),
+        1107 - n / 16777216,
+    )
+}
+
+// The factor for the product x = L * phase: 2^(P / 2^24), for P the whole number next below x.
+pub fn factor(x: f64) -> f64
+    ensures { λ r. ⌜ r ≡ held (factorOf x) ⌝ }
+{
+    if x != x {
+        return x;
+    }
+    if x < 0.0 {
+        let y = -x;
+        let k = whole(y);
+        if k >= 5033164800 {
+            return 0.0;
+        }
+        if (k as f64) < y {
+            fallen(k + 1)
+        } else {
+            fallen(k)
+        }
+    } else {
+        risen(whole(x))
+    }
+}
+
+// The Rust's functions. Where it is handed the difference of two values, or their ratio, worked out once a ramp, so are these; for the ratio its log.
+
+pub fn compute_linear_ramp_sample(
+    start_time: f64,
+    duration: f64,
+    start_value: f32,
+    diff: f32,
+    time: f64,
+) -> f32
+    ensures { λ r. ⌜ r ≡ linearAt «start_time» duration «start_value» diff time ⌝ }
+{
+    let phase = (time - start_time) / duration;
+    rounding::fused32(diff, rounding::narrow(phase), start_value)
+}
+
+// An exponential ramp's sample, with L as an f64.
+pub fn exponential_over(start_time: f64, duration: f64, start_value: f32, l: f64, time: f64) -> f32
+    ensures { λ r. ⌜ r ≡ exponentialOver «start_time» duration «start_value» l time ⌝ }
+{
+    let phase = (time - start_time) / duration;
+    rounding::narrow(std::num::f32_to_f64_with_nan(start_value) * factor(l * phase))
+}
+
+pub fn compute_exponential_ramp_sample(
+    start_time: f64,
+    duration: f64,
+    start_value: f32,
+    log: i64,
+    time: f64,
+) -> f32
+    ensures { λ r. ⌜ r ≡ exponentialAt «start_time» duration «start_value» log time ⌝ }
+{
+    exponential_over(
+        start_time,
+        duration,
+        start_value,
+        std::num::nearest_i64_to_f64(log),
+        time,
+    )
+}
+
+pub fn compute_set_target_sample(
+    start_time: f64,
+    time_constant: f64,
+    end_value: f32,
+    diff: f32,
+    time: f64,
+) -> f32
+    ensures { λ r. ⌜ r ≡ targetAt «start_time» «time_constant» «end_value» diff time ⌝ }
+{
+    let x = (time - start_time) / time_constant;
+    rounding::fused32(diff, decay(x * 1.4426950408889634), end_value)
+}
+
+pub fn compute_set_value_curve_sample(
+    start_time: f64,
+    duration: f64,
+    values: &[f32],
+    time: f64,
+) -> f32
+    requires { ⌜ (2 ≤ length (now values)) × (length (now values) ≤ 4096) ⌝ }
+    ensures { λ r. ⌜ r ≡ curveSample (now (values .entry)) «start_time» duration time ⌝ }
+{
+    let n = values.len() - 1;
+    let since = time - start_time;
+    if since >= duration {
+        return values[n];
+    }
+    let position = (n as f64) * since / duration;
+    if position >= (n as f64) {
+        return values[n];
+    }
+    let k = whole(position) as usize;
+    let from = values[k];
+    rounding::fused32(
+        values[k + 1] - from,
+        rounding::narrow(position - (k as f64)),
+        from,
+    )
+}
+
+// q, the time t in sample periods from the block's time on.
+pub fn periods_to(infos: BlockInfos, t: f64) -> f64
+    ensures { λ r. ⌜ r ≡ periodsTo infos t ⌝ }
+{
+    floats::later_of(0.0, t - infos.time) / infos.dt
+}
+
+// The smallest place whose half-sample limit exceeds q, or count.
+pub fn end_place(q: f64, count: usize) -> usize
+    requires { ⌜ count ≤ 2 ^ 53 ⌝ }
+    ensures { λ r. ⌜ r ≡ placeFrom q count 0 ⌝ }
+{
+    let mut n = 0usize;
+    let place = loop {
+        if count <= n {
+            break count;
+        }
+        let limit = (n as f64) + 0.5;
+        if q < limit {
+            break n;
+        }
+        n += 1;
+    };
+    place
+}
+
+pub fn end_place_of(infos: BlockInfos, t: f64) -> usize
+    requires { ⌜ infos .count ≤ 2 ^ 53 ⌝ }
+    ensures { λ r. ⌜ r ≡ endPlace infos t ⌝ }
+{
+    end_place(periods_to(infos, t), infos.count)
+}

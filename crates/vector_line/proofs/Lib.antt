@@ -1,0 +1,2 @@
+-- The laws that the two widths share. Assumes nothing.
+pub mod Patterns

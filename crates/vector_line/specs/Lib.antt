@@ -1,0 +1,2 @@
+-- What a line of the list says. Assumes nothing.
+pub mod Line
