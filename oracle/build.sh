@@ -49,14 +49,14 @@ fresh() {
 
 compile() {
     command -v rustc > /dev/null || { say "no rustc here; it is needed to build"; return 1; }
-    rustc --edition 2021 -O "$@"
+    rustc --edition 2021 -O -L "$out" "$@"
 }
 
-compile_library() { compile --crate-type rlib --crate-name "$1" -o "$out/lib$1.rlib" "$2"; }
-
-# compile_program NAME MAIN: a program over the reference.
-compile_program() {
-    compile --extern reference="$out/libreference.rlib" --crate-name main -o "$out/$1" "$2"
+# compile_library NAME ROOT WORDS..: WORDS name the libraries that it uses.
+compile_library() {
+    local name=$1 source=$2
+    shift 2
+    compile --crate-type rlib --crate-name "$name" "$@" -o "$out/lib$name.rlib" "$source"
 }
 
 # The unchanged file with one line behind it, over the stand-ins.
@@ -68,8 +68,7 @@ build_oracle() {
     mkdir -p "$source" && cp "$here"/src/oracle/*.rs "$source" || return 1
     { cat "$rust" && echo '#[path = "driver.rs"] pub(crate) mod driver;'; } > "$source/param.rs"
     compile_library arrayvec "$source/arrayvec.rs" && compile_library log "$source/log.rs" &&
-    compile --extern arrayvec="$out/libarrayvec.rlib" --extern log="$out/liblog.rlib" \
-        --crate-name oracle -o "$out/oracle" "$source/main.rs"
+    compile --extern arrayvec --extern log --crate-name oracle -o "$out/oracle" "$source/main.rs"
 }
 
 # The interpreter of 01, a library that the other programs use too.
@@ -77,13 +76,38 @@ build_reference() {
     fresh "$out/reference" "$here"/src/reference/*.rs "$here/src/oracle/session.rs" && return
     say "building the reference interpreter of 01"
     mkdir -p "$out" && compile_library reference "$here/src/reference/lib.rs" &&
-    compile_program reference "$here/src/reference/main.rs"
+    compile --extern reference --crate-name main -o "$out/reference" "$here/src/reference/main.rs"
 }
 
-# build_program NAME: the program in src/NAME, over that library.
-build_program() {
+# What the other programs share.
+build_comparing() {
     build_reference || return 1
-    fresh "$out/$1" "$out/reference" "$here/src/$1"/*.rs && return
+    fresh "$out/libcomparing.rlib" "$out/reference" "$here"/src/comparing/*.rs && return
+    compile_library comparing "$here/src/comparing/lib.rs" --extern reference
+}
+
+# build_program NAME: the program in src/NAME, over the two.
+build_program() {
+    build_comparing || return 1
+    fresh "$out/$1" "$out/libcomparing.rlib" "$here/src/$1"/*.rs && return
     say "building $1"
-    compile_program "$1" "$here/src/$1/main.rs"
+    compile --extern reference --extern comparing --crate-name main \
+        -o "$out/$1" "$here/src/$1/main.rs"
+}
+
+# The port's session program: what CRACKLEDRAY_SESSION names, else the gate's own build.
+find_port() {
+    local port=${CRACKLEDRAY_SESSION:-}
+    if [ -z "$port" ]; then
+        command -v rt > /dev/null || {
+            say "no rt here (the Rattle kit): it builds the port's session program;" \
+                "or name one that is built in CRACKLEDRAY_SESSION"
+            return 1
+        }
+        say "building the port: rt check session (proves what is not proved yet)"
+        (cd "$root" && rt check session >&2) || { say "rt check session failed"; return 1; }
+        port=$root/target/bin/session
+    fi
+    [ -x "$port" ] || { say "no program at $port"; return 1; }
+    echo "$port"
 }

@@ -3,6 +3,8 @@
 //! difference's name (docs/DIFFERENCES.md). No answer of either side is looked
 //! at. A claim holds as long as none that ends the comparison came before it.
 
+use crate::near::Near;
+
 /// How far a difference reaches.
 #[derive(Clone, Copy, Debug, PartialEq)]
 pub enum Reach {
@@ -20,14 +22,24 @@ pub struct Claim {
     pub name: &'static str,
 }
 
-/// The claims of one line; for samples that are only close, how close.
+/// One head in one block: it filled at least one place, or was consumed.
+#[derive(Clone, Debug)]
+pub struct Run {
+    pub kind: &'static str,
+    pub places: std::ops::Range<usize>,
+}
+
+/// What one line claims, and how near its numbers must be.
 #[derive(Clone, Debug, Default)]
 pub struct Claims {
     pub list: Vec<Claim>,
-    /// 01's limit for the targets of this block (0: there is none).
-    pub slack: f64,
-    /// An exponential is among them: relative 2^-18.
-    pub relative: bool,
+    /// Of a block: the current value, the places, the heads.
+    pub current: Near,
+    pub places: Vec<Near>,
+    pub runs: Vec<Run>,
+    /// Of a parameter's print.
+    pub intrinsic: Near,
+    pub last: Near,
 }
 
 impl Claims {
@@ -36,6 +48,25 @@ impl Claims {
         if holds && !self.list.contains(&claim) {
             self.list.push(claim);
         }
+    }
+
+    /// The name under which a number need not have the same bits.
+    pub fn note_near(&mut self, near: Near) {
+        match near {
+            Near::Same => (),
+            Near::Target(_) => self.note(Reach::Close, "target-sample", true),
+            Near::Exponential(_) => self.note(Reach::Close, "exponential-sample", true),
+            Near::Open(name) => self.note(Reach::Part, name, true),
+        }
+    }
+
+    pub fn has(&self, name: &str) -> bool {
+        self.list.iter().any(|c| c.name == name)
+    }
+
+    /// The claim that ends the comparison here, if there is one.
+    pub fn end(&self) -> Option<&'static str> {
+        self.list.iter().find(|c| c.reach == Reach::Ends).map(|c| c.name)
     }
 
     /// As the command prints them: `part:NAME`, `close:NAME`, `ends:NAME`, or `-`.

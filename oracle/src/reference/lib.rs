@@ -3,6 +3,7 @@
 //! claims, from the calls alone, where param.rs does otherwise.
 
 pub mod claims;
+pub mod near;
 pub mod numbers;
 pub mod param;
 pub mod queue;

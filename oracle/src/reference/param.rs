@@ -1,6 +1,7 @@
 //! The parameter by 01: its calls with their refusals, the store, the answers.
 
 use crate::claims::{Claims, Reach};
+use crate::near::{Near, Value};
 use crate::numbers::mixed;
 use crate::queue::{cancel, claim_arrival, hold, insert, Event, Kind};
 use crate::session::{curve_numbers, hex32, hex64, list32, Block, Call};
@@ -14,11 +15,10 @@ pub struct Reference {
     min: f32,
     default: f32,
     max: f32,
-    intrinsic: f32,
+    intrinsic: Value,
     queue: Vec<Event>,
     block_time: Option<f64>,
-    last: Option<(f64, f32)>,
-    last_is_close: bool,
+    last: Option<(f64, Value)>,
     store: Vec<f32>,
     lent: usize,
     /// What param.rs does differently in the call just answered.
@@ -51,11 +51,10 @@ impl Reference {
             min: 0.,
             default: 0.,
             max: 0.,
-            intrinsic: 0.,
+            intrinsic: Value::same(0.),
             queue: Vec::new(),
             block_time: None,
             last: None,
-            last_is_close: false,
             store: vec![0.; 8192],
             lent: STORE,
             claims: Claims::default(),
@@ -89,7 +88,8 @@ impl Reference {
             self.claims.note(Reach::Part, "refused", true);
             return Some(1);
         }
-        *self = Self { min, default, max, a_rate, intrinsic: default, ..Self::empty() };
+        let intrinsic = Value::same(default);
+        *self = Self { min, default, max, a_rate, intrinsic, ..Self::empty() };
         None
     }
 
@@ -120,7 +120,8 @@ impl Reference {
     fn set(&mut self, v: f32) -> Option<u8> {
         let refused = refusal(&[(2, !v.is_finite()), (7, self.full())]);
         if refused.is_none() {
-            let changes = v.to_bits() != self.intrinsic.to_bits();
+            let Value { value, near } = self.intrinsic;
+            let changes = v.to_bits() != value.to_bits() || near != Near::Same;
             self.claims.note(Reach::Ends, "set-now", changes);
             self.schedule(Kind::Step, v, 0.);
         }
@@ -268,7 +269,7 @@ impl Reference {
         let (time, count) = (plus_zero(b.time), b.count as usize);
         let next = (count as f64).mul_add(b.period, time);
         let facts = Facts { time, period: b.period, count, next, a_rate: self.a_rate };
-        let before = self.intrinsic;
+        let Value { value: before, near } = self.intrinsic;
         let odd = before.is_nan() || (before == 0. && before.is_sign_negative());
         self.claims.note(Reach::Part, "current-value", odd);
         self.read_store();
@@ -277,6 +278,8 @@ impl Reference {
         let single = count == 1 && b.input.is_empty() && !one;
         self.claims.note(Reach::Part, "one-sample", single);
         let samples = self.mix(&values, &b.input, count);
+        self.claims.current = near;
+        self.claim_nears();
         self.block_time = Some(time);
         self.pack_store();
         let current = mixed(before + 0., self.min, self.default, self.max);
@@ -285,7 +288,7 @@ impl Reference {
     }
 
     /// The block's values, its steps, and whether it is one-valued.
-    fn values(&mut self, facts: Facts) -> (Vec<f32>, u32, bool) {
+    fn values(&mut self, facts: Facts) -> (Vec<Value>, u32, bool) {
         let waits = self.queue.first().map(|e| (e.is_ramp(), e.time));
         let at_end = waits.is_some_and(|(ramp, t)| !ramp && t == facts.next);
         self.claims.note(Reach::Ends, "block-end", at_end);
@@ -297,7 +300,6 @@ impl Reference {
             queue: &mut self.queue,
             intrinsic: &mut self.intrinsic,
             last: &mut self.last,
-            close: &mut self.last_is_close,
             claims: &mut self.claims,
             buffer: Vec::with_capacity(facts.count),
             steps: 0,
@@ -306,11 +308,23 @@ impl Reference {
         (walk.buffer, walk.steps, false)
     }
 
+    /// The names under which numbers of a block or of a print may differ.
+    fn claim_nears(&mut self) {
+        self.claims.intrinsic = self.intrinsic.near;
+        self.claims.last = self.last.map_or(Near::Same, |(_, v)| v.near);
+        let Claims { current, intrinsic, last, .. } = self.claims;
+        let places = self.claims.places.clone();
+        for near in places.into_iter().chain([current, intrinsic, last]) {
+            self.claims.note_near(near);
+        }
+    }
+
     /// Mixed with the input; one value serves all places, K-rate has one input.
-    fn mix(&mut self, values: &[f32], input: &[f32], count: usize) -> Vec<f32> {
+    fn mix(&mut self, values: &[Value], input: &[f32], count: usize) -> Vec<f32> {
         let mut samples = Vec::with_capacity(count);
         for i in 0..count {
-            let value = values[if values.len() == 1 { 0 } else { i }];
+            let Value { value, near } = values[if values.len() == 1 { 0 } else { i }];
+            self.claims.places.push(near);
             let with = input.get(if self.a_rate { i } else { 0 }).copied().unwrap_or(0.);
             let sum = with + value;
             let other = |bound: f32| sum == 0. && bound == 0. && sum.to_bits() != bound.to_bits();
@@ -322,6 +336,7 @@ impl Reference {
     }
 
     fn state(&mut self) -> String {
+        self.claim_nears();
         let mut seen = self.clone();
         seen.read_store();
         let packed: usize = seen.lengths().iter().sum();
@@ -329,10 +344,10 @@ impl Reference {
         let rate = if self.a_rate { "a" } else { "k" };
         let bounds = list32(&[self.min, self.default, self.max], " ");
         let block = self.block_time.map_or("-".to_string(), hex64);
-        let pair = |(t, v): (f64, f32)| format!("{}:{}", hex64(t), hex32(v));
+        let pair = |(t, v): (f64, Value)| format!("{}:{}", hex64(t), hex32(v.value));
         let last = self.last.map_or("-".to_string(), pair);
         let events: String = seen.queue.iter().map(|e| format!(" {}", event(e))).collect();
-        let (intrinsic, n) = (hex32(self.intrinsic), seen.queue.len());
+        let (intrinsic, n) = (hex32(self.intrinsic.value), seen.queue.len());
         let rest = if zeros { "zeros" } else { "dirty" };
         format!("state {rate}{bounds} {intrinsic} {block} {last} {n}{events} {rest}")
     }

@@ -12,6 +12,18 @@ pub enum Kind {
     Curve { duration: f64, numbers: Vec<f32> },
 }
 
+impl Kind {
+    pub fn name(&self) -> &'static str {
+        match self {
+            Kind::Step => "step",
+            Kind::Linear => "linear",
+            Kind::Exponential => "exponential",
+            Kind::Target { .. } => "target",
+            Kind::Curve { .. } => "curve",
+        }
+    }
+}
+
 #[derive(Clone, Debug)]
 pub struct Event {
     pub kind: Kind,

@@ -1,6 +1,7 @@
 //! Rendering one block (01): the walk over the heads.
 
-use crate::claims::{Claims, Reach};
+use crate::claims::{Claims, Reach, Run};
+use crate::near::{exponential_near, target_near, Near, Value};
 use crate::numbers::{curve_sample, end_place, exponential_sample, linear_sample};
 use crate::numbers::{target_factor, target_sample};
 use crate::queue::{Event, Kind};
@@ -19,19 +20,30 @@ pub struct Facts {
 pub struct Walk<'a> {
     pub facts: Facts,
     pub queue: &'a mut Vec<Event>,
-    pub intrinsic: &'a mut f32,
-    pub last: &'a mut Option<(f64, f32)>,
-    /// The last event's value came from a target or exponential sample.
-    pub close: &'a mut bool,
+    pub intrinsic: &'a mut Value,
+    pub last: &'a mut Option<(f64, Value)>,
     pub claims: &'a mut Claims,
     /// The samples so far; at K-rate the block's one value.
-    pub buffer: Vec<f32>,
+    pub buffer: Vec<Value>,
     pub steps: u32,
 }
 
 /// Near enough to be taken as arrived.
 fn snaps(target: f32, value: f32) -> bool {
     (target - value).abs() < 1e-10
+}
+
+/// A subnormal sample becomes +0. One that is near the smallest normal number
+/// may be flushed by one side only.
+fn flush(sample: &mut Value) {
+    let size = f64::from(sample.value.abs());
+    let edge = (size / f64::from(f32::MIN_POSITIVE) - 1.).abs() < 1. / 1048576.;
+    if edge && !sample.is_same() {
+        sample.near = Near::Open("snap-edge");
+    }
+    if sample.value.is_subnormal() {
+        sample.value = 0.;
+    }
 }
 
 #[derive(PartialEq)]
@@ -45,29 +57,39 @@ impl Walk<'_> {
         if !self.facts.a_rate {
             self.buffer.push(*self.intrinsic);
         }
-        loop {
+        let mut rest = None;
+        while rest.is_none() {
             self.steps += 1;
             let Some(head) = self.queue.first().cloned() else { break };
-            let next = match head.kind {
-                Kind::Step => self.step(&head),
-                Kind::Linear => self.linear(&head),
-                Kind::Exponential => self.exponential(&head),
-                Kind::Target { constant } => self.target(&head, constant),
-                Kind::Curve { duration, ref numbers } => self.curve(&head, duration, numbers),
-            };
+            let (from, waiting) = (self.buffer.len(), self.queue.len());
+            let next = self.take(&head);
+            let places = from..self.buffer.len();
+            if !places.is_empty() || self.queue.len() < waiting {
+                self.claims.runs.push(Run { kind: head.kind.name(), places });
+            }
             if next == Next::Stop {
-                let left = self.facts.a_rate && self.buffer.len() < self.facts.count;
-                self.claims.note(Reach::Part, "places-left", left);
-                break;
+                rest = Some(Near::Open("places-left"));
             }
         }
         if self.facts.a_rate {
-            self.buffer.resize(self.facts.count, *self.intrinsic);
+            let Value { value, near } = *self.intrinsic;
+            let rest = Value { value, near: rest.unwrap_or(near) };
+            self.buffer.resize(self.facts.count, rest);
+        }
+    }
+
+    fn take(&mut self, head: &Event) -> Next {
+        match head.kind {
+            Kind::Step => self.step(head),
+            Kind::Linear => self.linear(head),
+            Kind::Exponential => self.exponential(head),
+            Kind::Target { constant } => self.target(head, constant),
+            Kind::Curve { duration, ref numbers } => self.curve(head, duration, numbers),
         }
     }
 
     /// Fills up to the end place of `end` with `sample` of each place's time.
-    fn fill(&mut self, end: f64, mut sample: impl FnMut(f64) -> f32) {
+    fn fill(&mut self, end: f64, mut sample: impl FnMut(f64) -> Value) {
         let Facts { time, period, count, a_rate, .. } = self.facts;
         if !a_rate {
             return;
@@ -79,23 +101,21 @@ impl Walk<'_> {
         }
     }
 
-    fn consume(&mut self, time: f64, value: f32) -> Next {
+    fn consume(&mut self, time: f64, value: Value) -> Next {
         self.queue.remove(0);
-        *self.close = false;
         *self.last = Some((time, value));
         *self.intrinsic = value;
         Next::GoOn
     }
 
-    fn stop(&mut self, value: f32) -> Next {
+    fn stop(&mut self, value: Value) -> Next {
         *self.intrinsic = value;
         Next::Stop
     }
 
     /// The last event, made from block time and intrinsic value if there is none.
-    fn last_or_made(&mut self) -> (f64, f32) {
+    fn last_or_made(&mut self) -> (f64, Value) {
         self.claims.note(Reach::Ends, "no-last-event", self.last.is_none());
-        self.claims.note(Reach::Ends, "close-start", *self.close);
         *self.last.get_or_insert((self.facts.time, *self.intrinsic))
     }
 
@@ -106,34 +126,34 @@ impl Walk<'_> {
         if time > self.facts.next {
             return Next::Stop;
         }
-        self.consume(time, head.value)
+        self.consume(time, Value::same(head.value))
     }
 
     /// The common end of the ramps: stop, or consume with the value at the end.
-    fn ramp(&mut self, head: &Event, at: impl Fn(f64) -> f32) -> Next {
+    fn ramp(&mut self, head: &Event, at: impl Fn(f64) -> Value) -> Next {
         let end = head.hold.unwrap_or(head.time);
         self.fill(end, &at);
         if end >= self.facts.next {
             return self.stop(at(self.facts.next));
         }
         match head.hold {
-            Some(held) => {
-                let next = self.consume(held, at(held));
-                *self.close = head.kind == Kind::Exponential;
-                next
-            }
-            None => self.consume(head.time, head.value),
+            Some(held) => self.consume(held, at(held)),
+            None => self.consume(head.time, Value::same(head.value)),
         }
     }
 
+    /// From a value that may differ all samples may; what it ends with is equal.
     fn linear(&mut self, head: &Event) -> Next {
-        let (start, from) = self.last_or_made();
+        let (start, Value { value: from, near }) = self.last_or_made();
+        let near = if near == Near::Same { near } else { Near::Open("close-start") };
         let (duration, diff) = (head.time - start, head.value - from);
-        self.ramp(head, |t| linear_sample(start, duration, from, diff, t))
+        self.ramp(head, |t| Value { value: linear_sample(start, duration, from, diff, t), near })
     }
 
     fn exponential(&mut self, head: &Event) -> Next {
-        let (start, from) = self.last_or_made();
+        let (start, last) = self.last_or_made();
+        self.claims.note(Reach::Ends, "close-start", !last.is_same());
+        let from = last.value;
         let (duration, ratio) = (head.time - start, head.value / from);
         let turns = !(ratio.is_finite() && ratio > 0.);
         let rust_turns = from == 0. || from * head.value < 0.;
@@ -143,32 +163,10 @@ impl Walk<'_> {
             self.queue[0] = Event { kind: Kind::Step, value: head.value, time, hold: None };
             return Next::GoOn;
         }
-        self.claim_exponential(head, (start, from), ratio);
-        self.ramp(head, |t| exponential_sample(start, duration, from, ratio, t))
-    }
-
-    /// 01's limit was measured for normal samples, ratios 2^-20 to 2^20 and
-    /// phases 0 to 1. A sample can stand half a period outside of the ramp; so
-    /// a ramp shorter than a period, or near the ends of f32, is not compared.
-    fn claim_exponential(&mut self, head: &Event, (start, from): (f64, f32), ratio: f32) {
-        self.claims.note(Reach::Close, "exponential-sample", true);
-        self.claims.relative = true;
-        let middling = |v: f32| (1e-25..1e25).contains(&v.abs());
-        let measured = (9.6e-7..1e6).contains(&ratio)
-            && middling(from)
-            && middling(head.value)
-            && head.time - start >= self.facts.period
-            && head.hold.is_none_or(|h| h >= start);
-        self.claims.note(Reach::Ends, "exponential-range", !measured);
-    }
-
-    /// 01's limit for a target's samples, where start - target is finite.
-    fn claim_target(&mut self, head: &Event, from: f32) {
-        self.claims.note(Reach::Close, "target-sample", true);
-        let sum = f64::from(from.abs()) + f64::from(head.value.abs());
-        let limit = sum / 1048576. + f64::powi(2., -148);
-        self.claims.slack = self.claims.slack.max(limit);
-        self.claims.note(Reach::Ends, "target-range", !(from - head.value).is_finite());
+        self.ramp(head, |t| {
+            let value = exponential_sample(start, duration, from, ratio, t);
+            Value { value, near: exponential_near(ratio, (t - start) / duration, value) }
+        })
     }
 
     /// So near the threshold that only one side may snap: a factor that is off
@@ -196,7 +194,8 @@ impl Walk<'_> {
     }
 
     fn target(&mut self, head: &Event, constant: f64) -> Next {
-        let (_, from) = self.last_or_made();
+        let (_, last) = self.last_or_made();
+        self.claims.note(Reach::Ends, "close-start", !last.is_same());
         let next = self.facts.next;
         let before = *self.intrinsic;
         if head.time > next {
@@ -204,17 +203,13 @@ impl Walk<'_> {
             self.fill(next, |_| before);
             return Next::Stop;
         }
-        self.claim_target(head, from);
-        let diff = from - head.value;
-        let at = |t: f64| target_sample(head.time, constant, head.value, diff, t);
+        let (diff, near) = (last.value - head.value, target_near(last.value, head.value));
+        let sample = |t: f64| target_sample(head.time, constant, head.value, diff, t);
+        let at = |t: f64| Value { value: sample(t), near };
         let end = self.target_end(head);
         self.fill(end.unwrap_or(next), |t| if t < head.time { before } else { at(t) });
         match end {
-            Some(end) => {
-                let next = self.consume(end, at(end));
-                *self.close = true;
-                next
-            }
+            Some(end) => self.consume(end, at(end)),
             None => {
                 self.claim_snap(head.value, diff, target_factor(head.time, constant, next));
                 self.target_goes_on(head, at(next))
@@ -223,17 +218,16 @@ impl Walk<'_> {
     }
 
     /// Not ended: the value at next block time, or the snap to the target.
-    fn target_goes_on(&mut self, head: &Event, value: f32) -> Next {
-        if !snaps(head.value, value) {
+    fn target_goes_on(&mut self, head: &Event, value: Value) -> Next {
+        if !snaps(head.value, value.value) {
             return self.stop(value);
         }
         if head.value == 0. {
-            let flushed = |v: f32| if v.is_subnormal() { 0. } else { v };
-            self.buffer.iter_mut().for_each(|v| *v = flushed(*v));
+            self.buffer.iter_mut().for_each(flush);
         }
         let (time, value) = (self.facts.next, head.value);
         self.queue[0] = Event { kind: Kind::Step, value, time, hold: None };
-        self.stop(value)
+        self.stop(Value::same(value))
     }
 
     fn curve(&mut self, head: &Event, duration: f64, numbers: &[f32]) -> Next {
@@ -248,7 +242,7 @@ impl Walk<'_> {
         let at = |t: f64| {
             let (value, over) = curve_sample(head.time, duration, numbers, t);
             past.set(past.get() || over);
-            value
+            Value::same(value)
         };
         let end = head.hold.unwrap_or(head.time + duration);
         self.fill(end, |t| if t < head.time { before } else { at(t) });
@@ -257,7 +251,7 @@ impl Walk<'_> {
         } else if head.hold.is_some() {
             self.consume(end, at(end))
         } else {
-            self.consume(end, numbers[numbers.len() - 1])
+            self.consume(end, Value::same(numbers[numbers.len() - 1]))
         };
         self.claims.note(Reach::Ends, "curve-index", past.get());
         done

@@ -1,13 +1,52 @@
-//! One session: drawn call by call, with the reference played along.
-//!
-//! A *plain* session contains no named difference that ends a comparison: a
-//! call that would bring one is drawn again or left out. A *wild* one takes
-//! every call as it is drawn.
+//! One session: drawn call by call, with the reference played along. Where a
+//! call would claim what the family does not take, it is drawn again or left out.
 
 use crate::draw::Draw;
-use reference::claims::{Claim, Reach};
+use reference::claims::{Claims, Reach};
 use reference::param::Reference;
 use reference::session::{Block, Call};
+
+/// What a session may claim.
+#[derive(Clone, Copy, PartialEq)]
+pub enum Family {
+    /// Nothing: all of it is equal bit for bit.
+    Clean,
+    /// No difference that ends the comparison.
+    Plain,
+    /// Anything.
+    Wild,
+}
+
+impl Family {
+    pub fn name(self) -> &'static str {
+        match self {
+            Family::Clean => "clean",
+            Family::Plain => "plain",
+            Family::Wild => "wild",
+        }
+    }
+
+    pub fn named(word: &str) -> Option<Self> {
+        [Self::Clean, Self::Plain, Self::Wild].into_iter().find(|f| f.name() == word)
+    }
+
+    fn takes(self, claims: &Claims) -> bool {
+        match self {
+            Family::Clean => claims.list.is_empty(),
+            Family::Plain => claims.list.iter().all(|c| c.reach != Reach::Ends),
+            Family::Wild => true,
+        }
+    }
+
+    /// Targets and exponentials are never clean, but for those that become steps.
+    pub fn themes(self) -> &'static [(Theme, &'static str)] {
+        if self == Family::Clean {
+            &CLEAN_THEMES
+        } else {
+            &THEMES
+        }
+    }
+}
 
 #[derive(Clone, Copy, PartialEq)]
 pub enum Theme {
@@ -28,41 +67,40 @@ pub const THEMES: [(Theme, &str); 6] = [
     (Theme::Mixed, "mixed"),
 ];
 
-/// What is asked of a session; `count` fixes that of every block but the last.
+const CLEAN_THEMES: [(Theme, &str); 4] = [THEMES[0], THEMES[1], THEMES[4], THEMES[5]];
+
+/// What is asked of a session; `count` is that of its first block.
 #[derive(Clone, Copy)]
 pub struct Wish {
-    pub wild: bool,
+    pub family: Family,
     pub theme: Theme,
     pub a_rate: bool,
     pub count: Option<usize>,
     /// Blocks with an input, in a hundred.
     pub inputs: usize,
-}
-
-pub struct Session {
-    pub calls: Vec<Call>,
-    /// All claims up to and with the first that ends the comparison.
-    pub claims: Vec<Claim>,
+    /// At least so many blocks, and up to two more.
+    pub blocks: usize,
 }
 
 struct Plan<'a> {
     draw: &'a mut Draw,
     wish: Wish,
     reference: Reference,
-    session: Session,
-    ended: bool,
+    calls: Vec<Call>,
     bounds: (f32, f32),
+    /// Times that events were given, and where curves end.
+    seen: Vec<f64>,
     /// Time and period of the next block, and its count as far as known.
     now: f64,
     period: f64,
     count: usize,
 }
 
-pub fn session(draw: &mut Draw, wish: Wish) -> Session {
+pub fn calls(draw: &mut Draw, wish: Wish) -> Vec<Call> {
     let mut plan = Plan::start(draw, wish);
-    let blocks = 3 + plan.draw.below(3);
+    let blocks = wish.blocks + plan.draw.below(3);
     for i in 0..blocks {
-        plan.choose_count(i + 1 == blocks);
+        plan.choose_count(i == 0);
         plan.events(if i == 0 { 5 } else { 3 });
         if plan.draw.percent(30) {
             plan.take(Call::State);
@@ -74,29 +112,33 @@ pub fn session(draw: &mut Draw, wish: Wish) -> Session {
             plan.take(Call::State);
         }
     }
-    plan.take(Call::State);
-    plan.session
+    if plan.calls.last() != Some(&Call::State) {
+        plan.take(Call::State);
+    }
+    plan.calls
 }
 
 impl<'a> Plan<'a> {
     fn start(draw: &'a mut Draw, wish: Wish) -> Self {
-        let session = Session { calls: Vec::new(), claims: Vec::new() };
         let period = draw.pick(&[1., 1., 0.5, 1. / 48000., 1. / 44100., 0.1, 1. / 3., 0.001]);
         let now = draw.pick(&[0., 0., 0., 0., 1., 1000., 0.3, 12345.678]) * period;
         let (bounds, count) = ((-10., 10.), 1);
-        let reference = Reference::empty();
-        let mut plan =
-            Plan { draw, wish, reference, session, ended: false, bounds, now, period, count };
-        if wish.wild && plan.draw.percent(10) {
+        let (reference, calls, seen) = (Reference::empty(), Vec::new(), Vec::new());
+        let mut plan = Plan { draw, wish, reference, calls, bounds, seen, now, period, count };
+        if plan.wild() && plan.draw.percent(10) {
             plan.period = plan.draw.pick(&[1e-300, 5e-324, 1e300, 1e307, 4., 1e-9]);
             plan.now = plan.draw.pick(&[0., 9007199254740992., 1e300, 1.7e308, 4503599627370495.5]);
         }
         plan.make();
-        if !wish.wild || plan.draw.percent(70) {
+        if !plan.wild() || plan.draw.percent(70) {
             let first = Call::Step(plan.value(), 0.);
             plan.take(first);
         }
         plan
+    }
+
+    fn wild(&self) -> bool {
+        self.wish.family == Family::Wild
     }
 
     fn make(&mut self) {
@@ -105,7 +147,7 @@ impl<'a> Plan<'a> {
         let wrong = [(1., 0., 2.), (0., f32::NAN, 1.), (-1., 2., 1.), (f32::NEG_INFINITY, 0., 1.)];
         let kind = self.draw.below(100);
         let (min, default, max) = match kind {
-            0..=1 if self.wish.wild => self.draw.pick(&wrong),
+            0..=1 if self.wild() => self.draw.pick(&wrong),
             2..=14 => self.draw.pick(&wide),
             _ => self.draw.pick(&usual),
         };
@@ -113,47 +155,48 @@ impl<'a> Plan<'a> {
         self.take(Call::Make { min, default, max, a_rate: self.wish.a_rate });
     }
 
-    /// Plays the call on the reference; in a plain session one that would end
-    /// the comparison is not taken.
+    /// Plays the call on the reference; false where the family does not take it.
     fn take(&mut self, call: Call) -> bool {
         let mut after = self.reference.clone();
         after.answer(&call);
-        let ends = after.claims.list.iter().any(|c| c.reach == Reach::Ends);
-        if ends && !self.wish.wild {
-            return false;
+        let taken = self.wish.family.takes(&after.claims);
+        if taken {
+            self.reference = after;
+            self.calls.push(call);
         }
-        for claim in &after.claims.list {
-            if !self.ended && !self.session.claims.contains(claim) {
-                self.session.claims.push(*claim);
-            }
-        }
-        self.ended |= ends;
-        self.reference = after;
-        self.session.calls.push(call);
-        true
+        taken
     }
 
-    fn choose_count(&mut self, last: bool) {
-        let often = self.draw.pick(&[1, 63, 64, 127, 128]);
+    /// The list's count for the first block and one in ten of the others, which
+    /// are short (the list is kept small); without one, often those of the list.
+    fn choose_count(&mut self, first: bool) {
+        let small = 1 + self.draw.below(8);
         let any = 1 + self.draw.below(128);
-        let small = 1 + self.draw.below(12);
-        let drawn = match self.draw.below(4) {
-            0 | 1 => often,
-            2 => small,
-            _ => any,
+        let often = self.draw.pick(&[1, 63, 64, 127, 128]);
+        self.count = match (self.wish.count, self.draw.below(20)) {
+            (Some(count), ..2) => count,
+            (Some(count), _) if first => count,
+            (Some(_), _) | (None, ..5) => small,
+            (None, 5..10) => any,
+            (None, _) => often,
         };
-        let short = last && self.draw.percent(30);
-        self.count = self.wish.count.filter(|_| !short).unwrap_or(drawn);
     }
 
     fn events(&mut self, most: usize) {
+        if self.wild() && self.draw.percent(4) {
+            return self.last_moment();
+        }
         for _ in 0..=self.draw.below(most) {
             let call = self.event();
             self.lead_in(&call);
+            self.remember(&call);
             self.take(call);
         }
-        if self.wish.wild && self.draw.percent(1) {
+        if self.wild() && self.draw.percent(1) {
             self.crowd();
+        }
+        if self.wild() && self.draw.percent(6) {
+            self.holds();
         }
     }
 
@@ -165,6 +208,34 @@ impl<'a> Plan<'a> {
                 let step = Call::Step(self.value(), *t);
                 self.take(step);
             }
+        }
+    }
+
+    /// One curve that ends a moment after the block does, by rounding or not.
+    fn last_moment(&mut self) {
+        let end = (self.count as f64).mul_add(self.period, self.now);
+        let start = self.draw.fraction().mul_add(end - self.now, self.now);
+        let numbers = (0..3 + self.draw.below(10)).map(|_| self.value()).collect();
+        let length = self.draw.pick(&[end - start, (end - start).next_up()]);
+        self.take(Call::Curve(start, length, numbers));
+    }
+
+    /// Holds with events between them.
+    fn holds(&mut self) {
+        for _ in 0..3 {
+            let call = self.themed();
+            self.take(call);
+            let call = Call::Hold(self.time());
+            self.take(call);
+        }
+    }
+
+    fn remember(&mut self, call: &Call) {
+        match call {
+            Call::Step(_, t) | Call::Linear(_, t) | Call::Exponential(_, t) => self.seen.push(*t),
+            Call::Target(_, t, _) | Call::Hold(t) => self.seen.push(*t),
+            Call::Curve(t, d, _) => self.seen.extend([*t, t + d]),
+            _ => (),
         }
     }
 
@@ -188,8 +259,9 @@ impl<'a> Plan<'a> {
             0..=5 => self.refused(),
             6..=11 => Call::Cancel(self.time()),
             12..=19 => Call::Hold(self.time()),
-            20..=24 if self.wish.wild => Call::Set(self.value()),
-            25..=26 if self.wish.wild => self.odd(),
+            20..=21 if self.wild() => Call::Set(self.value()),
+            22..=23 if self.wild() => self.odd(),
+            24..=26 if self.wild() => Call::Hold(self.time()),
             27..=44 => Call::Step(self.value(), self.time()),
             _ => self.themed(),
         }
@@ -209,7 +281,7 @@ impl<'a> Plan<'a> {
             Theme::Curve => {
                 let n = 2 + self.draw.below(self.wish.count.map_or(9, |_| 4));
                 let numbers = (0..n).map(|_| self.value()).collect();
-                Call::Curve(time, self.length(), numbers)
+                Call::Curve(time, self.length_from(time), numbers)
             }
         }
     }
@@ -259,15 +331,19 @@ impl<'a> Plan<'a> {
         }
     }
 
-    /// A time in or near the coming block: on and beside half samples and ends.
+    /// A time in or near the coming block: on and beside half samples and ends,
+    /// now and then one that an event already has.
     fn time(&mut self) -> f64 {
-        let reach = if self.wish.wild { 3. } else { 1.6 };
+        if !self.seen.is_empty() && self.draw.percent(10) {
+            return self.draw.pick(&self.seen);
+        }
+        let reach = if self.wild() { 3. } else { 1.6 };
         let places = reach * self.count as f64;
         let place = match self.draw.below(10) {
             0..=2 => (self.draw.fraction() * places).floor(),
             3..=4 => (self.draw.fraction() * places).floor() + 0.5,
             5 => self.count as f64 - self.draw.pick(&[0., 0.5, 1., 0.25, -0.5]),
-            6 if self.wish.wild => return self.draw.pick(&[0., self.now, 1e9 * self.period]),
+            6 if self.wild() => return self.draw.pick(&[0., self.now, 1e9 * self.period]),
             _ => self.draw.fraction() * places,
         };
         let time = place.mul_add(self.period, self.now);
@@ -284,10 +360,25 @@ impl<'a> Plan<'a> {
             0 => 0.01 + self.draw.fraction(),
             1 => 1. + self.draw.below(8) as f64,
             2 => self.draw.fraction() * 4. * self.count as f64 + 0.1,
-            3 if self.wish.wild => self.draw.pick(&[0., 1e-9, 1e9]),
+            3 if self.wild() => self.draw.pick(&[0., 1e-9, 1e9]),
             _ => self.draw.fraction() * self.count as f64 + 0.1,
         };
         samples * self.period
+    }
+
+    /// A duration: often one that ends where an event may be.
+    fn length_from(&mut self, start: f64) -> f64 {
+        let block_end = (self.count as f64).mul_add(self.period, self.now);
+        let end = if self.draw.percent(20) { block_end } else { self.time() };
+        if end <= start || self.draw.percent(50) {
+            return self.length();
+        }
+        let length = end - start;
+        if self.draw.percent(30) {
+            length.next_up()
+        } else {
+            length
+        }
     }
 
     fn input(&mut self) -> Vec<f32> {
@@ -308,7 +399,7 @@ impl<'a> Plan<'a> {
             let out = self.count + self.draw.below(2) * self.draw.below(4);
             let (time, period) = (self.now, self.period);
             let mut block = Block { time, period, count: self.count as u64, out, input };
-            if self.wish.wild && self.draw.percent(2) {
+            if self.wild() && self.draw.percent(2) {
                 self.spoil(&mut block);
             }
             if self.take(Call::Block(block)) {

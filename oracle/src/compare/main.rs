@@ -1,0 +1,134 @@
+//! The port beside the Rust, on random sessions.
+//!
+//! `compare RUST PORT FOLDER PAGE WORDS..`, called by the script of the same
+//! name with the two programs, this folder and docs/DIFFERENCES.md. WORDS:
+//! `[N [SEED]]`, `--self-test` or `--page` (see README.md). Ends with 1 if
+//! anything differed otherwise than the page names, with 2 if it cannot run.
+
+mod faults;
+mod page;
+mod shrink;
+mod sides;
+
+use comparing::family::random;
+use comparing::session::Session;
+use comparing::summary::Summary;
+use comparing::verdict::Verdict;
+use comparing::{out, plain};
+use page::Page;
+use sides::{Played, Side, Sides};
+use std::io::{IsTerminal, Write};
+use std::path::Path;
+
+/// Sessions given to a process at a time, and faults shown before it stops.
+const BATCH: usize = 200;
+const SHOWN: usize = 5;
+
+/// What is done, on standard error: one line rewritten, or one in ten parts.
+fn progress(done: usize, all: usize, otherwise: usize) {
+    let line = format!("{done} of {all} sessions, {otherwise} differed otherwise");
+    let mut err = std::io::stderr();
+    if err.is_terminal() {
+        let end = if done == all { "\n" } else { "" };
+        let _ = write!(err, "\r{line}{end}");
+    } else if done == all || (done * 10 / all) > (done.saturating_sub(BATCH) * 10 / all) {
+        let _ = writeln!(err, "{line}");
+    }
+}
+
+/// A session that shows what must not be, shrunk, with both answers.
+fn show(sides: &Sides, played: Played, what: &str, wanted: fn(&Verdict) -> bool) {
+    let title = played.session.title.clone();
+    let Played { session, ours, rust, verdict } = shrink::shrunk(sides, played, wanted);
+    let mut text = format!("\n{what}: session {title}, shrunk to {} calls\n", session.calls.len());
+    if let Some((i, fields)) = &verdict.otherwise {
+        text += &format!("(call {}: {fields})\n", i + 1);
+    }
+    text += &plain::session(&session.calls, "the port", &ours, &rust);
+    text += &format!("in the session language:\n{}", session.text());
+    if let Some(i) = verdict.not_01 {
+        let (port, by_01) = (&ours[i], &session.answers[i]);
+        text += &format!("call {}: the port says {port}\n    01 says {by_01}\n", i + 1);
+    }
+    out::print(&text);
+}
+
+/// Plays the sessions in batches; stops early once enough is wrong.
+fn run(sides: &Sides, n: usize, seed: u64) -> Summary {
+    let mut summary = Summary::default();
+    while summary.sessions < n && summary.otherwise.max(summary.not_01) < SHOWN {
+        let from = summary.sessions;
+        let batch = (from..n.min(from + BATCH)).map(|i| random(seed, i, None)).collect();
+        for played in sides.play(batch) {
+            summary.add(&played.session, &played.verdict);
+            let (otherwise, not_01) = (summary.otherwise, summary.not_01);
+            if played.verdict.otherwise.is_some() && otherwise <= SHOWN {
+                show(sides, played, "DIFFERED OTHERWISE", |v| v.otherwise.is_some());
+            } else if played.verdict.not_01.is_some() && not_01 <= SHOWN {
+                show(sides, played, "NOT WHAT 01 SAYS", |v| v.not_01.is_some());
+            }
+        }
+        progress(summary.sessions, n, summary.otherwise);
+    }
+    summary
+}
+
+/// What is wrong beside single sessions.
+fn shortcomings(summary: &Summary, page: &Page, n: usize) -> Vec<String> {
+    let mut all = Vec::new();
+    for name in summary.names().filter(|name| !page.has(name)) {
+        all.push(format!("the page does not name {name}"));
+    }
+    if summary.unclaimed * 2 < summary.sessions {
+        all.push("fewer than half of the sessions contain no named difference".to_string());
+    }
+    for kind in ["step", "linear", "curve"] {
+        if summary.tally.runs.get(kind).map_or(0, |runs| runs.all) * 10 < summary.sessions {
+            all.push(format!("fewer than one run of a {kind} in ten sessions"));
+        }
+    }
+    if summary.sessions < n {
+        all.push(format!("stopped after {} of {n} sessions", summary.sessions));
+    }
+    all
+}
+
+fn compare(sides: &Sides, page: &Page, n: usize, seed: u64) -> bool {
+    let (files, mut wrong) = page.faults(sides);
+    let found = wrong.len();
+    out::print(&format!("the page's {files} small sessions on both sides: {found} faults\n"));
+    let summary = run(sides, n, seed);
+    out::print(&format!("\nrandom sessions of seed {seed}: {summary}"));
+    wrong.extend(shortcomings(&summary, page, n));
+    wrong.iter().for_each(|line| out::print(&format!("WRONG: {line}\n")));
+    wrong.is_empty() && summary.otherwise == 0 && summary.not_01 == 0
+}
+
+fn main() {
+    let words: Vec<String> = std::env::args().skip(1).collect();
+    let (programs, rest) = words.split_at(words.len().min(4));
+    let [rust, port, folder, page] = programs else {
+        eprintln!("compare RUST PORT FOLDER PAGE [N [SEED] | --self-test | --page]");
+        std::process::exit(2);
+    };
+    let side = |path: &String| Side { path: path.into() };
+    let sides = Sides { rust: side(rust), port: side(port), fault: None };
+    let page = Page::read(Path::new(page), Path::new(folder).join("differences"));
+    let number = |i: usize, otherwise: u64| rest.get(i).map_or(Some(otherwise), |w| w.parse().ok());
+    let good = match (rest.first().map(String::as_str), number(0, 2000), number(1, 1)) {
+        (Some("--self-test"), ..) => {
+            let sessions: Vec<Session> = (0..BATCH).map(|i| random(1, i, None)).collect();
+            faults::self_test(&sides, &sessions)
+        }
+        (Some("--page"), ..) => {
+            page.print(&sides);
+            true
+        }
+        (_, Some(n), Some(seed)) => compare(&sides, &page, n as usize, seed),
+        _ => {
+            eprintln!("oracle/compare [N [SEED]], --self-test or --page");
+            std::process::exit(2);
+        }
+    };
+    std::process::exit(i32::from(!good));
+}
