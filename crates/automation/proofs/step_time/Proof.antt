@@ -1,0 +1,21 @@
+-- `step_time` meets its contract, branch by branch. Assumes nothing.
+use lib.Ieee as Ieee
+use Rattle.rules.specs.Numbers.{isZero}
+use Rattle.rules.specs.Walk.{stepTime}
+use Rattle.automation.proofs.step_time.Statement.{statement}
+use Rattle.automation.proofs.step_time.Tie as tie
+use Rattle.automation.proofs.step_time.Reads as reads
+use Rattle.automation.proofs.step_time.Lts as lts
+
+-- src/lib.rt:38:1
+returns : tie.Need-returns
+unfolding stepTime isZero Ieee.ofBits
+returns c = rw (c .if1 .taken)
+
+-- src/lib.rt:38:1
+returns-2 : tie.Need-returns-2
+unfolding stepTime isZero Ieee.ofBits
+returns-2 c = rw (c .if1 .left)
+
+pub step-time-spec : {M : Type 1} → statement M
+step-time-spec = tie.close (tie.spec returns returns-2)
