@@ -1,0 +1,91 @@
+-- `cancel_and_hold_at_time` meets its contract. Assumes nothing.
+use mathlib.Core.List.{List}
+use mathlib.Core.Path.{_≡_, refl, sym, _∙_}
+use Prim.Native.Nat.{_≤_}
+use native.Mathlib.Omega.{arith}
+use lib.Ieee.{Float}
+use borrow.Author.Needs.{needs}
+use denote.Ref.{now}
+use Rattle.rules.specs.declared.Verdict.the-variants as Verdict
+use Rattle.rules.specs.Numbers.{storeLength, takenTime}
+use Rattle.rules.specs.Queue.{lengthsOf, attached, held}
+use Rattle.rules.specs.Refusals.{lowest, cancelRows}
+use Rattle.rules.specs.Block.{called}
+use Rattle.laws.proofs.Answers.{refused-called}
+use Rattle.laws.proofs.Rows.{cancel-answered}
+use Rattle.param.specs.Param.{paramOf}
+use Rattle.param.proofs.Calls.{leaves, keeps}
+use Rattle.param.proofs.AudioParam.cancel_and_hold_at_time.Statement.{statement}
+use Rattle.param.proofs.AudioParam.cancel_and_hold_at_time.Tie as tie
+
+-- the store that is lent
+abbrev lent : tie.Start → List Float
+lent c = now (c .args .store)
+
+verdict : (c : tie.After-cancel) → c .cancel .result ≡ lowest (cancelRows (lent (c .before .before)) (c .before .before .args .cancel-time))
+verdict c = c .cancel .ensures (lent (c .before .before)) refl
+
+fine : (c : tie.After-enum-told) → lowest (cancelRows (lent (c .before .before .before .before)) (c .before .before .before .before .args .cancel-time)) ≡ Verdict.Answered
+fine c = sym (verdict (c .before .before)) ∙ c .enum-told .given .1
+
+cancel-requires : tie.Need-cancel-requires
+cancel-requires c κs = search needs
+
+enum-told : tie.Need-enum-told
+enum-told c = search needs
+
+taken-time-requires : tie.Need-taken-time-requires
+taken-time-requires c κs = search needs
+
+hold-requires : tie.Need-hold-requires
+hold-requires c κs =
+    let start = c .before .before .before .before .before .before .before in
+    let r : lengthsOf (paramOf (start .args .self) .queue) ≤ storeLength = start .pre .sound .waiting .room in
+    (start .pre .neat, omega (arith, cancel-answered (lent start) (start .args .cancel-time) (fine (c .before .before .before)) .lent))
+
+answered-requires : tie.Need-answered-requires
+answered-requires c κs = search needs
+
+enum-told-2 : tie.Need-enum-told-2
+enum-told-2 c = search needs
+
+same-length : tie.Need-same-length
+same-length c = search needs
+
+returns : tie.Need-returns
+unfolding called
+returns c =
+    let start = c .before .before .before .before .before .before .before .before .before .before .before in
+    let p = start .args .self in
+    let time = takenTime (start .args .cancel-time) in
+    let ws = attached (paramOf p .queue) (lent start) in
+    leaves
+    (start .pre)
+    (held time ws)
+    (p .intrinsic)
+    (rw (fine (c .before .before .before .before .before .before .before)))
+    (cancel-answered (lent start) (start .args .cancel-time) (fine (c .before .before .before .before .before .before .before)) .lent)
+    (rw (c .before .before .before .before .before .before .taken-time .ensures) at (c .before .before .before .hold .ensures))
+    (c .answered .ensures)
+
+returns-2 : tie.Need-returns-2
+unfolding called
+returns-2 c =
+    keeps
+    (c .before .before .before .before .pre)
+    (refused-called _ _ _ _ _ _ (sym (verdict (c .before .before)) ∙ c .enum-told2 .given .1))
+    (rw (c .enum-told2 .given .1))
+
+pub cancel-and-hold-at-time-spec : {M : Type 1} → statement M
+cancel-and-hold-at-time-spec =
+    tie.close
+    (tie.spec
+    cancel-requires
+    enum-told
+    taken-time-requires
+    hold-requires
+    answered-requires
+    enum-told-2
+    same-length
+    returns
+    returns-2)

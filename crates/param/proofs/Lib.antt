@@ -1,0 +1,5 @@
+pub mod Calls
+pub mod Settled
+pub mod Parts
+pub mod Plays
+pub mod Blocks

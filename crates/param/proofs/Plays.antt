@@ -1,0 +1,174 @@
+-- What a block's events leave, and what the whole block answers by that. Assumes nothing.
+use mathlib.Core.Path.{_≡_, refl, sym, ap, _∙_}
+use mathlib.Core.Bool.{Bool, true, false}
+use mathlib.Core.List.{List, [], _∷_}
+use Prim.Native.Nat.{ℕ, _≤_}
+use native.Mathlib.Omega.{arith}
+use lib.ListN.{length, take, drop, set, replicate, length-drop}
+use lib.Ieee.{Float}
+use Rattle.rules.specs.declared.AutomationRate.{AutomationRate}
+use Rattle.rules.specs.declared.AutomationRate.the-variants as Rate
+use Rattle.rules.specs.declared.BlockInfos.{BlockInfos}
+use Rattle.rules.specs.declared.Event.{Event}
+use Rattle.rules.specs.declared.Head.the-variants as Head
+use Rattle.rules.specs.declared.MaybeTime.the-variants as MaybeTime
+use Rattle.rules.specs.declared.Refusal.{Refusal}
+use Rattle.rules.specs.declared.Verdict.{Verdict}
+use Rattle.rules.specs.declared.Verdict.the-variants as Verdict
+use Rattle.rules.specs.Numbers.{mostCount, mostEvents, storeLength, plusZero}
+use Rattle.rules.specs.Queue.{Waiting, headOf, eventsOf, lengthsOf, attached}
+use Rattle.rules.specs.Walk as Rules
+use Rattle.rules.specs.Mix.{mixed}
+use Rattle.rules.specs.Block.{Call, Answer, infosOf, restsFor, walkFrom, valuesBefore, renderedAs, rendered, saysOne, outputOf, answerOf, verdictOf, answered}
+use Rattle.laws.proofs.Places.{FilledSoFar, walk-fills}
+use Rattle.laws.proofs.Events.{events-attached, events-drop}
+use Rattle.laws.proofs.Kept.{answered-sound}
+use Rattle.laws.proofs.Rows.{Played as Given}
+use Rattle.laws.proofs.Answers.{given, answer-is, refused-block}
+use Rattle.timeline.specs.declared.AudioParamEventTimeline.{AudioParamEventTimeline}
+use Rattle.timeline.specs.Timeline.{Neat, made, waiting, firstOf}
+use Rattle.timeline.proofs.Laws.{waits-of, neat-of, count}
+use Rattle.curves.specs.Curves.{Leaves}
+use Rattle.curves.proofs.Calls.{packed-whole, leaves-replaced}
+use Rattle.automation.specs.declared.Walked.{Walked}
+use Rattle.automation.specs.Walks.{waitingAs}
+use Rattle.automation.specs.Walked.{withHead, Walks}
+use Rattle.block.specs.Asked.{Given as FilledFor, Fitting, written}
+use Rattle.param.specs.declared.AudioParam.{AudioParam}
+use Rattle.param.specs.declared.process.Played.{Played}
+use Rattle.param.specs.declared.Processed.{Processed}
+use Rattle.param.specs.Param.{paramOf, structOf, partsOf, SoundParam}
+use Rattle.param.specs.Processed.{Playable, playedBy, Plays, Processes}
+use Rattle.param.proofs.Calls.{whole, struct-sound, head-attached}
+
+-- ---- the queue behind a walk
+
+-- what is left is a queue
+pub left-neat : (q r : AudioParamEventTimeline) (n : ℕ) {part after : List Float} → Neat q → Leaves r part after (drop n (attached (waiting q) part)) → Neat r
+left-neat q r n {part} h l =
+    let e : eventsOf (drop n (attached (waiting q) part)) ≡ drop n (waiting q) = events-drop n (attached (waiting q) part) ∙ ap (drop n) (events-attached (waiting q) part) in
+    let f : q .len ≤ mostEvents = h .few in
+    let m : length (waiting q) ≡ q .len = count q h in
+    let d : length (drop n (waiting q)) ≤ mostEvents = rw length-drop (omega arith) in
+    neat-of r (drop n (waiting q)) (l .queue ∙ ap made e) d
+
+-- its head is what it has become
+pub leaves-head : (q r : AudioParamEventTimeline) (e : Event) (ws : List Waiting) {before after : List Float} → Leaves q before after ws
+    → r ≡ made (set (waiting q) 0 e) → Leaves r before after (withHead (Head.Event e) ws)
+unfolding withHead eventsOf
+leaves-head q r e [] h f = record { queue = f ∙ ap (λ (es : List Event). made (set es 0 e)) (waits-of q [] (h .queue)); part = h .part }
+leaves-head q r e (w ∷ ws) {before} {after} h f = leaves-replaced q r before after w (waitingAs e (w .numbers)) ws h refl f
+
+-- ---- a block's events
+
+before-few : (count : ℕ) (r : AutomationRate) (v : Float) → FilledSoFar r count (length (valuesBefore r v))
+unfolding valuesBefore
+before-few count Rate.A v = omega arith
+before-few count Rate.K v = refl
+
+module _ (p : AudioParam) (f : BlockInfos) (input output part : List Float) (g : Playable p f input output part) where
+  -- none of them reaches into it
+  pub rests : {q : AudioParamEventTimeline} {out left : List Float} → Leaves q part left (drop 0 (attached (paramOf p .queue) part))
+      → out ≡ written (p .bounds) f input (replicate (f .count) (p .intrinsic)) output
+      → Plays p f true input output part (record { timeline = q; intrinsic = p .intrinsic; last = p .last; steps = 1 }) out left
+  unfolding renderedAs
+  rests l o = record { queue = l; intrinsic = refl; last = refl; steps = refl; samples = o }
+
+  -- they are walked
+  module _ {b c : List Float} {done : Walked} (w : Walks f (walkFrom (p .intrinsic) (p .last) (valuesBefore (f .rate) (p .intrinsic)) 0) (paramOf p .queue) part b done c) where
+    values-are : take (done .walk .filled) c ≡ playedBy p f false part .walk .values
+    unfolding renderedAs
+    values-are = ap (λ (x : Rules.Walk). x .values) (w .walk)
+
+    pub walk-given : FilledFor f (take (done .walk .filled) c)
+    unfolding renderedAs
+    walk-given = rw values-are (walk-fills f _ _ (before-few (f .count) (f .rate) (p .intrinsic)))
+
+    pub walks : {q : AudioParamEventTimeline} {out left : List Float} → Leaves q part left (withHead (done .head) (drop (done .at) (attached (paramOf p .queue) part)))
+        → out ≡ written (p .bounds) f input (take (done .walk .filled) c) output
+        → Plays p f false input output part (record { timeline = q; intrinsic = done .walk .intrinsic; last = done .walk .last; steps = done .walk .steps }) out left
+    unfolding renderedAs
+    walks l o =
+        record {
+          queue = rw (w .queue) at l;
+          intrinsic = ap (λ (x : Rules.Walk). x .intrinsic) (w .walk);
+          last = ap (λ (x : Rules.Walk). x .last) (w .walk);
+          steps = ap (λ (x : Rules.Walk). x .steps) (w .walk);
+          samples = o ∙ ap (λ (vs : List Float). written (p .bounds) f input vs output) values-are;
+        }
+
+-- ---- the block
+
+module _ (p : AudioParam) (store : List Float) (c : Call) (s : SoundParam p) where
+  -- by what the rules answer
+  processes : {r : Processed} {out left : List Float} (a : Answer) → answered (paramOf p) store c ≡ a → r .verdict ≡ a .verdict → r .param ≡ structOf (a .param)
+      → r .steps ≡ a .steps → r .current ≡ a .current → r .one ≡ a .oneValued → out ≡ a .output → left ≡ a .store → Processes p store c r out left
+  processes {r} a is v q n i o out left =
+      record {
+        verdict = rw is v;
+        param = rw is q;
+        steps = rw is n;
+        current = rw is i;
+        one = rw is o;
+        written = rw is out;
+        left = rw is left;
+        sound = rw (q ∙ ap (λ (x : Answer). structOf (x .param)) (sym is)) (struct-sound (answered (paramOf p) store c .param) (answered-sound (paramOf p) store (s .sound) c));
+      }
+
+  pub refuses : {v : Verdict} {why : Refusal} → v ≡ verdictOf (paramOf p) store c → v ≡ Verdict.Refused why
+      → Processes p store c (record { verdict = v; param = p; steps = 0; current = plusZero; one = false }) (c .output) store
+  refuses {v} {why} e h = processes _ (refused-block (paramOf p) store c why (sym e ∙ h)) h (whole p s) refl refl refl refl refl
+
+  module _ {v : Verdict} (e : v ≡ verdictOf (paramOf p) store c) (h : v ≡ Verdict.Answered) where
+    abbrev infos : BlockInfos
+    infos = infosOf (p .rate) c
+
+    fine : verdictOf (paramOf p) store c ≡ Verdict.Answered
+    fine = sym e ∙ h
+
+    asked-for : Given mostCount (p .block) store (c .time) (c .period) (c .count) (c .input) (c .output)
+    asked-for = given (paramOf p) store c fine
+
+    pub few : c .count ≤ mostCount
+    few = asked-for .few
+
+    module _ {f : BlockInfos} (is : f ≡ infosOf (p .rate) c) where
+      pub playable : Playable p f (c .input) (c .output) store
+      unfolding infosOf
+      playable =
+          let r : lengthsOf (paramOf p .queue) ≤ storeLength = s .sound .waiting .room in
+          let l : length store ≡ storeLength = asked-for .lent in
+          rw is
+          (record {
+            param = s;
+            fits = record { some = asked-for .some; room = asked-for .room; lent = asked-for .input-fits };
+            few = asked-for .few;
+            room = omega arith;
+          })
+
+      pub plays : {rests one : Bool} {current : Float} {r : Played} {out left : List Float} → rests ≡ restsFor f (firstOf (paramOf p .queue))
+          → Plays p f rests (c .input) (c .output) store r out left → current ≡ mixed (p .bounds) plusZero (p .intrinsic) → one ≡ saysOne (p .rate) rests (c .input)
+          → Processes p store c
+          (record {
+            verdict = v;
+            param = partsOf (p .bounds) (p .rate) (r .intrinsic) (r .timeline) (MaybeTime.At (f .time)) (r .last);
+            steps = r .steps;
+            current = current;
+            one = one;
+          }) out left
+      unfolding answerOf outputOf written infosOf rendered
+      plays {rests} {one} {current} {r} {out} {left} t g i o =
+          let ws = attached (paramOf p .queue) store in
+          let here : rests ≡ restsFor infos (headOf ws) = t ∙ ap (λ (x : BlockInfos). restsFor x (firstOf (paramOf p .queue))) is ∙ ap (restsFor infos) (sym (head-attached (paramOf p .queue) store)) in
+          let done : playedBy p infos rests store ≡ rendered infos (p .intrinsic) (p .last) ws = rw here in
+          let g' : Plays p infos rests (c .input) (c .output) store r out left = rw is at g in
+          processes
+          (answerOf (paramOf p) ws c (rendered infos (p .intrinsic) (p .last) ws))
+          (answer-is (paramOf p) store c fine)
+          h
+          (rw (is, ← done, g' .intrinsic, g' .last, g' .queue .queue))
+          (rw (← done, g' .steps))
+          i
+          (rw (← here, o))
+          (rw (← done, g' .samples))
+          (rw (← done) (g' .queue .part ∙ packed-whole store _ (asked-for .lent)))

@@ -1,0 +1,2 @@
+pub mod Param
+pub mod Processed

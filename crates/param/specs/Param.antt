@@ -1,0 +1,110 @@
+-- The parameter as code holds it, and what each call ensures: one relation for a kind of call, by document 01's rules.
+use mathlib.Core.Path.{_≡_}
+use mathlib.Core.Bool.{Bool, cond, _&&_}
+use mathlib.Core.List.{List, [], _∷_, _++_}
+use Prim.Native.Nat.{_<_}
+use lib.Dec.{leb}
+use lib.ListN.{length}
+use lib.Ieee.{Float}
+use Rattle.rules.specs.declared.Bounds.{Bounds}
+use Rattle.rules.specs.declared.AutomationRate.{AutomationRate}
+use Rattle.rules.specs.declared.AutomationRate.the-variants as Rate
+use Rattle.rules.specs.declared.MaybeTime.{MaybeTime}
+use Rattle.rules.specs.declared.LastEvent.{LastEvent}
+use Rattle.rules.specs.declared.Refusal.the-variants as Refusal
+use Rattle.rules.specs.declared.Event.{Event}
+use Rattle.rules.specs.declared.Verdict.{Verdict}
+use Rattle.rules.specs.declared.Verdict.the-variants as Verdict
+use Rattle.rules.specs.Numbers.{plusZero, mostEvents}
+use Rattle.rules.specs.Refusals.{lowest, makingRows}
+use Rattle.rules.specs.Block.{Param, fresh, made, withQueue, Command, Called, called}
+use Rattle.laws.specs.Sound.{Sound, isSound}
+use Rattle.timeline.specs.declared.AudioParamEventTimeline.{AudioParamEventTimeline}
+use Rattle.timeline.specs.Timeline.{made as queueOf, waiting, Neat}
+use Rattle.param.specs.declared.AudioParam.{AudioParam}
+use Rattle.param.specs.declared.Outcome.{Outcome}
+
+-- ---- the parameter
+
+-- the rules' parameter that a struct stands for
+abbrev pub paramOf : AudioParam → Param
+paramOf p =
+    record {
+      bounds = p .bounds;
+      rate = p .rate;
+      intrinsic = p .intrinsic;
+      queue = waiting (p .timeline);
+      lastBlock = p .block;
+      last = p .last;
+    }
+
+-- the one struct that stands for a parameter: the slots behind its queue are blank
+abbrev pub structOf : Param → AudioParam
+structOf p =
+    record {
+      bounds = p .bounds;
+      rate = p .rate;
+      intrinsic = p .intrinsic;
+      timeline = queueOf (p .queue);
+      block = p .lastBlock;
+      last = p .last;
+    }
+
+-- what every parameter is that these calls give back, and all that they ask of one
+pub record SoundParam (p : AudioParam) : Type 0 where
+  pub neat : Neat (p .timeline)
+  pub sound : Sound (paramOf p)
+
+-- ---- what the calls ensure
+
+-- the constructor
+pub record Makes (b : Bounds) (rate : AutomationRate) (r : Outcome) : Type 0 where
+  pub verdict : r .verdict ≡ lowest (makingRows b)
+  pub param : r .param ≡ structOf (made b rate)
+  pub sound : SoundParam (r .param)
+
+-- a call that schedules or cancels: `store` is lent to it, and left as `after`; both are [] where none is lent
+pub record Answers (p : AudioParam) (store : List Float) (c : Command) (r : Outcome) (after : List Float) : Type 0 where
+  pub verdict : r .verdict ≡ called (paramOf p) store c .verdict
+  pub param : r .param ≡ structOf (called (paramOf p) store c .param)
+  pub left : after ≡ called (paramOf p) store c .store
+  pub sound : SoundParam (r .param)
+
+-- ---- a parameter of its parts
+
+abbrev pub partsOf : Bounds → AutomationRate → Float → AudioParamEventTimeline → MaybeTime → LastEvent → AudioParam
+partsOf b rate v q t l = record { bounds = b; rate = rate; intrinsic = v; timeline = q; block = t; last = l }
+
+-- whether parts make a parameter: slots behind the length do not count
+unfoldable pub isWhole : AudioParam → Bool
+isWhole p = leb (p .timeline .len) mostEvents && isSound (paramOf p)
+
+-- "Refusal 1 returns an empty A-rate parameter with all numbers 0."
+abbrev pub nothingMade : Param
+nothingMade = fresh (record { min = plusZero; default = plusZero; max = plusZero }) Rate.A
+
+abbrev pub unmade : Outcome
+unmade = record { verdict = Verdict.Refused Refusal.Bounds; param = structOf nothingMade }
+
+-- Parts that make a parameter give it, their other slots blank. All others are refused as bad bounds are, by refusal 1 and with what it returns (ours).
+pub record Restores (parts : AudioParam) (r : Outcome) : Type 0 where
+  pub gives : r ≡ cond (isWhole parts) (record { verdict = Verdict.Answered; param = structOf (paramOf parts) }) unmade
+  pub sound : SoundParam (r .param)
+
+-- ---- what private functions give back
+
+-- a call's answer, as code has it
+abbrev pub outcomeOf : Called → Outcome
+outcomeOf c = record { verdict = c .verdict; param = structOf (c .param) }
+
+-- an answered call: another queue, another intrinsic value, and else the same parameter
+abbrev pub answeredWith : AudioParam → AudioParamEventTimeline → Float → Outcome
+answeredWith p q v = record { verdict = Verdict.Answered; param = partsOf (p .bounds) (p .rate) v q (p .block) (p .last) }
+
+-- one more event can wait where a call is answered
+abbrev pub HasRoom : Verdict → List Event → Type 0
+HasRoom v q = v ≡ Verdict.Answered → length q < mostEvents
+
+-- one event more behind all others
+abbrev pub withEvent : AudioParam → Event → AudioParam
+withEvent p e = structOf (withQueue (paramOf p .queue ++ (e ∷ [])) (paramOf p))

@@ -1,0 +1,441 @@
+// One parameter: its constructor, and the calls that schedule and cancel its events.
+ghost use mathlib.Core.Path.{_≡_};
+ghost use mathlib.Core.List.{List, []};
+ghost use lib.Dec.{leb};
+ghost use lib.ListN.{length, take, drop};
+ghost use Rattle.rules.specs.Numbers.{mostEvents};
+ghost use Rattle.rules.specs.Queue.{Waiting, headOf, lengthsOf, losesRamp, valueAfterCancel, targetEvent};
+ghost use Rattle.rules.specs.Block.{fresh, scheduledAs, set, step, linear, exponential, target, curve, cancel, hold};
+ghost use Rattle.timeline.specs.Timeline.{made, firstOf};
+ghost use Rattle.param.specs.Param.{paramOf, structOf, outcomeOf, SoundParam, HasRoom, unmade, answeredWith, Makes, Answers, partsOf, withEvent, isWhole, Restores};
+use floats::is_zero64;
+use floats::taken_time;
+use rules::AutomationRate;
+use rules::Bounds;
+use rules::Event;
+use rules::Head;
+use rules::LastEvent;
+use rules::MaybeTime;
+use rules::Refusal;
+use rules::Verdict;
+use timeline::AudioParamEventTimeline;
+use timeline::filed_under;
+use timeline::is_ramp;
+use timeline::length_of;
+
+mod process; // process.rt: the block
+
+pub struct AudioParam {
+    bounds: Bounds,
+    rate: AutomationRate,
+    intrinsic: f32,
+    timeline: AudioParamEventTimeline,
+    // the time of the last answered block
+    block: MaybeTime,
+    // the last finished event
+    last: LastEvent,
+}
+
+// What a call says, and the parameter after it.
+pub struct Outcome {
+    pub verdict: Verdict,
+    pub param: AudioParam,
+}
+
+// What a block says, and the parameter after it. `one` says that all its samples are one value.
+pub struct Processed {
+    pub verdict: Verdict,
+    pub param: AudioParam,
+    pub steps: usize,
+    pub current: f32,
+    pub one: bool,
+}
+
+// A target with time constant 0 is a step.
+fn target_event(value: f32, time: f64, constant: f64) -> Event
+    ensures { λ r. ⌜ r ≡ targetEvent value time constant ⌝ }
+{
+    if is_zero64(constant) {
+        Event::Step { value, time }
+    } else {
+        Event::Target {
+            value,
+            time,
+            constant,
+            hold: MaybeTime::Missing,
+        }
+    }
+}
+
+// Whether a cancel at c removes a ramp from the head.
+fn loses_ramp(c: f64, head: Head) -> bool
+    ensures { λ r. ⌜ r ≡ losesRamp c head ⌝ }
+{
+    match head {
+        Head::Empty => false,
+        Head::Event(e) => is_ramp(e) & !(filed_under(e) < c),
+    }
+}
+
+// The intrinsic value after a cancel at c: the last event's, if a ramp goes from the head and there is one.
+fn value_after_cancel(c: f64, head: Head, last: LastEvent, value: f32) -> f32
+    ensures { λ r. ⌜ ((ws : List Waiting) → headOf ws ≡ head → r ≡ valueAfterCancel c ws last value) ⌝ }
+{
+    if loses_ramp(c, head) {
+        match last {
+            LastEvent::None => value,
+            LastEvent::Done(l) => l.value,
+        }
+    } else {
+        value
+    }
+}
+
+impl AudioParam {
+    // How many events can wait.
+    pub const EVENTS: usize = 64;
+    // How many numbers all waiting curves can have, and the curve store does.
+    pub const STORE: usize = 4096;
+    // How many samples a block can have.
+    pub const COUNT: usize = 128;
+
+    // A parameter for which nothing waits, and no block is answered.
+    fn fresh(bounds: Bounds, rate: AutomationRate) -> AudioParam
+        ensures { λ r. ⌜ r ≡ structOf (fresh bounds rate) ⌝ }
+    {
+        AudioParam {
+            bounds,
+            rate,
+            intrinsic: bounds.default,
+            timeline: AudioParamEventTimeline::new(),
+            block: MaybeTime::Missing,
+            last: LastEvent::None,
+        }
+    }
+
+    pub fn new(bounds: Bounds, rate: AutomationRate) -> Outcome
+        ensures { λ r. ⌜ Makes bounds rate r ⌝ }
+    {
+        if refusals::are_bounds(bounds) {
+            let param = AudioParam::fresh(bounds, rate);
+            Outcome {
+                verdict: Verdict::Answered,
+                param,
+            }
+        } else {
+            AudioParam::refused()
+        }
+    }
+
+    // What refusal 1 gives back: an empty A-rate parameter with all numbers 0.
+    fn refused() -> Outcome
+        ensures { λ r. ⌜ r ≡ unmade ⌝ }
+    {
+        let zero = Bounds {
+            min: 0.0,
+            default: 0.0,
+            max: 0.0,
+        };
+        let param = AudioParam::fresh(zero, AutomationRate::A);
+        Outcome {
+            verdict: Verdict::Refused(Refusal::Bounds),
+            param,
+        }
+    }
+
+    pub fn bounds(self) -> Bounds
+        ensures { λ r. ⌜ r ≡ paramOf self .bounds ⌝ }
+    {
+        self.bounds
+    }
+
+    pub fn automation_rate(self) -> AutomationRate
+        ensures { λ r. ⌜ r ≡ paramOf self .rate ⌝ }
+    {
+        self.rate
+    }
+
+    pub fn intrinsic_value(self) -> f32
+        ensures { λ r. ⌜ r ≡ paramOf self .intrinsic ⌝ }
+    {
+        self.intrinsic
+    }
+
+    // The last finished event.
+    pub fn last_event(self) -> LastEvent
+        ensures { λ r. ⌜ r ≡ paramOf self .last ⌝ }
+    {
+        self.last
+    }
+
+    // The time of the last answered block.
+    pub fn last_block_time(self) -> MaybeTime
+        ensures { λ r. ⌜ r ≡ paramOf self .lastBlock ⌝ }
+    {
+        self.block
+    }
+
+    // How many events wait.
+    pub fn len(self) -> usize
+        requires { ⌜ SoundParam self ⌝ }
+        ensures { λ r. ⌜ r ≡ length (paramOf self .queue) ⌝ }
+    {
+        self.timeline.len
+    }
+
+    // The event at a place of the queue, or that none waits there.
+    pub fn event_at(self, i: usize) -> Head
+        requires { ⌜ SoundParam self ⌝ }
+        ensures { λ r. ⌜ r ≡ firstOf (drop i (paramOf self .queue)) ⌝ }
+    {
+        let q = self.timeline;
+        q.event_at(i)
+    }
+
+    // Where the numbers of the event at a place begin in the curve store.
+    pub fn offset_of(self, i: usize) -> usize
+        requires { ⌜ SoundParam self ⌝ }
+        ensures { λ r. ⌜ r ≡ lengthsOf (take i (paramOf self .queue)) ⌝ }
+    {
+        let q = self.timeline;
+        q.offset_of(i)
+    }
+
+    // Whether as many events wait as can.
+    fn is_full(self) -> bool
+        requires { ⌜ SoundParam self ⌝ }
+        ensures { λ r. ⌜ r ≡ leb mostEvents (length (paramOf self .queue)) ⌝ }
+    {
+        AudioParam::EVENTS <= self.timeline.len
+    }
+
+    // The same parameter with another queue and intrinsic value: what an answered call gives back.
+    fn answered(self, timeline: AudioParamEventTimeline, intrinsic: f32) -> Outcome
+        ensures { λ r. ⌜ r ≡ answeredWith self timeline intrinsic ⌝ }
+    {
+        let mut p = self;
+        p.timeline = timeline;
+        p.intrinsic = intrinsic;
+        Outcome {
+            verdict: Verdict::Answered,
+            param: p,
+        }
+    }
+
+    // Where the verdict is that the call is answered, the event waits; else nothing changes.
+    fn schedule(self, verdict: Verdict, e: Event) -> Outcome
+        requires { ⌜ SoundParam self × HasRoom verdict (paramOf self .queue) ⌝ }
+        ensures { λ r. ⌜ r ≡ outcomeOf (scheduledAs verdict (paramOf self) [] e) ⌝ }
+    {
+        match verdict {
+            Verdict::Answered => {
+                let q = self.timeline;
+                self.answered(q.push(e), self.intrinsic)
+            }
+            Verdict::Refused(_) => Outcome {
+                verdict,
+                param: self,
+            },
+        }
+    }
+
+    // An immediate set: a step at time 0.
+    pub fn set_value(self, value: f32) -> Outcome
+        requires { ⌜ SoundParam self ⌝ }
+        ensures { λ r. ⌜ Answers self [] (set value) r [] ⌝ }
+    {
+        self.set_value_at_time(value, 0.0)
+    }
+
+    pub fn set_value_at_time(self, value: f32, start_time: f64) -> Outcome
+        requires { ⌜ SoundParam self ⌝ }
+        ensures { λ r. ⌜ Answers self [] (step value «start_time») r [] ⌝ }
+    {
+        let verdict = refusals::value(self.is_full(), value, start_time);
+        let time = taken_time(start_time);
+        self.schedule(verdict, Event::Step { value, time })
+    }
+
+    pub fn linear_ramp_to_value_at_time(self, value: f32, end_time: f64) -> Outcome
+        requires { ⌜ SoundParam self ⌝ }
+        ensures { λ r. ⌜ Answers self [] (linear value «end_time») r [] ⌝ }
+    {
+        let verdict = refusals::value(self.is_full(), value, end_time);
+        let time = taken_time(end_time);
+        let hold = MaybeTime::Missing;
+        self.schedule(verdict, Event::Linear { value, time, hold })
+    }
+
+    pub fn exponential_ramp_to_value_at_time(self, value: f32, end_time: f64) -> Outcome
+        requires { ⌜ SoundParam self ⌝ }
+        ensures { λ r. ⌜ Answers self [] (exponential value «end_time») r [] ⌝ }
+    {
+        let verdict = refusals::exponential(self.is_full(), value, end_time);
+        let time = taken_time(end_time);
+        let hold = MaybeTime::Missing;
+        self.schedule(verdict, Event::Exponential { value, time, hold })
+    }
+
+    pub fn set_target_at_time(self, value: f32, start_time: f64, time_constant: f64) -> Outcome
+        requires { ⌜ SoundParam self ⌝ }
+        ensures { λ r. ⌜ Answers self [] (target value «start_time» «time_constant») r [] ⌝ }
+    {
+        let verdict = refusals::target(self.is_full(), value, start_time, time_constant);
+        let time = taken_time(start_time);
+        self.schedule(verdict, target_event(value, time, time_constant))
+    }
+
+    pub fn set_value_curve_at_time(
+        self,
+        values: &[f32],
+        start_time: f64,
+        duration: f64,
+        store: &mut [f32],
+    ) -> Outcome
+        requires { ⌜ SoundParam self ⌝ }
+        ensures { λ r. ⌜ Answers self (now (store .entry)) (curve «start_time» duration (now (values .entry))) r (now (store .exit)) ⌝ }
+    {
+        let q = self.timeline;
+        let full = self.is_full();
+        let crowded = AudioParam::STORE - q.lengths() < values.len();
+        let lent = store.len() == AudioParam::STORE;
+        let verdict = refusals::curve(values, start_time, duration, full, crowded, lent);
+        match verdict {
+            Verdict::Answered => {
+                let start = taken_time(start_time);
+                let q = curves::insert(q, start, duration, values, store);
+                self.answered(q, self.intrinsic)
+            }
+            Verdict::Refused(_) => Outcome {
+                verdict,
+                param: self,
+            },
+        }
+    }
+
+    pub fn cancel_scheduled_values(self, cancel_time: f64, store: &mut [f32]) -> Outcome
+        requires { ⌜ SoundParam self ⌝ }
+        ensures { λ r. ⌜ Answers self (now (store .entry)) (cancel «cancel_time») r (now (store .exit)) ⌝ }
+    {
+        let verdict = refusals::cancel(cancel_time, store.len() == AudioParam::STORE);
+        match verdict {
+            Verdict::Answered => {
+                let c = taken_time(cancel_time);
+                let q = self.timeline;
+                let last = self.last;
+                let value = value_after_cancel(c, q.peek(), last, self.intrinsic);
+                let q = curves::cancel(q, c, store);
+                self.answered(q, value)
+            }
+            Verdict::Refused(_) => Outcome {
+                verdict,
+                param: self,
+            },
+        }
+    }
+
+    pub fn cancel_and_hold_at_time(self, cancel_time: f64, store: &mut [f32]) -> Outcome
+        requires { ⌜ SoundParam self ⌝ }
+        ensures { λ r. ⌜ Answers self (now (store .entry)) (hold «cancel_time») r (now (store .exit)) ⌝ }
+    {
+        let verdict = refusals::cancel(cancel_time, store.len() == AudioParam::STORE);
+        match verdict {
+            Verdict::Answered => {
+                let c = taken_time(cancel_time);
+                let q = self.timeline;
+                let q = curves::hold(q, c, store);
+                self.answered(q, self.intrinsic)
+            }
+            Verdict::Refused(_) => Outcome {
+                verdict,
+                param: self,
+            },
+        }
+    }
+
+    // Whether an event may wait behind all others: whether the calls could have left it there.
+    fn may_follow(self, e: Event) -> bool
+        requires { ⌜ SoundParam self ⌝ }
+        ensures { λ r. ⌜ r ≡ isWhole (withEvent self e) ⌝ }
+    {
+        let q = self.timeline;
+        let n = q.len;
+        let last = q.place_behind(filed_under(e)) == n;
+        let room = length_of(e) <= AudioParam::STORE - q.lengths();
+        (n < AudioParam::EVENTS) & (last & (refusals::sound::is_clear(e) & room))
+    }
+
+    // One event more, behind all others.
+    fn with_event(self, e: Event) -> Outcome
+        requires { ⌜ SoundParam self ⌝ }
+        ensures { λ r. ⌜ Restores (withEvent self e) r ⌝ }
+    {
+        if self.may_follow(e) {
+            let q = self.timeline;
+            self.answered(q.push(e), self.intrinsic)
+        } else {
+            AudioParam::refused()
+        }
+    }
+
+    // A parameter for which nothing waits, of its other parts.
+    fn without_events(
+        bounds: Bounds,
+        rate: AutomationRate,
+        intrinsic: f32,
+        block: MaybeTime,
+        last: LastEvent,
+    ) -> Outcome
+        ensures { λ r. ⌜ Restores (partsOf bounds rate intrinsic (made []) block last) r ⌝ }
+    {
+        let clear = refusals::sound::is_last_clear(last) & refusals::sound::is_number_if_any(block);
+        if refusals::are_bounds(bounds) & clear {
+            let timeline = AudioParamEventTimeline::new();
+            let param = AudioParam {
+                bounds,
+                rate,
+                intrinsic,
+                timeline,
+                block,
+                last,
+            };
+            Outcome {
+                verdict: Verdict::Answered,
+                param,
+            }
+        } else {
+            AudioParam::refused()
+        }
+    }
+
+    // A parameter of its parts, if the calls could have left it; else refused as bad bounds are. Slots behind the timeline's length do not count.
+    pub fn from_parts(
+        bounds: Bounds,
+        rate: AutomationRate,
+        intrinsic: f32,
+        timeline: AudioParamEventTimeline,
+        block: MaybeTime,
+        last: LastEvent,
+    ) -> Outcome
+        ensures { λ r. ⌜ Restores (partsOf bounds rate intrinsic timeline block last) r ⌝ }
+    {
+        let n = timeline.len;
+        if AudioParam::EVENTS < n {
+            return AudioParam::refused();
+        }
+        let mut r = AudioParam::without_events(bounds, rate, intrinsic, block, last);
+        let mut i = 0usize;
+        while i < n {
+            let verdict = r.verdict;
+            let Verdict::Answered = verdict else {
+                return r;
+            };
+            let s = timeline.slots[i];
+            let e = s.event;
+            let p = r.param;
+            r = p.with_event(e);
+            i += 1;
+        }
+        r
+    }
+}

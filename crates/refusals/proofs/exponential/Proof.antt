@@ -1,0 +1,52 @@
+-- `exponential` meets its contract: a row for each refusal, in the order of their numbers. Assumes nothing.
+use borrow.Author.Needs.{needs}
+use Rattle.rules.specs.Refusals.{exponentialRows}
+use Rattle.refusals.proofs.Rows.{said, said-lowest, one-finite, more-finite}
+use Rattle.refusals.proofs.exponential.Statement.{statement}
+use Rattle.refusals.proofs.exponential.Tie as tie
+
+is-finite32-requires : tie.Need-is-finite32-requires
+is-finite32-requires c κs = search needs
+
+is-finite64-requires : tie.Need-is-finite64-requires
+is-finite64-requires c κs = search needs
+
+row-requires : tie.Need-row-requires
+row-requires c κs = search needs
+
+is-negative64-requires : tie.Need-is-negative64-requires
+is-negative64-requires c κs = search needs
+
+row-requires-2 : tie.Need-row-requires-2
+row-requires-2 c κs = search needs
+
+is-zero32-requires : tie.Need-is-zero32-requires
+is-zero32-requires c κs = search needs
+
+row-requires-3 : tie.Need-row-requires-3
+row-requires-3 c κs = search needs
+
+row-requires-4 : tie.Need-row-requires-4
+row-requires-4 c κs = search needs
+
+returns : tie.Need-returns
+unfolding said exponentialRows
+returns c q full =
+    let start = c .before .before .before .before .before .before .before .before in
+    let finite = more-finite _ _ (c .before .before .before .before .before .before .before .is-finite32 .ensures) (one-finite _ (c .before .before .before .before .before .before .is-finite64 .ensures)) in
+    rw (c .row4 .ensures, c .before .row3 .ensures, c .before .before .before .row2 .ensures, c .before .before .before .before .before .row .ensures, finite, c .before .before .before .before .is-negative64 .ensures, c .before .before .is-zero32 .ensures, full)
+    (said-lowest (exponentialRows q (start .args .value) (start .args .time)))
+
+pub exponential-spec : {M : Type 1} → statement M
+exponential-spec =
+    tie.close
+    (tie.spec
+    is-finite32-requires
+    is-finite64-requires
+    row-requires
+    is-negative64-requires
+    row-requires-2
+    is-zero32-requires
+    row-requires-3
+    row-requires-4
+    returns)

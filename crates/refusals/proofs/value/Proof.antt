@@ -1,0 +1,43 @@
+-- `value` meets its contract: a row for each refusal, in the order of their numbers. Assumes nothing.
+use borrow.Author.Needs.{needs}
+use Rattle.rules.specs.Refusals.{valueRows}
+use Rattle.refusals.proofs.Rows.{said, said-lowest, one-finite, more-finite}
+use Rattle.refusals.proofs.value.Statement.{statement}
+use Rattle.refusals.proofs.value.Tie as tie
+
+is-finite32-requires : tie.Need-is-finite32-requires
+is-finite32-requires c κs = search needs
+
+is-finite64-requires : tie.Need-is-finite64-requires
+is-finite64-requires c κs = search needs
+
+row-requires : tie.Need-row-requires
+row-requires c κs = search needs
+
+is-negative64-requires : tie.Need-is-negative64-requires
+is-negative64-requires c κs = search needs
+
+row-requires-2 : tie.Need-row-requires-2
+row-requires-2 c κs = search needs
+
+row-requires-3 : tie.Need-row-requires-3
+row-requires-3 c κs = search needs
+
+returns : tie.Need-returns
+unfolding said valueRows
+returns c q full =
+    let start = c .before .before .before .before .before .before in
+    let finite = more-finite _ _ (c .before .before .before .before .before .is-finite32 .ensures) (one-finite _ (c .before .before .before .before .is-finite64 .ensures)) in
+    rw (c .row3 .ensures, c .before .row2 .ensures, c .before .before .before .row .ensures, finite, c .before .before .is-negative64 .ensures, full) (said-lowest (valueRows q (start .args .value) (start .args .time)))
+
+pub value-spec : {M : Type 1} → statement M
+value-spec =
+    tie.close
+    (tie.spec
+    is-finite32-requires
+    is-finite64-requires
+    row-requires
+    is-negative64-requires
+    row-requires-2
+    row-requires-3
+    returns)
