@@ -1,0 +1,1 @@
+// No code: what the contracts of the parameter make of demand 3 (specs/ and proofs/).
