@@ -1,6 +1,6 @@
 -- A second table beside the bench sheet, which has no target, no true exponential, no second hold and no walk at K-rate. What is expected does not come from the
--- definitions: C1 to C26 are from a program written from document 01 alone, C27 to C49 from a second reader's interpreter of 01 in exact fractions, and the oracle's
--- reference interpreter gives the same. Under each case's name stand its calls in plain numbers.
+-- definitions: C1 to C26 are from a program written from document 01 alone, C27 to C49 from an interpreter of 01 in exact fractions by the second reader, who had read
+-- the definitions; the oracle's reference interpreter gives the same. Under each case's name stand its calls in plain numbers.
 use mathlib.Core.Path.{_≡_, refl}
 use mathlib.Core.Bool.{true, false}
 use mathlib.Core.List.{List, [], _∷_, _++_}
