@@ -1,0 +1,57 @@
+-- `target` meets its contract: a row for each refusal, in the order of their numbers. Assumes nothing.
+use borrow.Author.Needs.{needs}
+use Rattle.rules.specs.Refusals.{targetRows}
+use Rattle.refusals.proofs.Rows.{said, said-lowest, one-finite, more-finite}
+use Rattle.refusals.proofs.target.Statement.{statement}
+use Rattle.refusals.proofs.target.Tie as tie
+
+is-finite32-requires : tie.Need-is-finite32-requires
+is-finite32-requires c κs = search needs
+
+is-finite64-requires : tie.Need-is-finite64-requires
+is-finite64-requires c κs = search needs
+
+is-finite64-requires-2 : tie.Need-is-finite64-requires-2
+is-finite64-requires-2 c κs = search needs
+
+row-requires : tie.Need-row-requires
+row-requires c κs = search needs
+
+is-negative64-requires : tie.Need-is-negative64-requires
+is-negative64-requires c κs = search needs
+
+row-requires-2 : tie.Need-row-requires-2
+row-requires-2 c κs = search needs
+
+is-negative64-requires-2 : tie.Need-is-negative64-requires-2
+is-negative64-requires-2 c κs = search needs
+
+row-requires-3 : tie.Need-row-requires-3
+row-requires-3 c κs = search needs
+
+row-requires-4 : tie.Need-row-requires-4
+row-requires-4 c κs = search needs
+
+returns : tie.Need-returns
+unfolding said targetRows
+returns c q full =
+    let start = c .before .before .before .before .before .before .before .before .before in
+    let finite =
+    more-finite _ _ (c .before .before .before .before .before .before .before .before .is-finite32 .ensures) (more-finite _ _ (c .before .before .before .before .before .before .before .is-finite64 .ensures) (one-finite _ (c .before .before .before .before .before .before .is-finite642 .ensures))) in
+    rw (c .row4 .ensures, c .before .row3 .ensures, c .before .before .before .row2 .ensures, c .before .before .before .before .before .row .ensures, finite, c .before .before .before .before .is-negative64 .ensures, c .before .before .is-negative642 .ensures, full)
+    (said-lowest (targetRows q (start .args .value) (start .args .time) (start .args .constant)))
+
+pub target-spec : {M : Type 1} → statement M
+target-spec =
+    tie.close
+    (tie.spec
+    is-finite32-requires
+    is-finite64-requires
+    is-finite64-requires-2
+    row-requires
+    is-negative64-requires
+    row-requires-2
+    is-negative64-requires-2
+    row-requires-3
+    row-requires-4
+    returns)
