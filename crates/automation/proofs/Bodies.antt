@@ -1,8 +1,8 @@
 -- A body's branches, each the rules' turn: over what was filled and what the callees gave. Assumes nothing.
 use mathlib.Core.Path.{_≡_, refl, sym, ap, _∙_}
-use mathlib.Core.Bool.{Bool, true, false, cond}
+use mathlib.Core.Bool.{true, false}
 use mathlib.Core.List.{List, []}
-use Prim.Native.Nat.{ℕ, _-_, _≤_, _<_}
+use Prim.Native.Nat.{ℕ, _-_, _≤_, _<_, _^_}
 use native.Mathlib.Numerals.{add-one}
 use native.Mathlib.Omega.{arith}
 use lib.ListN.{length, getD}
@@ -18,99 +18,145 @@ use Rattle.rules.specs.declared.Head.{Head}
 use Rattle.rules.specs.declared.Finished.{Finished}
 use Rattle.rules.specs.Numbers.{plusZero, endPlace}
 use Rattle.rules.specs.Samples.{linearSample, exponentialSample, isRatio, ratioOf, targetSample, curveSample, lastNumber}
-use Rattle.rules.specs.Queue.{Waiting}
+use Rattle.rules.specs.Queue.{Waiting, alone}
 use Rattle.rules.specs.Walk as Rules
 use Rattle.rules.specs.Walk.{lastOr, startOf, stepTime, stepTurn, stepFrom, spanTurn, fill, withValues, holdOr, valueAtEnd, linearTurn, exponentialTurn, fromStart, targetTurn, targetRun, targetLeft, endByNext, endByHold, snaps, curveTurn}
 use Rattle.laws.proofs.Walks.{end-most}
 use Rattle.fills.specs.Filled.{Room, Filled, Flushed}
 use Rattle.automation.specs.declared.Walk.{Walk}
+use Rattle.automation.specs.declared.Turn.{Turn}
 use Rattle.automation.specs.Walks.{walkIs, waitingAs, turnAs, Ready, Turns, withFilled, withIntrinsic, withLast, turnedToStep, consumedWith, stoppedWith, wentOnWith}
 
 -- room for a fill up to an end place
-pub ready-room : (f : BlockInfos) (w : Walk) (b : List Float) → Ready f w b → (t : Float) {n : ℕ} → n ≡ endPlace f t → Room (w .filled) n b
-ready-room f w b r t e = record { filled = r .filled; upto = omega (arith, end-most f t, r .room); most = r .most }
+pub ready-room : {f : BlockInfos} {w : Walk} {b : List Float} → Ready f w b → (t : Float) {n : ℕ} → n ≡ endPlace f t → Room (w .filled) n b
+ready-room {f} r t e = record { filled = r .filled; upto = omega (arith, end-most f t, r .room); most = r .most }
+
+pub filled-at : {f : BlockInfos} {place m : ℕ} {sample : Float → Float} {k : ℕ} {b : List Float} {n : ℕ} {c : List Float} → place ≡ m → Filled f place sample k b n c → Filled f m sample k b n c
+filled-at e g = rw e at g
 
 -- nothing is done: the head e waits
-pub stays : (w : Walk) (b numbers : List Float) (e : Event) → w .filled ≤ length b
+pub stays : {w : Walk} {b numbers : List Float} {e : Event} → w .filled ≤ length b
     → Turns b numbers (Rules.stop (walkIs w b) (waitingAs e numbers)) (stoppedWith w e) b
 unfolding turnAs
-stays w b numbers e h = record { turn = refl; filled = h; whole = refl }
+stays h = record { turn = refl; filled = h; whole = refl }
 
--- ---- a step, which ends at its time
+-- ---- steps
 
-module _ (f : BlockInfos) (w : Walk) (b : List Float) (v t : Float) {end : Float} (is : end ≡ stepTime f t) {place : ℕ} (at : place ≡ endPlace f end)
-    {n : ℕ} {c : List Float} (filled : Filled f place (λ x. w .intrinsic) (w .filled) b n c) where
-  pub step-stops : Ieee.lt (f .next) end ≡ true → Turns b [] (stepTurn f (walkIs w b) v t) (stoppedWith (withFilled n w) (Event.Step v t)) c
+-- A step's body behind its fill, from the walk w in the buffer b on: it ends at its time; the walk is u, the buffer c.
+pub record Stepped (f : BlockInfos) (w : Walk) (b : List Float) (v t end : Float) (u : Walk) (c : List Float) : Type 0 where
+  pub n : ℕ
+  pub end-is : end ≡ stepTime f t
+  pub filled : Filled f (endPlace f end) (λ x. w .intrinsic) (w .filled) b n c
+  pub walk-is : u ≡ withFilled n w
+
+module _ {f : BlockInfos} {w : Walk} {b : List Float} {v t end : Float} {u : Walk} {c : List Float} (s : Stepped f w b v t end u c) where
+  pub step-stops : Ieee.lt (f .next) end ≡ true → Turns b [] (stepTurn f (walkIs w b) v t) (stoppedWith u (Event.Step v t)) c
   unfolding turnAs stepTurn stepFrom fill withValues
-  step-stops h = record { turn = rw (← is, ← at, h, filled .values); filled = filled .small; whole = filled .whole }
+  step-stops h =
+      rw (s .walk-is) (record { turn = rw (← s .end-is, h, s .filled .values); filled = s .filled .small; whole = s .filled .whole })
 
-  pub step-goes : Ieee.lt (f .next) end ≡ false
-      → Turns b [] (stepTurn f (walkIs w b) v t) (wentOnWith (consumedWith end v (withFilled n w)) (Event.Step v t)) c
+  pub step-goes : Ieee.lt (f .next) end ≡ false → Turns b [] (stepTurn f (walkIs w b) v t) (wentOnWith (consumedWith end v u) (Event.Step v t)) c
   unfolding turnAs stepTurn stepFrom fill withValues Rules.consumed
-  step-goes h = record { turn = rw (← is, ← at, h, filled .values, add-one); filled = filled .small; whole = filled .whole }
+  step-goes h =
+      rw (s .walk-is) (record { turn = rw (← s .end-is, h, s .filled .values, add-one); filled = s .filled .small; whole = s .filled .whole })
 
--- ---- ramps and curves: the event e with its numbers, t where it ends if not held, v the value with which it then ends
+-- ---- ramps and curves
 
-module _ (f : BlockInfos) (w : Walk) (b numbers : List Float) (e : Event) (t v : Float) (h : MaybeTime) (sample : Float → Float) {end : Float} (is : end ≡ holdOr h t)
-    {place : ℕ} (at : place ≡ endPlace f end) {n : ℕ} {c : List Float} (filled : Filled f place sample (w .filled) b n c) where
-  pub span-stops : Ieee.le (f .next) end ≡ true → {r : Float} → r ≡ sample (f .next)
-      → Turns b numbers (spanTurn f (walkIs w b) (waitingAs e numbers) t v h sample) (stoppedWith (withIntrinsic r (withFilled n w)) e) c
+-- A span's body behind its fill: its turn is the rules' span of the event e, with v the value with which it ends if not held; it ends at `end`; the walk is u, the
+-- buffer c.
+pub record Spanned (f : BlockInfos) (b numbers : List Float) (e : Event) (turn : Rules.Turn) (v : Float) (h : MaybeTime) (sample : Float → Float) (end : Float) (u : Walk) (c : List Float)
+    : Type 0 where
+  pub before : Walk
+  pub time : Float
+  pub n : ℕ
+  pub turn-is : turn ≡ spanTurn f (walkIs before b) (waitingAs e numbers) time v h sample
+  pub end-is : end ≡ holdOr h time
+  pub filled : Filled f (endPlace f end) sample (before .filled) b n c
+  pub walk-is : u ≡ withFilled n before
+  pub few : before .finished < 2 ^ 32
+
+module _ {f : BlockInfos} {b numbers : List Float} {e : Event} {turn : Rules.Turn} {v : Float} {h : MaybeTime} {sample : Float → Float} {end : Float} {u : Walk} {c : List Float}
+    (s : Spanned f b numbers e turn v h sample end u c) where
+  pub span-few : u .finished < 2 ^ 32
+  span-few = rw (s .walk-is) (s .few)
+
+  pub span-stops : Ieee.le (f .next) end ≡ true → {r : Float} → r ≡ sample (f .next) → Turns b numbers turn (stoppedWith (withIntrinsic r u) e) c
   unfolding turnAs spanTurn fill withValues Rules.withIntrinsic
-  span-stops g q = record { turn = rw (← is, ← at, g, filled .values, q); filled = filled .small; whole = filled .whole }
+  span-stops g q =
+      rw (s .turn-is, s .walk-is)
+      (record { turn = rw (← s .end-is, g, s .filled .values, q); filled = s .filled .small; whole = s .filled .whole })
 
-  span-goes : Ieee.le (f .next) end ≡ false → {r : Float} → r ≡ valueAtEnd h v sample
-      → Turns b numbers (spanTurn f (walkIs w b) (waitingAs e numbers) t v h sample) (wentOnWith (consumedWith end r (withFilled n w)) e) c
+  span-goes : Ieee.le (f .next) end ≡ false → {r : Float} → r ≡ valueAtEnd h v sample → Turns b numbers turn (wentOnWith (consumedWith end r u) e) c
   unfolding turnAs spanTurn fill withValues Rules.consumed
-  span-goes g q = record { turn = rw (← is, ← at, g, filled .values, q, add-one); filled = filled .small; whole = filled .whole }
+  span-goes g q =
+      rw (s .turn-is, s .walk-is)
+      (record { turn = rw (← s .end-is, g, s .filled .values, q, add-one); filled = s .filled .small; whole = s .filled .whole })
 
-  pub span-ends : Ieee.le (f .next) end ≡ false → h ≡ MaybeTime.Missing → {r : Float} → r ≡ v
-      → Turns b numbers (spanTurn f (walkIs w b) (waitingAs e numbers) t v h sample) (wentOnWith (consumedWith end r (withFilled n w)) e) c
+  pub span-ends : Ieee.le (f .next) end ≡ false → h ≡ MaybeTime.Missing → {r : Float} → r ≡ v → Turns b numbers turn (wentOnWith (consumedWith end r u) e) c
   unfolding valueAtEnd
   span-ends g m q = span-goes g (rw m q)
 
   pub span-held : Ieee.le (f .next) end ≡ false → {k : Float} → h ≡ MaybeTime.At k → {r : Float} → r ≡ sample end
-      → Turns b numbers (spanTurn f (walkIs w b) (waitingAs e numbers) t v h sample) (wentOnWith (consumedWith end r (withFilled n w)) e) c
+      → Turns b numbers turn (wentOnWith (consumedWith end r u) e) c
   unfolding valueAtEnd holdOr
-  span-held g {k} m q = let z : end ≡ k = rw m at is in span-goes g (q ∙ rw (z, m))
+  span-held g {k} m q = let z : end ≡ k = rw m at (s .end-is) in span-goes g (q ∙ rw (z, m))
 
--- ---- a target, of the event e, that ends as `ended` says: else at the next block
+-- ---- targets
 
-module _ (f : BlockInfos) (w : Walk) (b : List Float) (e : Event) (target : Float) (ended : MaybeTime) (sample : Float → Float) {end : Float} (is : end ≡ holdOr ended (f .next))
-    {place : ℕ} (at : place ≡ endPlace f end) {n : ℕ} {c : List Float} (filled : Filled f place sample (w .filled) b n c) {r : Float} (value : r ≡ sample end) where
-  abbrev turn : Rules.Turn
-  turn = targetRun f (walkIs w b) (waitingAs e []) target sample ended
+-- A target's body behind its fill: `ended` says where it ends, if it does in this block.
+pub record Targeted (f : BlockInfos) (b : List Float) (e : Event) (turn : Rules.Turn) (target : Float) (ended : MaybeTime) (sample : Float → Float) (end : Float) (n : ℕ) (u : Walk)
+    (c : List Float) : Type 0 where
+  pub before : Walk
+  pub turn-is : turn ≡ targetRun f (walkIs before b) (waitingAs e []) target sample ended
+  pub end-is : end ≡ holdOr ended (f .next)
+  pub filled : Filled f (endPlace f end) sample (before .filled) b n c
+  pub walk-is : u ≡ withFilled n before
+  pub few : before .finished < 2 ^ 32
 
-  pub target-ends : {k : Float} → ended ≡ MaybeTime.At k → Turns b [] turn (wentOnWith (consumedWith end r (withFilled n w)) e) c
-  unfolding turnAs targetRun fill withValues Rules.consumed holdOr
-  target-ends {k} m =
-      let z : end ≡ k = rw m at is in
-      record { turn = rw (m, ← z, ← at, filled .values, value, add-one); filled = filled .small; whole = filled .whole }
+module _ {f : BlockInfos} {b : List Float} {e : Event} {turn : Rules.Turn} {target : Float} {ended : MaybeTime} {sample : Float → Float} {end : Float} {n : ℕ} {u : Walk} {c : List Float}
+    (s : Targeted f b e turn target ended sample end n u c) where
+  pub target-few : u .finished < 2 ^ 32
+  target-few = rw (s .walk-is) (s .few)
 
-  -- where it does not end in the block
-  module _ (m : ended ≡ MaybeTime.Missing) where
-    at-next : end ≡ f .next
-    unfolding holdOr
-    at-next = rw m at is
+  module _ {r : Float} (value : r ≡ sample end) where
+    pub target-ends : {k : Float} → ended ≡ MaybeTime.At k → Turns b [] turn (wentOnWith (consumedWith end r u) e) c
+    unfolding turnAs targetRun fill withValues Rules.consumed holdOr
+    target-ends {k} m =
+        let z : end ≡ k = rw m at (s .end-is) in
+        rw (s .turn-is, s .walk-is)
+        (record { turn = rw (m, ← z, s .filled .values, value, add-one); filled = s .filled .small; whole = s .filled .whole })
 
-    place-next : place ≡ endPlace f (f .next)
-    place-next = at ∙ ap (endPlace f) at-next
+    -- where it does not end in the block
+    module _ (m : ended ≡ MaybeTime.Missing) where
+      at-next : end ≡ f .next
+      unfolding holdOr
+      at-next = rw m at (s .end-is)
 
-    value-next : r ≡ sample (f .next)
-    value-next = value ∙ ap sample at-next
+      value-next : r ≡ sample (f .next)
+      value-next = value ∙ ap sample at-next
 
-    pub target-snaps : snaps target r ≡ true → {d : List Float} → Flushed target n c d
-        → Turns b [] turn (stoppedWith (withIntrinsic target (withFilled n w)) (Event.Step target (f .next))) d
-    unfolding turnAs targetRun targetLeft fill withValues Rules.withIntrinsic
-    target-snaps s {d} g =
-        record {
-          turn = rw (m, ← place-next, ← value-next, s, g .values, filled .values);
-          filled = omega (arith, filled .small, g .whole);
-          whole = g .whole ∙ filled .whole;
-        }
+      filled-next : Filled f (endPlace f (f .next)) sample (s .before .filled) b n c
+      filled-next = rw at-next at (s .filled)
 
-    pub target-stays : snaps target r ≡ false → Turns b [] turn (stoppedWith (withIntrinsic r (withFilled n w)) e) c
-    unfolding turnAs targetRun targetLeft fill withValues Rules.withIntrinsic
-    target-stays s = record { turn = rw (m, ← place-next, ← value-next, s, filled .values); filled = filled .small; whole = filled .whole }
+      pub target-leaves : {t : Turn} {d : List Float} → Turns c [] (targetLeft f (walkIs u c) (alone e) target r) t d → Turns b [] turn t d
+      unfolding targetRun fill withValues
+      target-leaves t =
+          record {
+            turn = t .turn ∙ sym (s .turn-is ∙ rw (m, ← value-next, ← filled-next .values, s .walk-is));
+            filled = t .filled;
+            whole = t .whole ∙ filled-next .whole;
+          }
+
+-- v is the value at the next block
+module _ (f : BlockInfos) (w : Walk) (b : List Float) (e : Event) (target v : Float) where
+  pub left-stays : snaps target v ≡ false → w .filled ≤ length b → Turns b [] (targetLeft f (walkIs w b) (alone e) target v) (stoppedWith (withIntrinsic v w) e) b
+  unfolding turnAs targetLeft Rules.withIntrinsic
+  left-stays g h = record { turn = rw g; filled = h; whole = refl }
+
+  pub left-snaps : snaps target v ≡ true → w .filled ≤ length b → {c : List Float} → Flushed target (w .filled) b c
+      → Turns b [] (targetLeft f (walkIs w b) (alone e) target v) (stoppedWith (withIntrinsic target w) (Event.Step target (f .next))) c
+  unfolding turnAs targetLeft withValues Rules.withIntrinsic
+  left-snaps g h flushed = record { turn = rw (g, flushed .values); filled = omega (arith, flushed .whole); whole = flushed .whole }
 
 -- a curve's last number, as code reads it
 pub last-read : (xs : List Float) → 2 ≤ length xs → getD xs (length xs - 1) nan ≡ lastNumber xs

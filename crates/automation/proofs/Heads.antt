@@ -1,6 +1,6 @@
 -- The walk as a loop over heads: what holds before each, and what each does of the rules' walk. Assumes nothing.
-use mathlib.Core.Path.{_≡_, refl, sym, ap, ap₂, subst, _∙_}
-use mathlib.Core.Bool.{Bool, true, false, _&&_}
+use mathlib.Core.Path.{_≡_, refl, sym, ap, _∙_}
+use mathlib.Core.Bool.{true}
 use mathlib.Core.List.{List, [], _∷_}
 use Prim.Native.Nat.{ℕ, zero, suc, _+_, _-_, _*_, _≤_, _<_, _^_}
 use native.Mathlib.Numerals.{add-one}
@@ -20,14 +20,14 @@ use Rattle.rules.specs.declared.BlockInfos.{BlockInfos}
 use Rattle.rules.specs.Numbers.{storeLength}
 use Rattle.rules.specs.Queue.{Waiting, headOf, lengthOf, lengthsOf, attached, filedUnder}
 use Rattle.rules.specs.Walk as Rules
-use Rattle.rules.specs.Walk.{stop, on, turn, turnOf, walked, ended, counted, withLast, withTurned, withValues, withIntrinsic, fill, consumed}
+use Rattle.rules.specs.Walk.{on, turn, turnOf, walked, ended, counted, withLast, withTurned, withValues, withIntrinsic, fill, consumed}
 use Rattle.rules.specs.Block.{walkFrom, valuesBefore}
 use Rattle.laws.specs.Sound.{isClear, endsClear, areClear, isNumber, isNumberIfAny, SoundQueue}
 use Rattle.laws.proofs.Tests.{both}
 use Rattle.laws.proofs.Events.{lengths-split}
 use Rattle.laws.proofs.Store.{attached-drop}
 use Rattle.laws.proofs.Walks as Carried
-use Rattle.laws.proofs.Walks.{Any, any-timed, all-any, head-timed, stops, goes, Carries, turn-carries}
+use Rattle.laws.proofs.Walks.{Any, any-timed, all-any, head-timed, goes, Carries, turn-carries}
 use Rattle.laws.proofs.Shapes.{walk-empty, walk-stops, walk-goes-on}
 use Rattle.timeline.specs.declared.AudioParamEventTimeline.{AudioParamEventTimeline}
 use Rattle.timeline.specs.Timeline.{waiting, firstOf}
@@ -95,15 +95,15 @@ module _ {e : Event} {xs : List Float} (n : Numbered e xs) {s d : Float} {k : �
 
 -- ---- the ends of a walk
 
-pub begins-a : (f : BlockInfos) (v : Float) (l : LastEvent) (b : List Float) → f .rate ≡ Rate.A
+pub begins-a : {f : BlockInfos} {v : Float} {l : LastEvent} {b : List Float} → f .rate ≡ Rate.A
     → Begins f v l b (record { intrinsic = v; last = l; filled = 0; steps = 0; finished = 0; turned = 0 }) b
 unfolding valuesBefore
-begins-a f v l b r = record { walk = rw r; filled = omega arith; whole = refl }
+begins-a r = record { walk = rw r; filled = omega arith; whole = refl }
 
-pub begins-k : (f : BlockInfos) (v : Float) (l : LastEvent) (b : List Float) → 0 < length b → f .rate ≡ Rate.K
+pub begins-k : {f : BlockInfos} {v : Float} {l : LastEvent} {b : List Float} → 0 < length b → f .rate ≡ Rate.K
     → Begins f v l b (record { intrinsic = v; last = l; filled = 1; steps = 0; finished = 0; turned = 0 }) (set b 0 v)
 unfolding valuesBefore
-begins-k f v l b h r = record { walk = rw (r, take-suc-set b 0 v h); filled = rw (length-set b 0 v) h; whole = length-set b 0 v }
+begins-k {v = v} {b = b} h r = record { walk = rw (r, take-suc-set b 0 v h); filled = rw (length-set b 0 v) h; whole = length-set b 0 v }
 
 pub ends : (f : BlockInfos) (w : Walk) (b : List Float) (at : ℕ) (head : Head) {n : ℕ} {c : List Float}
     → Filled f (f .count) (λ s. w .intrinsic) (w .filled) b n c → Ends f w b at head (record { walk = withFilled n w; at = at; head = head }) c
@@ -164,10 +164,10 @@ pub record Going (f : BlockInfos) (es : List Event) (store : List Float) (w₀ :
   pub turned : w .turned ≤ at
   pub goes-on : walked f (walkIs w b) (drop at (attached es store)) ≡ walked f w₀ (attached es store)
 
-pub begins : (f : BlockInfos) (v : Float) (l : LastEvent) (es : List Event) (store b : List Float) (w : Walk) (c : List Float) → Begins f v l b w c
-    → (head : Head) → head ≡ firstOf es → Going f es store (walkIs w c) c w c head 0 0
+pub begins : {f : BlockInfos} {v : Float} {l : LastEvent} {b : List Float} {w : Walk} {c : List Float} → Begins f v l b w c → {es : List Event} {store : List Float} {head : Head}
+    → head ≡ firstOf es → Going f es store (walkIs w c) c w c head 0 0
 unfolding lengthsOf
-begins f v l es store b w c g head e =
+begins g e =
     record {
       offset-is = refl;
       head-is = e;
@@ -185,7 +185,7 @@ counted-is : (w : Walk) (b : List Float) → walkIs (countedOnce w) b ≡ counte
 unfolding counted
 counted-is w b = rw add-one
 
-module _ (f : BlockInfos) (es : List Event) (store : List Float) (w₀ : Rules.Walk) (b₀ : List Float) {w : Walk} {b : List Float} {head : Head} {at offset : ℕ}
+module _ {f : BlockInfos} {es : List Event} {store : List Float} {w₀ : Rules.Walk} {b₀ : List Float} {w : Walk} {b : List Float} {head : Head} {at offset : ℕ}
     (g : Going f es store w₀ b₀ w b head at offset) where
   abbrev ws : List Waiting
   ws = attached es store
@@ -301,11 +301,11 @@ module _ (f : BlockInfos) (es : List Event) (store : List Float) (w₀ : Rules.W
 
 -- ---- what the heads' callees ask, with b the buffer as it was lent
 
-pub end-room : (f : BlockInfos) (q : AudioParamEventTimeline) (b store : List Float) → Walkable f q b store → (n : ℕ) (c : List Float) → n ≤ length c → length c ≡ length b
+pub end-room : {f : BlockInfos} {q : AudioParamEventTimeline} {b store : List Float} → Walkable f q b store → {n : ℕ} {c : List Float} → n ≤ length c → length c ≡ length b
     → Room n (f .count) c
-end-room f q b store p n c h e = record { filled = h; upto = omega (arith, p .room); most = omega (arith, p .most) }
+end-room p h e = record { filled = h; upto = omega (arith, p .room); most = omega (arith, p .most) }
 
-module _ (f : BlockInfos) (q : AudioParamEventTimeline) (b store : List Float) (p : Walkable f q b store) {w₀ : Rules.Walk} {b₀ : List Float} {w : Walk} {c : List Float} {head : Head}
+module _ {f : BlockInfos} {q : AudioParamEventTimeline} {b store : List Float} (p : Walkable f q b store) {w₀ : Rules.Walk} {b₀ : List Float} {w : Walk} {c : List Float} {head : Head}
     {at offset : ℕ} (g : Going f (waiting q) store w₀ b₀ w c head at offset) where
   -- every count is at most twice the number of events
   pub few-steps : w .steps < 2 ^ 31
@@ -325,7 +325,7 @@ module _ (f : BlockInfos) (q : AudioParamEventTimeline) (b store : List Float) (
       )
 
 -- the walk begins as the rules' does
-pub walks : (f : BlockInfos) (v : Float) (l : LastEvent) (es : List Event) (store b : List Float) {w : Walk} {b₀ : List Float} → Begins f v l b w b₀
+pub walks : {f : BlockInfos} {v : Float} {l : LastEvent} {b : List Float} {w : Walk} {b₀ : List Float} → Begins f v l b w b₀ → {es : List Event} {store : List Float}
     → {r : Walked} {c : List Float} → Walks f (walkIs w b₀) es store b₀ r c → Walks f (walkFrom v l (valuesBefore (f .rate) v) 0) es store b r c
-walks f v l es store b g d =
+walks g d =
     record { walk = rw (← g .walk) (d .walk); queue = rw (← g .walk) (d .queue); filled = d .filled; whole = d .whole ∙ g .whole }

@@ -1,7 +1,7 @@
 -- How the code's walk stands for the rules': the filled places of the block buffer are the walk's values.
 use mathlib.Core.Path.{_≡_}
-use mathlib.Core.List.{List, [], _∷_}
-use Prim.Native.Nat.{ℕ, suc, _+_, _≤_, _<_, _^_}
+use mathlib.Core.List.{List}
+use Prim.Native.Nat.{ℕ, _+_, _≤_, _<_, _^_}
 use lib.ListN.{length, take}
 use lib.Ieee.{Float}
 use Rattle.rules.specs.declared.Event.{Event}
@@ -10,7 +10,7 @@ use Rattle.rules.specs.declared.Finished.{Finished}
 use Rattle.rules.specs.declared.LastEvent.the-variants as LastEvent
 use Rattle.rules.specs.Queue.{Waiting}
 use Rattle.rules.specs.Walk as Rules
-use Rattle.rules.specs.Walk.{stop, on, lastOr}
+use Rattle.rules.specs.Walk.{stop, on}
 use Rattle.automation.specs.declared.Walk.{Walk}
 use Rattle.automation.specs.declared.Go.{Go}
 use Rattle.automation.specs.declared.Go.the-variants as Go

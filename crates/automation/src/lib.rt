@@ -5,7 +5,7 @@ ghost use Prim.Native.Nat.{ℕ, _≤_, _<_, _^_};
 ghost use lib.ListN.{length};
 ghost use Rattle.rules.specs.Queue.{alone};
 ghost use Rattle.rules.specs.Samples.{isRatio};
-ghost use Rattle.rules.specs.Walk.{stepTime, lastOr, holdOr, endByNext, endByHold, snaps as snapsTo, stepTurn, linearTurn, exponentialTurn, targetTurn, curveTurn, turnOf};
+ghost use Rattle.rules.specs.Walk.{stepTime, lastOr, holdOr, endByNext, endByHold, snaps as snapsTo, targetLeft, stepTurn, linearTurn, exponentialTurn, targetTurn, curveTurn, turnOf};
 ghost use Rattle.rules.specs.Block.{walkFrom, valuesBefore};
 ghost use Rattle.fills.specs.Filled.{Room};
 ghost use Rattle.timeline.specs.Timeline.{waiting};
@@ -90,8 +90,7 @@ impl Walk {
         requires { ⌜ (self .steps < 2 ^ 32) × (self .turned < 2 ^ 32) ⌝ }
         ensures { λ r. ⌜ r ≡ turnedToStep self ⌝ }
     {
-        let mut w = self;
-        w.steps = w.steps + 1;
+        let mut w = self.counted();
         w.turned = w.turned + 1;
         w
     }
@@ -249,12 +248,9 @@ pub fn compute_linear_ramp_automation(
     ensures { λ r. ⌜ Turns (now (buffer .entry)) [] (linearTurn infos (walkIs walk (now (buffer .entry))) (alone (Event.Linear value time hold)) value time hold) r (now (buffer .exit)) ⌝ }
 {
     let last_event = start_of(infos, walk);
-    let start_time = last_event.time;
     // of the ramp as declared, so that a hold keeps its slope
-    let duration = time - start_time;
+    let duration = time - last_event.time;
     let end_time = hold_or(hold, time);
-    let start_value = last_event.value;
-    let diff = value - start_value;
     let end_index = samples::end_place_of(infos, end_time);
     let filled = fills::fill_linear_ramp(
         infos,
@@ -267,27 +263,17 @@ pub fn compute_linear_ramp_automation(
     );
     let w = walk.with_last(last_event).with_filled(filled);
     let head = Event::Linear { value, time, hold };
+    // it goes on in the next block
     if end_time >= infos.next {
-        let value = samples::compute_linear_ramp_sample(
-            start_time,
-            duration,
-            start_value,
-            diff,
-            infos.next,
-        );
-        return Turn::stop(w.with_intrinsic(value), head);
+        let at_next = fills::linear_value(last_event, value, duration, infos.next);
+        return Turn::stop(w.with_intrinsic(at_next), head);
     }
+    // it ends in this one: with its own value, or where it is held
     let MaybeTime::At(_) = hold else {
         return Turn::consume(w, end_time, value, head);
     };
-    let value = samples::compute_linear_ramp_sample(
-        start_time,
-        duration,
-        start_value,
-        diff,
-        end_time,
-    );
-    Turn::consume(w, end_time, value, head)
+    let at_end = fills::linear_value(last_event, value, duration, end_time);
+    Turn::consume(w, end_time, at_end, head)
 }
 
 pub fn compute_exponential_ramp_automation(
@@ -302,11 +288,9 @@ pub fn compute_exponential_ramp_automation(
     ensures { λ r. ⌜ Turns (now (buffer .entry)) [] (exponentialTurn infos (walkIs walk (now (buffer .entry))) (alone (Event.Exponential value time hold)) value time hold) r (now (buffer .exit)) ⌝ }
 {
     let last_event = start_of(infos, walk);
-    let start_time = last_event.time;
-    let duration = time - start_time;
+    let duration = time - last_event.time;
     let end_time = hold_or(hold, time);
-    let start_value = last_event.value;
-    let ratio = value / start_value;
+    let ratio = value / last_event.value;
     let w = walk.with_last(last_event);
     // no ramp goes there: the event becomes a step, which is the walk's next head
     if !is_ratio(ratio) {
@@ -320,33 +304,43 @@ pub fn compute_exponential_ramp_automation(
         walk.filled,
         end_index,
         last_event,
-        value,
         duration,
         log,
     );
     let w = w.with_filled(filled);
     let head = Event::Exponential { value, time, hold };
     if end_time >= infos.next {
-        let value = samples::compute_exponential_ramp_sample(
-            start_time,
-            duration,
-            start_value,
-            log,
-            infos.next,
-        );
-        return Turn::stop(w.with_intrinsic(value), head);
+        let at_next = fills::exponential_value(last_event, duration, log, infos.next);
+        return Turn::stop(w.with_intrinsic(at_next), head);
     }
     let MaybeTime::At(_) = hold else {
         return Turn::consume(w, end_time, value, head);
     };
-    let value = samples::compute_exponential_ramp_sample(
-        start_time,
-        duration,
-        start_value,
-        log,
-        end_time,
-    );
-    Turn::consume(w, end_time, value, head)
+    let at_end = fills::exponential_value(last_event, duration, log, end_time);
+    Turn::consume(w, end_time, at_end, head)
+}
+
+// A target that does not end in the block, with its value at the next one: where that is near the target it becomes a step there.
+fn target_left(
+    infos: BlockInfos,
+    walk: Walk,
+    buffer: &mut [f32],
+    head: Event,
+    target: f32,
+    value: f32,
+) -> Turn
+    requires { ⌜ walk .filled ≤ length (now buffer) ⌝ }
+    ensures { λ r. ⌜ Turns (now (buffer .entry)) [] (targetLeft infos (walkIs walk (now (buffer .entry))) (alone head) target value) r (now (buffer .exit)) ⌝ }
+{
+    if !snaps(target, value) {
+        return Turn::stop(walk.with_intrinsic(value), head);
+    }
+    fills::flush(buffer, walk.filled, target);
+    let step = Event::Step {
+        value: target,
+        time: infos.next,
+    };
+    Turn::stop(walk.with_intrinsic(target), step)
 }
 
 // `next` is the event behind the head.
@@ -374,38 +368,29 @@ pub fn compute_set_target_automation(
     if time > infos.next {
         return Turn::stop(w, head);
     }
-    let end = end_by_hold(infos, hold, end_by_next(infos, time, next));
-    let end_time = hold_or(end, infos.next);
+    let ended = end_by_hold(infos, hold, end_by_next(infos, time, next));
+    let end_time = hold_or(ended, infos.next);
+    let end_index = samples::end_place_of(infos, end_time);
+    let intrinsic = walk.intrinsic;
     let start_value = last_event.value;
     let diff = start_value - value;
-    let end_index = samples::end_place_of(infos, end_time);
     let filled = fills::fill_target(
         infos,
         buffer,
         walk.filled,
         end_index,
         time,
-        walk.intrinsic,
+        intrinsic,
         start_value,
         value,
         constant,
     );
     let w = w.with_filled(filled);
-    let at_end = fills::target_value(time, walk.intrinsic, constant, value, diff, end_time);
-    let MaybeTime::Missing = end else {
-        return Turn::consume(w, end_time, at_end, head);
+    let at_end = fills::target_value(time, intrinsic, constant, value, diff, end_time);
+    let MaybeTime::At(_) = ended else {
+        return target_left(infos, w, buffer, head, value, at_end);
     };
-    if snaps(value, at_end) {
-        fills::flush(buffer, filled, value);
-        return Turn::stop(
-            w.with_intrinsic(value),
-            Event::Step {
-                value,
-                time: infos.next,
-            },
-        );
-    }
-    Turn::stop(w.with_intrinsic(at_end), head)
+    Turn::consume(w, end_time, at_end, head)
 }
 
 // `values` are the curve's own numbers.
@@ -433,6 +418,7 @@ pub fn compute_set_value_curve_automation(
     }
     let end_time = hold_or(hold, start + duration);
     let end_index = samples::end_place_of(infos, end_time);
+    let intrinsic = walk.intrinsic;
     let filled = fills::fill_curve(
         infos,
         buffer,
@@ -440,19 +426,19 @@ pub fn compute_set_value_curve_automation(
         end_index,
         start,
         duration,
-        walk.intrinsic,
+        intrinsic,
         values,
     );
     let w = walk.with_filled(filled);
     if end_time >= infos.next {
-        let value = fills::curve_value(start, walk.intrinsic, duration, values, infos.next);
-        return Turn::stop(w.with_intrinsic(value), head);
+        let at_next = fills::curve_value(start, intrinsic, duration, values, infos.next);
+        return Turn::stop(w.with_intrinsic(at_next), head);
     }
     let MaybeTime::At(_) = hold else {
         return Turn::consume(w, end_time, values[len - 1], head);
     };
-    let value = fills::curve_value(start, walk.intrinsic, duration, values, end_time);
-    Turn::consume(w, end_time, value, head)
+    let at_end = fills::curve_value(start, intrinsic, duration, values, end_time);
+    Turn::consume(w, end_time, at_end, head)
 }
 
 // ---- the walk

@@ -47,50 +47,49 @@ pub record Along (sample : Float → Float) (dt t₀ : Float) (from to : ℕ) (b
   pub time : t ≡ after dt (i - from) t₀
   pub values : take i s ≡ take from b ++ run sample dt (i - from) t₀
 
-module _ (sample : Float → Float) (dt t₀ : Float) (from to : ℕ) (b : List Float) where
-  pub begins : Room from to b → (t : Float) → t ≡ t₀ → Along sample dt t₀ from to b from t b
-  unfolding after run
-  begins r t e =
-      let z : from - from ≡ 0 = omega arith in
+pub begins : {sample : Float → Float} {dt t₀ : Float} {from to : ℕ} {b : List Float} → Room from to b → {t : Float} → t ≡ t₀ → Along sample dt t₀ from to b from t b
+unfolding after run
+begins {from = from} {b = b} r e =
+    let z : from - from ≡ 0 = omega arith in
+    record {
+      past = omega arith;
+      upto = omega arith;
+      room = r .upto;
+      small = r .filled;
+      whole = refl;
+      time = rw z e;
+      values = rw z (sym (append-nil (take from b)));
+    }
+
+module _ {sample : Float → Float} {dt t₀ : Float} {from to : ℕ} {b : List Float} {i : ℕ} {t : Float} {s : List Float} (a : Along sample dt t₀ from to b i t s) where
+  pub goes-on : i < to → {v : Float} → v ≡ sample t → Along sample dt t₀ from to b (i + 1) (Ieee.add binary64 t dt) (set s i v)
+  goes-on h {v} e =
+      let k : i + 1 - from ≡ suc (i - from) = omega (arith, a .past) in
+      let w : length (set s i v) ≡ length s = length-set s i v in
       record {
-        past = omega arith;
-        upto = omega arith;
-        room = r .upto;
-        small = r .filled;
-        whole = refl;
-        time = rw z e;
-        values = rw z (sym (append-nil (take from b)));
+        past = omega (arith, a .past);
+        upto = omega (arith, a .past, a .upto);
+        room = a .room;
+        small = omega (arith, a .whole, a .room);
+        whole = w ∙ a .whole;
+        time = rw (k, after-more dt (i - from) t₀, ← a .time);
+        values =
+            rw (add-one i, take-suc-set s i v (omega (arith, a .whole, a .room)), a .values, append-assoc, ← add-one i, k, run-more sample dt (i - from) t₀, ← a .time, e);
       }
 
-  module _ {i : ℕ} {t : Float} {s : List Float} (a : Along sample dt t₀ from to b i t s) where
-    pub goes-on : i < to → (v : Float) → v ≡ sample t → Along sample dt t₀ from to b (i + 1) (Ieee.add binary64 t dt) (set s i v)
-    goes-on h v e =
-        let k : i + 1 - from ≡ suc (i - from) = omega (arith, a .past) in
-        let w : length (set s i v) ≡ length s = length-set s i v in
-        record {
-          past = omega (arith, a .past);
-          upto = omega (arith, a .past, a .upto);
-          room = a .room;
-          small = omega (arith, a .whole, a .room);
-          whole = w ∙ a .whole;
-          time = rw (k, after-more dt (i - from) t₀, ← a .time);
-          values =
-              rw (add-one i, take-suc-set s i v (omega (arith, a .whole, a .room)), a .values, append-assoc, ← add-one i, k, run-more sample dt (i - from) t₀, ← a .time, e);
-        }
+  -- a loop that keeps no time
+  pub untimed : Along sample dt t₀ from to b i (after dt (i - from) t₀) s
+  untimed = record { past = a .past; upto = a .upto; room = a .room; small = a .small; whole = a .whole; time = refl; values = a .values }
 
-    -- a loop that keeps no time
-    pub untimed : Along sample dt t₀ from to b i (after dt (i - from) t₀) s
-    untimed = record { past = a .past; upto = a .upto; room = a .room; small = a .small; whole = a .whole; time = refl; values = a .values }
-
-    pub ended-values : to ≤ i → take i s ≡ take from b ++ run sample dt (to - from) t₀
-    ended-values h = let e : i - from ≡ to - from = omega (arith, a .past, a .upto) in rw (← e) (a .values)
+  ended-values : to ≤ i → take i s ≡ take from b ++ run sample dt (to - from) t₀
+  ended-values h = let e : i - from ≡ to - from = omega (arith, a .past, a .upto) in rw (← e) (a .values)
 
 -- ---- what it leaves, by the rate
 
 -- at A-rate
-filled-a : (f : BlockInfos) (sample : Float → Float) (from to : ℕ) (b : List Float) → Room from to b → f .rate ≡ Rate.A
+filled-a : (f : BlockInfos) (sample : Float → Float) {from to : ℕ} {b : List Float} → Room from to b → f .rate ≡ Rate.A
     → filled f to sample (take from b) ≡ take from b ++ run sample (f .dt) (to - from) (timeAt f from)
-filled-a f sample from to b room r =
+filled-a f sample {from} {to} {b} room r =
     fill-a f to sample (take from b) r
     ∙ ap (λ (k : ℕ). take from b ++ run sample (f .dt) (to - k) (timeAt f k)) (length-take-le from b (room .filled))
 
@@ -101,37 +100,36 @@ is-a Rate.A from to h = refl
 is-a Rate.K from to h = never (sym h)
 
 -- where nothing is
-nothing : (f : BlockInfos) (sample : Float → Float) (from to : ℕ) (b : List Float) → Room from to b → (r : AutomationRate) → f .rate ≡ r
-    → writesNone r from to ≡ true → filled f to sample (take from b) ≡ take from b
+nothing : (f : BlockInfos) (sample : Float → Float) {from to : ℕ} {b : List Float} → Room from to b → (r : AutomationRate) → f .rate ≡ r → writesNone r from to ≡ true
+    → filled f to sample (take from b) ≡ take from b
 unfolding writesNone run
-nothing f sample from to b room Rate.A e w =
+nothing f sample {from} {to} {b} room Rate.A e w =
     let z : to - from ≡ 0 = omega (arith, leb-true to from w) in
-    filled-a f sample from to b room e ∙ rw z (append-nil (take from b))
-nothing f sample from to b room Rate.K e w = fill-k f to sample (take from b) e
+    filled-a f sample room e ∙ rw z (append-nil (take from b))
+nothing f sample {from} {to} {b} room Rate.K e w = fill-k f to sample (take from b) e
 
-module _ (f : BlockInfos) (sample : Float → Float) (from to : ℕ) (b : List Float) (room : Room from to b) {w : Bool} (is : w ≡ writesNone (f .rate) from to) where
-  pub none : w ≡ true → Filled f to sample from b from b
-  none h = record { small = room .filled; whole = refl; values = sym (nothing f sample from to b room (f .rate) refl (sym is ∙ h)) }
+-- w is what code asks before it writes
+module _ {f : BlockInfos} {from to : ℕ} {b : List Float} (room : Room from to b) {w : Bool} (is : w ≡ writesNone (f .rate) from to) where
+  pub none : {sample : Float → Float} → w ≡ true → Filled f to sample from b from b
+  none {sample} h = record { small = room .filled; whole = refl; values = sym (nothing f sample room (f .rate) refl (sym is ∙ h)) }
 
-  pub ends : w ≡ false → {i : ℕ} {t : Float} {s : List Float} → Along sample (f .dt) (timeAt f from) from to b i t s → to ≤ i → Filled f to sample from b i s
-  ends h a l =
+  pub ends : w ≡ false → {sample : Float → Float} {i : ℕ} {t : Float} {s : List Float} → Along sample (f .dt) (timeAt f from) from to b i t s → to ≤ i
+      → Filled f to sample from b i s
+  ends h {sample} a l =
+      record {
+        small = a .small;
+        whole = a .whole;
+        values = ended-values a l ∙ sym (filled-a f sample room (is-a (f .rate) from to (sym is ∙ h)));
+      }
+
+  -- a run of one value is the same at any times
+  pub ends-alike : w ≡ false → {v dt t₀ : Float} {i : ℕ} {t : Float} {s : List Float} → Along (λ x. v) dt t₀ from to b i t s → to ≤ i → Filled f to (λ x. v) from b i s
+  ends-alike h {v} {dt} {t₀} a l =
       record {
         small = a .small;
         whole = a .whole;
         values =
-            ended-values sample (f .dt) (timeAt f from) from to b a l
-            ∙ sym (filled-a f sample from to b room (is-a (f .rate) from to (sym is ∙ h)));
+            ended-values a l
+            ∙ ap (λ (vs : List Float). take from b ++ vs) (run-alike v dt (to - from) t₀ ∙ sym (run-alike v (f .dt) (to - from) (timeAt f from)))
+            ∙ sym (filled-a f (λ x. v) room (is-a (f .rate) from to (sym is ∙ h)));
       }
-
--- a run of one value is the same at any times
-pub ends-alike : (f : BlockInfos) (v dt t₀ : Float) (from to : ℕ) (b : List Float) → Room from to b → {w : Bool} → w ≡ writesNone (f .rate) from to → w ≡ false
-    → {i : ℕ} {t : Float} {s : List Float} → Along (λ x. v) dt t₀ from to b i t s → to ≤ i → Filled f to (λ x. v) from b i s
-ends-alike f v dt t₀ from to b room is h a l =
-    record {
-      small = a .small;
-      whole = a .whole;
-      values =
-          ended-values (λ x. v) dt t₀ from to b a l
-          ∙ ap (λ (vs : List Float). take from b ++ vs) (run-alike v dt (to - from) t₀ ∙ sym (run-alike v (f .dt) (to - from) (timeAt f from)))
-          ∙ sym (filled-a f (λ x. v) from to b room (is-a (f .rate) from to (sym is ∙ h)));
-    }

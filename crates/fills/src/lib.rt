@@ -4,9 +4,9 @@ ghost use mathlib.Core.Bool.{cond};
 ghost use Prim.Native.Nat.{ℕ, _≤_};
 ghost use lib.ListN.{length};
 ghost use Rattle.rules.specs.Numbers.{plusZero, isSubnormal, timeAt};
-ghost use Rattle.rules.specs.Samples.{linearSample, ratioOf, ratioLog, exponentialSample, targetSample, curveSample};
+ghost use Rattle.rules.specs.Samples.{linearSample, targetSample, curveSample};
 ghost use Rattle.rules.specs.Walk.{fromStart};
-ghost use Rattle.samples.specs.At.{targetAt};
+ghost use Rattle.samples.specs.At.{exponentialAt, targetAt};
 ghost use Rattle.fills.specs.Filled.{Room, Filled, Flushed, writesNone};
 use rules::AutomationRate;
 use rules::BlockInfos;
@@ -31,6 +31,21 @@ fn time_at(infos: BlockInfos, place: usize) -> f64
     ensures { λ r. ⌜ r ≡ timeAt infos place ⌝ }
 {
     rounding::fused64(place as u64, infos.dt, infos.time)
+}
+
+// A linear ramp's value at a time.
+pub fn linear_value(from: Finished, value: f32, duration: f64, time: f64) -> f32
+    ensures { λ r. ⌜ r ≡ linearSample from value duration time ⌝ }
+{
+    let diff = value - from.value;
+    samples::compute_linear_ramp_sample(from.time, duration, from.value, diff, time)
+}
+
+// An exponential ramp's value at a time; `log` is L of its ratio, worked out once a ramp.
+pub fn exponential_value(from: Finished, duration: f64, log: i64, time: f64) -> f32
+    ensures { λ r. ⌜ r ≡ exponentialAt (from .time) duration (from .value) log time ⌝ }
+{
+    samples::compute_exponential_ramp_sample(from.time, duration, from.value, log, time)
 }
 
 // A target's value at a time; before its start it is the intrinsic one.
@@ -116,19 +131,17 @@ pub fn fill_linear_ramp(
     i
 }
 
-// `log` is L of the ratio, once a ramp.
 pub fn fill_exponential_ramp(
     infos: BlockInfos,
     buffer: &mut [f32],
     filled: usize,
     to: usize,
     from: Finished,
-    value: f32,
     duration: f64,
     log: i64,
 ) -> usize
-    requires { ⌜ Room filled to (now buffer) × (log ≡ ratioLog (ratioOf from value)) ⌝ }
-    ensures { λ r. ⌜ Filled infos to (exponentialSample from value duration) filled (now (buffer .entry)) r (now (buffer .exit)) ⌝ }
+    requires { ⌜ Room filled to (now buffer) ⌝ }
+    ensures { λ r. ⌜ Filled infos to (exponentialAt (from .time) duration (from .value) log) filled (now (buffer .entry)) r (now (buffer .exit)) ⌝ }
 {
     if writes_none(infos, filled, to) {
         return filled;
@@ -136,13 +149,7 @@ pub fn fill_exponential_ramp(
     let mut time = time_at(infos, filled);
     let mut i = filled;
     while i < to {
-        buffer[i] = samples::compute_exponential_ramp_sample(
-            from.time,
-            duration,
-            from.value,
-            log,
-            time,
-        );
+        buffer[i] = exponential_value(from, duration, log, time);
         time += infos.dt;
         i += 1;
     }

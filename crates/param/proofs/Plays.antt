@@ -18,7 +18,6 @@ use Rattle.rules.specs.declared.Verdict.the-variants as Verdict
 use Rattle.rules.specs.Numbers.{mostCount, mostEvents, storeLength, plusZero}
 use Rattle.rules.specs.Queue.{Waiting, headOf, eventsOf, lengthsOf, attached}
 use Rattle.rules.specs.Walk as Rules
-use Rattle.rules.specs.Mix.{mixed}
 use Rattle.rules.specs.Block.{Call, Answer, infosOf, restsFor, walkFrom, valuesBefore, renderedAs, rendered, saysOne, outputOf, answerOf, verdictOf, answered}
 use Rattle.laws.proofs.Places.{FilledSoFar, walk-fills}
 use Rattle.laws.proofs.Events.{events-attached, events-drop}
@@ -35,10 +34,9 @@ use Rattle.automation.specs.Walks.{waitingAs}
 use Rattle.automation.specs.Walked.{withHead, Walks}
 use Rattle.block.specs.Asked.{Given as FilledFor, Fitting, written}
 use Rattle.param.specs.declared.AudioParam.{AudioParam}
-use Rattle.param.specs.declared.process.Played.{Played}
 use Rattle.param.specs.declared.Processed.{Processed}
 use Rattle.param.specs.Param.{paramOf, structOf, partsOf, SoundParam}
-use Rattle.param.specs.Processed.{Playable, playedBy, Plays, Processes}
+use Rattle.param.specs.Processed.{Playable, afterwards, played, Plays, Processes}
 use Rattle.param.proofs.Calls.{whole, struct-sound, head-attached}
 
 -- ---- the queue behind a walk
@@ -66,36 +64,30 @@ unfolding valuesBefore
 before-few count Rate.A v = omega arith
 before-few count Rate.K v = refl
 
-module _ (p : AudioParam) (f : BlockInfos) (input output part : List Float) (g : Playable p f input output part) where
+module _ (p : AudioParam) (f : BlockInfos) (input output part : List Float) {q : AudioParamEventTimeline} {one : Bool} {r : Processed} {out left : List Float} where
   -- none of them reaches into it
-  pub rests : {q : AudioParamEventTimeline} {out left : List Float} → Leaves q part left (drop 0 (attached (paramOf p .queue) part))
-      → out ≡ written (p .bounds) f input (replicate (f .count) (p .intrinsic)) output
-      → Plays p f true input output part (record { timeline = q; intrinsic = p .intrinsic; last = p .last; steps = 1 }) out left
+  pub rests : Leaves q part left (drop 0 (attached (paramOf p .queue) part)) → out ≡ written (p .bounds) f input (replicate (f .count) (p .intrinsic)) output
+      → one ≡ saysOne (p .rate) true input → r ≡ afterwards p f q (p .intrinsic) (p .last) 1 one → Plays p f true input output part r out left
   unfolding renderedAs
-  rests l o = record { queue = l; intrinsic = refl; last = refl; steps = refl; samples = o }
+  rests l o e g = record { gives = g ∙ rw (l .queue, e); samples = o; packs = l .part }
 
   -- they are walked
   module _ {b c : List Float} {done : Walked} (w : Walks f (walkFrom (p .intrinsic) (p .last) (valuesBefore (f .rate) (p .intrinsic)) 0) (paramOf p .queue) part b done c) where
-    values-are : take (done .walk .filled) c ≡ playedBy p f false part .walk .values
+    pub walks : Leaves q part left (withHead (done .head) (drop (done .at) (attached (paramOf p .queue) part)))
+        → out ≡ written (p .bounds) f input (take (done .walk .filled) c) output → one ≡ saysOne (p .rate) false input
+        → r ≡ afterwards p f q (done .walk .intrinsic) (done .walk .last) (done .walk .steps) one → Plays p f false input output part r out left
     unfolding renderedAs
-    values-are = ap (λ (x : Rules.Walk). x .values) (w .walk)
-
-    pub walk-given : FilledFor f (take (done .walk .filled) c)
-    unfolding renderedAs
-    walk-given = rw values-are (walk-fills f _ _ (before-few (f .count) (f .rate) (p .intrinsic)))
-
-    pub walks : {q : AudioParamEventTimeline} {out left : List Float} → Leaves q part left (withHead (done .head) (drop (done .at) (attached (paramOf p .queue) part)))
-        → out ≡ written (p .bounds) f input (take (done .walk .filled) c) output
-        → Plays p f false input output part (record { timeline = q; intrinsic = done .walk .intrinsic; last = done .walk .last; steps = done .walk .steps }) out left
-    unfolding renderedAs
-    walks l o =
+    walks l o e g =
         record {
-          queue = rw (w .queue) at l;
-          intrinsic = ap (λ (x : Rules.Walk). x .intrinsic) (w .walk);
-          last = ap (λ (x : Rules.Walk). x .last) (w .walk);
-          steps = ap (λ (x : Rules.Walk). x .steps) (w .walk);
-          samples = o ∙ ap (λ (vs : List Float). written (p .bounds) f input vs output) values-are;
+          gives = g ∙ rw (l .queue, w .queue, e, ← w .walk);
+          samples = o ∙ rw (← w .walk);
+          packs = l .part ∙ rw (w .queue);
         }
+
+-- a walk fills the block
+pub walk-given : (p : AudioParam) (f : BlockInfos) (part : List Float) {b c : List Float} {done : Walked}
+    → Walks f (walkFrom (p .intrinsic) (p .last) (valuesBefore (f .rate) (p .intrinsic)) 0) (paramOf p .queue) part b done c → FilledFor f (take (done .walk .filled) c)
+walk-given p f part w = rw (ap (λ (x : Rules.Walk). x .values) (w .walk)) (walk-fills f _ _ (before-few (f .count) (f .rate) (p .intrinsic)))
 
 -- ---- the block
 
@@ -146,29 +138,22 @@ module _ (p : AudioParam) (store : List Float) (c : Call) (s : SoundParam p) whe
             room = omega arith;
           })
 
-      pub plays : {rests one : Bool} {current : Float} {r : Played} {out left : List Float} → rests ≡ restsFor f (firstOf (paramOf p .queue))
-          → Plays p f rests (c .input) (c .output) store r out left → current ≡ mixed (p .bounds) plusZero (p .intrinsic) → one ≡ saysOne (p .rate) rests (c .input)
-          → Processes p store c
-          (record {
-            verdict = v;
-            param = partsOf (p .bounds) (p .rate) (r .intrinsic) (r .timeline) (MaybeTime.At (f .time)) (r .last);
-            steps = r .steps;
-            current = current;
-            one = one;
-          }) out left
+      pub plays : {r : Processed} {out left : List Float} → Plays p f (restsFor f (firstOf (paramOf p .queue))) (c .input) (c .output) store r out left
+          → Processes p store c r out left
       unfolding answerOf outputOf written infosOf rendered
-      plays {rests} {one} {current} {r} {out} {left} t g i o =
+      plays {r} {out} {left} g =
           let ws = attached (paramOf p .queue) store in
-          let here : rests ≡ restsFor infos (headOf ws) = t ∙ ap (λ (x : BlockInfos). restsFor x (firstOf (paramOf p .queue))) is ∙ ap (restsFor infos) (sym (head-attached (paramOf p .queue) store)) in
-          let done : playedBy p infos rests store ≡ rendered infos (p .intrinsic) (p .last) ws = rw here in
-          let g' : Plays p infos rests (c .input) (c .output) store r out left = rw is at g in
+          let t = restsFor infos (firstOf (paramOf p .queue)) in
+          let here : t ≡ restsFor infos (headOf ws) = ap (restsFor infos) (sym (head-attached (paramOf p .queue) store)) in
+          let done : played p infos t store ≡ rendered infos (p .intrinsic) (p .last) ws = rw here in
+          let g' : Plays p infos t (c .input) (c .output) store r out left = rw is at g in
           processes
           (answerOf (paramOf p) ws c (rendered infos (p .intrinsic) (p .last) ws))
           (answer-is (paramOf p) store c fine)
-          h
-          (rw (is, ← done, g' .intrinsic, g' .last, g' .queue .queue))
-          (rw (← done, g' .steps))
-          i
-          (rw (← here, o))
+          (ap (λ (x : Processed). x .verdict) (g' .gives))
+          (rw (← done) (ap (λ (x : Processed). x .param) (g' .gives)))
+          (rw (← done) (ap (λ (x : Processed). x .steps) (g' .gives)))
+          (ap (λ (x : Processed). x .current) (g' .gives))
+          (rw (← here) (ap (λ (x : Processed). x .one) (g' .gives)))
           (rw (← done, g' .samples))
-          (rw (← done) (g' .queue .part ∙ packed-whole store _ (asked-for .lent)))
+          (rw (← done) (g' .packs ∙ packed-whole store _ (asked-for .lent)))

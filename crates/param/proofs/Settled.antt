@@ -1,20 +1,25 @@
--- What the contracts settle: two results that one allows for the same input are the same. Assumes nothing.
+-- What the contracts settle: two results that one allows for the same input are the same; and a refused call changes nothing. Assumes nothing.
 use mathlib.Core.Path.{_≡_, refl, sym, ap, _∙_}
 use mathlib.Core.Bool.{true}
 use mathlib.Core.List.{List}
+use Prim.Native.Nat.{ℕ}
+use native.Mathlib.Omega.{arith}
 use lib.Ieee.{Float}
 use borrow.Author.Tests.{le-leb}
 use Rattle.rules.specs.declared.Bounds.{Bounds}
 use Rattle.rules.specs.declared.AutomationRate.{AutomationRate}
 use Rattle.rules.specs.declared.Refusal.{Refusal}
 use Rattle.rules.specs.declared.Verdict.the-variants as Verdict
+use Rattle.rules.specs.declared.Event.{Event}
+use Rattle.rules.specs.declared.Verdict.{Verdict}
 use Rattle.rules.specs.Numbers.{mostEvents}
-use Rattle.rules.specs.Block.{Command, madeAs}
+use Rattle.rules.specs.Queue.{Waiting}
+use Rattle.rules.specs.Block.{Param, madeAs, Called, calledAs, scheduledAs, Command, set, step, linear, exponential, target, curve, cancel, hold, called}
 use Rattle.laws.proofs.Tests.{and}
 use Rattle.laws.proofs.Tested.{passes-test}
 use Rattle.param.specs.declared.AudioParam.{AudioParam}
 use Rattle.param.specs.declared.Outcome.{Outcome}
-use Rattle.param.specs.Param.{paramOf, SoundParam, nothingMade, isWhole, Makes, Answers, Restores}
+use Rattle.param.specs.Param.{paramOf, structOf, SoundParam, nothingMade, isWhole, Makes, Answers, Restores}
 use Rattle.param.proofs.Calls.{whole}
 
 same : {a b : Outcome} → a .verdict ≡ b .verdict → a .param ≡ b .param → a ≡ b
@@ -41,3 +46,36 @@ restores-own {p} s a =
 pub unmade-is : (why : Refusal) (b : Bounds) (rate : AutomationRate) → madeAs (Verdict.Refused why) b rate ≡ nothingMade
 unfolding madeAs
 unmade-is why b rate = refl
+
+-- ---- "Any other refusal returns the parameter unchanged .. and touches neither output nor curve store."
+
+abbrev Same : Param → List Float → Called → Type 0
+Same p store x = (x .param ≡ p) × (x .store ≡ store)
+
+module _ (p : Param) (store : List Float) {why : Refusal} where
+  called-same : (v : Verdict) (ws : List Waiting) (i : Float) → calledAs v p store ws i .verdict ≡ Verdict.Refused why → Same p store (calledAs v p store ws i)
+  unfolding calledAs
+  called-same Verdict.Answered ws i h = let z : _≡_ {A = ℕ} 0 1 = cc in absurd (omega arith)
+  called-same (Verdict.Refused r) ws i h = (refl, refl)
+
+  scheduled-same : (v : Verdict) (e : Event) → scheduledAs v p store e .verdict ≡ Verdict.Refused why → Same p store (scheduledAs v p store e)
+  unfolding scheduledAs
+  scheduled-same Verdict.Answered e h = let z : _≡_ {A = ℕ} 0 1 = cc in absurd (omega arith)
+  scheduled-same (Verdict.Refused r) e h = (refl, refl)
+
+  refused-called : (c : Command) → called p store c .verdict ≡ Verdict.Refused why → Same p store (called p store c)
+  unfolding called
+  refused-called (set v) h = scheduled-same _ _ h
+  refused-called (step v t) h = scheduled-same _ _ h
+  refused-called (linear v t) h = scheduled-same _ _ h
+  refused-called (exponential v t) h = scheduled-same _ _ h
+  refused-called (target v t c) h = scheduled-same _ _ h
+  refused-called (curve t d xs) h = called-same _ _ _ h
+  refused-called (cancel c) h = called-same _ _ _ h
+  refused-called (hold c) h = called-same _ _ _ h
+
+pub refused-same : {p : AudioParam} {store after : List Float} {c : Command} {r : Outcome} {why : Refusal} → SoundParam p → Answers p store c r after
+    → r .verdict ≡ Verdict.Refused why → (r .param ≡ p) × (after ≡ store)
+refused-same {p} {store} {after} {c} s a h =
+    let same = refused-called (paramOf p) store c (sym (a .verdict) ∙ h) in
+    (a .param ∙ ap structOf (same .0) ∙ sym (whole p s), a .left ∙ same .1)

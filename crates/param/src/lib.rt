@@ -93,7 +93,7 @@ fn value_after_cancel(c: f64, head: Head, last: LastEvent, value: f32) -> f32
 
 impl AudioParam {
     // How many events can wait.
-    pub const EVENTS: usize = 64;
+    pub const EVENTS: usize = timeline::EVENTS;
     // How many numbers all waiting curves can have, and the curve store does.
     pub const STORE: usize = 4096;
     // How many samples a block can have.
@@ -306,10 +306,13 @@ impl AudioParam {
                 let q = curves::insert(q, start, duration, values, store);
                 self.answered(q, self.intrinsic)
             }
-            Verdict::Refused(_) => Outcome {
-                verdict,
-                param: self,
-            },
+            Verdict::Refused(_) => {
+                // Nothing is written: the store stays as it was lent.
+                Outcome {
+                    verdict,
+                    param: self,
+                }
+            }
         }
     }
 

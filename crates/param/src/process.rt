@@ -4,12 +4,13 @@ ghost use mathlib.Core.Bool.{true, false};
 ghost use Prim.Native.Nat.{ℕ, _≤_};
 ghost use lib.ListN.{length, drop};
 ghost use Rattle.rules.specs.Queue.{lengthsOf, attached};
-ghost use Rattle.timeline.specs.Timeline.{Neat, waiting};
+ghost use Rattle.rules.specs.Block.{restsFor};
+ghost use Rattle.timeline.specs.Timeline.{Neat, waiting, firstOf};
 ghost use Rattle.curves.specs.Curves.{Leaves};
 ghost use Rattle.automation.specs.Walked.{withHead};
 ghost use Rattle.block.specs.Asked.{asked};
-ghost use Rattle.param.specs.Param.{SoundParam};
-ghost use Rattle.param.specs.Processed.{Playable, Plays, Processes};
+ghost use Rattle.param.specs.Param.{paramOf, SoundParam};
+ghost use Rattle.param.specs.Processed.{Playable, afterwards, Plays, Processes};
 use crate::AudioParam;
 use crate::Processed;
 use rules::BlockInfos;
@@ -18,14 +19,6 @@ use rules::LastEvent;
 use rules::MaybeTime;
 use rules::Verdict;
 use timeline::AudioParamEventTimeline;
-
-// What a block's events leave: those that still wait, the intrinsic value, the last event, the steps.
-struct Played {
-    timeline: AudioParamEventTimeline,
-    intrinsic: f32,
-    last: LastEvent,
-    steps: usize,
-}
 
 // What a walk leaves of the queue: the events before `at` are finished, and the one there is what it has become.
 fn left(
@@ -45,25 +38,65 @@ fn left(
 }
 
 impl AudioParam {
+    // What an answered block gives back, by what its events left.
+    fn after(
+        self,
+        infos: BlockInfos,
+        timeline: AudioParamEventTimeline,
+        intrinsic: f32,
+        last: LastEvent,
+        steps: usize,
+        one: bool,
+    ) -> Processed
+        ensures { λ r. ⌜ r ≡ afterwards self infos timeline intrinsic last steps one ⌝ }
+    {
+        let bounds = self.bounds;
+        let rate = self.rate;
+        let param = AudioParam {
+            bounds,
+            rate,
+            intrinsic,
+            timeline,
+            block: MaybeTime::At(infos.time),
+            last,
+        };
+        Processed {
+            verdict: Verdict::Answered,
+            param,
+            steps,
+            current: mix::mixed_value(bounds, 0.0, self.intrinsic),
+            one,
+        }
+    }
+
     // A one-valued block: the intrinsic value, one step.
-    fn rest(self, infos: BlockInfos, input: &[f32], output: &mut [f32], part: &mut [f32]) -> Played
+    fn rest(
+        self,
+        infos: BlockInfos,
+        input: &[f32],
+        output: &mut [f32],
+        part: &mut [f32],
+    ) -> Processed
         requires { ⌜ Playable self infos (now input) (now output) (now part) ⌝ }
         ensures { λ r. ⌜ Plays self infos true (now (input .entry)) (now (output .entry)) (now (part .entry)) r (now (output .exit)) (now (part .exit)) ⌝ }
     {
         block::mix_value(self.bounds, infos, self.intrinsic, input, output);
         let q = self.timeline;
         let timeline = curves::consume(q, 0, part);
+        let rate = self.rate;
+        let one = block::says_one(rate, true, input.len());
         let last = self.last;
-        Played {
-            timeline,
-            intrinsic: self.intrinsic,
-            last,
-            steps: 1,
-        }
+        self.after(infos, timeline, self.intrinsic, last, 1, one)
     }
 
-    // The heads that reach into the block, in turn.
-    fn walk(self, infos: BlockInfos, input: &[f32], output: &mut [f32], part: &mut [f32]) -> Played
+    // A block into which heads reach: they are taken in turn.
+    fn walk(
+        self,
+        infos: BlockInfos,
+        input: &[f32],
+        output: &mut [f32],
+        part: &mut [f32],
+    ) -> Processed
         requires { ⌜ Playable self infos (now input) (now output) (now part) ⌝ }
         ensures { λ r. ⌜ Plays self infos false (now (input .entry)) (now (output .entry)) (now (part .entry)) r (now (output .exit)) (now (part .exit)) ⌝ }
     {
@@ -83,28 +116,25 @@ impl AudioParam {
         block::mix_values(self.bounds, infos, &buffer[..filled], input, output);
         let head = done.head;
         let timeline = left(q, done.at, head, part);
+        let rate = self.rate;
+        let one = block::says_one(rate, false, input.len());
         let last = walk.last;
-        Played {
-            timeline,
-            intrinsic: walk.intrinsic,
-            last,
-            steps: walk.steps,
-        }
+        self.after(infos, timeline, walk.intrinsic, last, walk.steps, one)
     }
 
-    // The block's events, where `rests` says that none of them reaches into it.
-    fn play(
+    // An answered block, in the part of the store that is the parameter's.
+    fn render(
         self,
         infos: BlockInfos,
-        rests: bool,
         input: &[f32],
         output: &mut [f32],
         part: &mut [f32],
-    ) -> Played
+    ) -> Processed
         requires { ⌜ Playable self infos (now input) (now output) (now part) ⌝ }
-        ensures { λ r. ⌜ Plays self infos rests (now (input .entry)) (now (output .entry)) (now (part .entry)) r (now (output .exit)) (now (part .exit)) ⌝ }
+        ensures { λ r. ⌜ Plays self infos (restsFor infos (firstOf (paramOf self .queue))) (now (input .entry)) (now (output .entry)) (now (part .entry)) r (now (output .exit)) (now (part .exit)) ⌝ }
     {
-        if rests {
+        let q = self.timeline;
+        if block::rests_for(infos, q.peek()) {
             self.rest(infos, input, output, part)
         } else {
             self.walk(infos, input, output, part)
@@ -146,26 +176,6 @@ impl AudioParam {
         };
         let rate = self.rate;
         let infos = block::infos_of(rate, block_time, period, count);
-        let q = self.timeline;
-        let rests = block::rests_for(infos, q.peek());
-        let played = self.play(infos, rests, input, output, store);
-        let bounds = self.bounds;
-        let timeline = played.timeline;
-        let last = played.last;
-        let param = AudioParam {
-            bounds,
-            rate,
-            intrinsic: played.intrinsic,
-            timeline,
-            block: MaybeTime::At(infos.time),
-            last,
-        };
-        Processed {
-            verdict,
-            param,
-            steps: played.steps,
-            current: mix::mixed_value(bounds, 0.0, self.intrinsic),
-            one: block::says_one(rate, rests, input.len()),
-        }
+        self.render(infos, input, output, store)
     }
 }

@@ -94,42 +94,38 @@ fn held_event(e: Event, c: f64) -> Event
 {
     match e {
         Event::Step { value, time } => Event::Step { value, time },
-        Event::Linear { value, time, hold } => {
-            let hold = sooner(hold, c);
-            Event::Linear { value, time, hold }
-        }
-        Event::Exponential { value, time, hold } => {
-            let hold = sooner(hold, c);
-            Event::Exponential { value, time, hold }
-        }
+        Event::Linear { value, time, hold } => Event::Linear {
+            value,
+            time,
+            hold: sooner(hold, c),
+        },
+        Event::Exponential { value, time, hold } => Event::Exponential {
+            value,
+            time,
+            hold: sooner(hold, c),
+        },
         Event::Target {
             value,
             time,
             constant,
             hold,
-        } => {
-            let hold = sooner(hold, c);
-            Event::Target {
-                value,
-                time,
-                constant,
-                hold,
-            }
-        }
+        } => Event::Target {
+            value,
+            time,
+            constant,
+            hold: sooner(hold, c),
+        },
         Event::Curve {
             start,
             duration,
             len,
             hold,
-        } => {
-            let hold = sooner(hold, c);
-            Event::Curve {
-                start,
-                duration,
-                len,
-                hold,
-            }
-        }
+        } => Event::Curve {
+            start,
+            duration,
+            len,
+            hold: sooner(hold, c),
+        },
     }
 }
 

@@ -3,24 +3,16 @@ use Rattle.automation.proofs.Heads.{ends}
 use borrow.Author.Needs.{needs}
 use Rattle.automation.proofs.end.Statement.{statement}
 use Rattle.automation.proofs.end.Tie as tie
-use Rattle.automation.proofs.end.Reads as reads
-use Rattle.automation.proofs.end.Lts as lts
-use Rattle.automation.proofs.Walk.with_filled.Reads as with-filled-reads
-use Rattle.fills.proofs.fill_value.Reads as fill-value-reads
 
--- src/lib.rt:530:9
 fill-value-requires : tie.Need-fill-value-requires
 fill-value-requires c κs = search needs
 
--- src/lib.rt:532:15
 with-filled-requires : tie.Need-with-filled-requires
 with-filled-requires c κs = search needs
 
--- src/lib.rt:526:1
 same-length : tie.Need-same-length
 same-length c = search needs
 
--- src/lib.rt:526:1
 returns : tie.Need-returns
 returns c =
     let a = c .before .before .before .before .before .before .args in

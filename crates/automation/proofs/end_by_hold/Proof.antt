@@ -3,28 +3,21 @@ use Rattle.rules.specs.Walk.{endByHold}
 use borrow.Author.Needs.{needs}
 use Rattle.automation.proofs.end_by_hold.Statement.{statement}
 use Rattle.automation.proofs.end_by_hold.Tie as tie
-use Rattle.automation.proofs.end_by_hold.Reads as reads
-use Rattle.automation.proofs.end_by_hold.Lts as lts
 
--- src/lib.rt:190:23
 enum-known-hold : tie.Need-enum-known-hold
 enum-known-hold c = search needs
 
--- src/lib.rt:191:9
 enum-told : tie.Need-enum-told
 enum-told c = search needs
 
--- src/lib.rt:191:9
 returns : tie.Need-returns
 unfolding endByHold
 returns c = rw (c .enum-told .given .1)
 
--- src/lib.rt:187:1
 returns-2 : tie.Need-returns-2
 unfolding endByHold
 returns-2 c = rw (c .before .before .before .hold .given .1, c .if1 .taken)
 
--- src/lib.rt:187:1
 returns-3 : tie.Need-returns-3
 unfolding endByHold
 returns-3 c = rw (c .before .before .before .hold .given .1, c .if1 .left)

@@ -3,25 +3,17 @@ use Rattle.rules.specs.Samples.{isRatio}
 use borrow.Author.Needs.{needs}
 use Rattle.automation.proofs.is_ratio.Statement.{statement}
 use Rattle.automation.proofs.is_ratio.Tie as tie
-use Rattle.automation.proofs.is_ratio.Reads as reads
-use Rattle.automation.proofs.is_ratio.Lts as lts
-use Rattle.floats.proofs.is_finite32.Reads as is-finite32-reads
-use Rattle.floats.proofs.is_positive32.Reads as is-positive32-reads
 
--- src/lib.rt:165:5
 is-finite32-requires : tie.Need-is-finite32-requires
 is-finite32-requires c κs = search needs
 
--- src/lib.rt:165:35
 is-positive32-requires : tie.Need-is-positive32-requires
 is-positive32-requires c κs = search needs
 
--- src/lib.rt:162:1
 returns : tie.Need-returns
 unfolding isRatio
 returns c = rw (← c .before .before .is-finite32 .ensures, c .before .if1 .taken) (c .is-positive32 .ensures)
 
--- src/lib.rt:162:1
 returns-2 : tie.Need-returns-2
 unfolding isRatio
 returns-2 c = rw (← c .before .is-finite32 .ensures, c .if1 .left)

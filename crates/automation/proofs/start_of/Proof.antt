@@ -5,23 +5,17 @@ use Rattle.rules.specs.Walk.{lastOr}
 use borrow.Author.Needs.{needs}
 use Rattle.automation.proofs.start_of.Statement.{statement}
 use Rattle.automation.proofs.start_of.Tie as tie
-use Rattle.automation.proofs.start_of.Reads as reads
-use Rattle.automation.proofs.start_of.Lts as lts
 
--- src/lib.rt:50:28
 enum-told : tie.Need-enum-told
 enum-told c = search needs
 
--- src/lib.rt:54:25
 enum-known-last : tie.Need-enum-known-last
 enum-known-last c = search needs
 
--- src/lib.rt:45:1
 returns : tie.Need-returns
 unfolding lastOr
 returns c = let a = c .before .before .args in ap (λ (l : LastEvent). lastOr (a .infos) (a .walk .intrinsic) l) (sym (c .enum-told .given .1))
 
--- src/lib.rt:45:1
 returns-2 : tie.Need-returns-2
 unfolding lastOr
 returns-2 c = let a = c .before .before .before .args in ap (λ (l : LastEvent). lastOr (a .infos) (a .walk .intrinsic) l) (sym (c .before .last .given .1))

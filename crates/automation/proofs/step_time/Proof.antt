@@ -4,15 +4,11 @@ use Rattle.rules.specs.Numbers.{isZero}
 use Rattle.rules.specs.Walk.{stepTime}
 use Rattle.automation.proofs.step_time.Statement.{statement}
 use Rattle.automation.proofs.step_time.Tie as tie
-use Rattle.automation.proofs.step_time.Reads as reads
-use Rattle.automation.proofs.step_time.Lts as lts
 
--- src/lib.rt:38:1
 returns : tie.Need-returns
 unfolding stepTime isZero Ieee.ofBits
 returns c = rw (c .if1 .taken)
 
--- src/lib.rt:38:1
 returns-2 : tie.Need-returns-2
 unfolding stepTime isZero Ieee.ofBits
 returns-2 c = rw (c .if1 .left)

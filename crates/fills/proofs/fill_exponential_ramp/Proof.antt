@@ -1,110 +1,67 @@
 -- `fill_exponential_ramp` meets its contract: the loop is a run of the ramp's samples, L worked out before. Assumes nothing.
-use mathlib.Core.Path.{ap, _∙_}
-use Prim.Native.Nat.{ℕ, _-_}
+use mathlib.Core.Path.{subst}
+use Prim.Native.Nat.{_-_}
 use native.Mathlib.Omega.{arith}
 use lib.IntN.{ℤ}
+use mir.Syntax.{w64}
+use mir.Val.{toZ}
 use mir.Facts.{toZ-ofZ}
 use borrow.Author.Needs.{needs}
 use Rattle.rules.specs.Numbers.{timeAt}
-use Rattle.rules.specs.Samples.{exponentialSample}
 use Rattle.samples.specs.At.{exponentialAt}
+use Rattle.fills.specs.Filled.{Filled}
 use Rattle.fills.proofs.Along.{Along, begins, goes-on, none, ends}
 use Rattle.fills.proofs.fill_exponential_ramp.Statement.{statement}
 use Rattle.fills.proofs.fill_exponential_ramp.Tie as tie
-use Rattle.fills.proofs.fill_exponential_ramp.Reads as reads
-use Rattle.fills.proofs.fill_exponential_ramp.Lts as lts
-use Rattle.fills.proofs.time_at.Reads as time-at-reads
-use Rattle.fills.proofs.writes_none.Reads as writes-none-reads
-use Rattle.samples.proofs.compute_exponential_ramp_sample.Reads as compute-exponential-ramp-sample-reads
 
+-- L is a signed number, which a loop has as its bits
 abbrev Inv-loop : tie.InvT-loop
-Inv-loop infos buffer₀ filled to from value duration log time₀ i₀ buffer time i =
-    Along (exponentialSample from value duration) (infos .dt) (timeAt infos filled) filled to buffer₀ i time buffer
+Inv-loop infos buffer₀ filled to from duration log time₀ i₀ buffer time i =
+    Along (exponentialAt (from .time) duration (from .value) (toZ w64 log)) (infos .dt) (timeAt infos filled) filled to buffer₀ i time buffer
 
 abbrev μ-loop : tie.MeasureT-loop
-μ-loop infos buffer₀ filled to from value duration log time₀ i₀ buffer time i = to - i
+μ-loop infos buffer₀ filled to from duration log time₀ i₀ buffer time i = to - i
 
--- src/lib.rt:93:9
 writes-none-requires : tie.Need-writes-none-requires Inv-loop μ-loop
 writes-none-requires c κs = search needs
 
--- src/lib.rt:94:9
 returns : tie.Need-returns Inv-loop μ-loop
-returns c =
-    let a = c .before .before .before .args in
-    none (a .infos) (exponentialSample (a .from) (a .value) (a .duration)) (a .filled) (a .to) (a .buffer .now) (c .before .before .before .pre .0) (c .before .writes-none .ensures) (c .if1 .taken)
+returns c = none (c .before .before .before .pre) (c .before .writes-none .ensures) (c .if1 .taken)
 
--- src/lib.rt:97:9
 time-at-requires : tie.Need-time-at-requires Inv-loop μ-loop
 time-at-requires c κs = search needs
 
--- src/lib.rt:99:5
 loop-holds : tie.Need-loop-holds Inv-loop μ-loop
-loop-holds c =
-    let s = c .before .before .before .before in
-    let a = s .args in
-    begins (exponentialSample (a .from) (a .value) (a .duration)) (a .infos .dt) (timeAt (a .infos) (a .filled)) (a .filled) (a .to) (a .buffer .now) (s .pre .0) (c .time-at .result) (c .time-at .ensures)
+loop-holds c = begins (c .before .before .before .before .pre) (c .time-at .ensures)
 
--- src/lib.rt:101:13
-compute-exponential-ramp-sample-requires : tie.Need-compute-exponential-ramp-sample-requires Inv-loop μ-loop
-compute-exponential-ramp-sample-requires c κs = search needs
+exponential-value-requires : tie.Need-exponential-value-requires Inv-loop μ-loop
+exponential-value-requires c κs = search needs
 
--- src/lib.rt:100:9
 mul-buffer : tie.Need-mul-buffer Inv-loop μ-loop
 mul-buffer c = search needs
 
--- src/lib.rt:100:9
 slice-write-buffer : tie.Need-slice-write-buffer Inv-loop μ-loop
 slice-write-buffer c = search needs
 
--- src/lib.rt:103:9
 add-i : tie.Need-add-i Inv-loop μ-loop
 add-i c = search needs
 
--- src/lib.rt:99:5
 loop-less : tie.Need-loop-less Inv-loop μ-loop
 loop-less c = search needs
 
--- src/lib.rt:99:5
 loop-again : tie.Need-loop-again Inv-loop μ-loop
-unfolding exponentialSample exponentialAt
-loop-again c =
-    let s = c .before .before .before .before .before .before .before .before in
-    let a = s .args in
-    let r = c .before .compute-exponential-ramp-sample in
-    goes-on
-    (exponentialSample (a .from) (a .value) (a .duration))
-    (a .infos .dt)
-    (timeAt (a .infos) (a .filled))
-    (a .filled)
-    (a .to)
-    (a .buffer .now)
-    (c .before .before .before .loop .inv)
-    (omega arith)
-    (r .result)
-    (r .ensures ∙ ap (λ (l : ℤ). exponentialAt (a .from .time) (a .duration) (a .from .value) l (c .before .before .before .loop .time)) (toZ-ofZ (s .fits .log) ∙ s .pre .1))
+loop-again c = goes-on (c .before .before .before .loop .inv) (omega arith) (c .before .exponential-value .ensures)
 
--- src/lib.rt:81:1
 same-length : tie.Need-same-length Inv-loop μ-loop
 same-length c = c .before .loop .inv .whole
 
--- src/lib.rt:81:1
 returns-2 : tie.Need-returns-2 Inv-loop μ-loop
 returns-2 c =
     let s = c .before .before .before .before .before .before in
-    let a = s .args in
-    let w = c .before .before .before .before .writes-none in
-    ends
-    (a .infos)
-    (exponentialSample (a .from) (a .value) (a .duration))
-    (a .filled)
-    (a .to)
-    (a .buffer .now)
-    (s .pre .0)
-    (w .ensures)
-    (c .before .before .before .if1 .left)
-    (c .before .loop .inv)
-    (omega arith)
+    subst
+    (λ (n : ℤ). Filled (s .args .infos) (s .args .to) (exponentialAt (s .args .from .time) (s .args .duration) (s .args .from .value) n) (s .args .filled) (s .args .buffer .now) (c .before .loop .i) (c .before .loop .buffer))
+    (toZ-ofZ (s .fits .log))
+    (ends (s .pre) (c .before .before .before .before .writes-none .ensures) (c .before .before .before .if1 .left) (c .before .loop .inv) (omega arith))
 
 pub fill-exponential-ramp-spec : {M : Type 1} → statement M
 fill-exponential-ramp-spec =
@@ -116,7 +73,7 @@ fill-exponential-ramp-spec =
     returns
     time-at-requires
     loop-holds
-    compute-exponential-ramp-sample-requires
+    exponential-value-requires
     mul-buffer
     slice-write-buffer
     add-i

@@ -1,5 +1,5 @@
 -- `fill_linear_ramp` meets its contract: the loop is a run of the ramp's samples. Assumes nothing.
-use Prim.Native.Nat.{ℕ, _-_}
+use Prim.Native.Nat.{_-_}
 use native.Mathlib.Omega.{arith}
 use borrow.Author.Needs.{needs}
 use Rattle.rules.specs.Numbers.{timeAt}
@@ -8,11 +8,6 @@ use Rattle.samples.specs.At.{linearAt}
 use Rattle.fills.proofs.Along.{Along, begins, goes-on, none, ends}
 use Rattle.fills.proofs.fill_linear_ramp.Statement.{statement}
 use Rattle.fills.proofs.fill_linear_ramp.Tie as tie
-use Rattle.fills.proofs.fill_linear_ramp.Reads as reads
-use Rattle.fills.proofs.fill_linear_ramp.Lts as lts
-use Rattle.fills.proofs.time_at.Reads as time-at-reads
-use Rattle.fills.proofs.writes_none.Reads as writes-none-reads
-use Rattle.samples.proofs.compute_linear_ramp_sample.Reads as compute-linear-ramp-sample-reads
 
 abbrev Inv-loop : tie.InvT-loop
 Inv-loop infos buffer₀ filled to from value duration diff time₀ i₀ buffer time i =
@@ -21,85 +16,43 @@ Inv-loop infos buffer₀ filled to from value duration diff time₀ i₀ buffer 
 abbrev μ-loop : tie.MeasureT-loop
 μ-loop infos buffer₀ filled to from value duration diff time₀ i₀ buffer time i = to - i
 
--- src/lib.rt:93:9
 writes-none-requires : tie.Need-writes-none-requires Inv-loop μ-loop
 writes-none-requires c κs = search needs
 
--- src/lib.rt:94:9
 returns : tie.Need-returns Inv-loop μ-loop
-returns c =
-    let a = c .before .before .before .args in
-    none (a .infos) (linearSample (a .from) (a .value) (a .duration)) (a .filled) (a .to) (a .buffer .now) (c .before .before .before .pre) (c .before .writes-none .ensures) (c .if1 .taken)
+returns c = none (c .before .before .before .pre) (c .before .writes-none .ensures) (c .if1 .taken)
 
--- src/lib.rt:97:9
 time-at-requires : tie.Need-time-at-requires Inv-loop μ-loop
 time-at-requires c κs = search needs
 
--- src/lib.rt:99:5
 loop-holds : tie.Need-loop-holds Inv-loop μ-loop
-loop-holds c =
-    let s = c .before .before .before .before .before in
-    let a = s .args in
-    begins (linearSample (a .from) (a .value) (a .duration)) (a .infos .dt) (timeAt (a .infos) (a .filled)) (a .filled) (a .to) (a .buffer .now) (s .pre) (c .time-at .result) (c .time-at .ensures)
+loop-holds c = begins (c .before .before .before .before .before .pre) (c .time-at .ensures)
 
--- src/lib.rt:101:13
 compute-linear-ramp-sample-requires : tie.Need-compute-linear-ramp-sample-requires Inv-loop μ-loop
 compute-linear-ramp-sample-requires c κs = search needs
 
--- src/lib.rt:100:9
 mul-buffer : tie.Need-mul-buffer Inv-loop μ-loop
 mul-buffer c = search needs
 
--- src/lib.rt:100:9
 slice-write-buffer : tie.Need-slice-write-buffer Inv-loop μ-loop
 slice-write-buffer c = search needs
 
--- src/lib.rt:103:9
 add-i : tie.Need-add-i Inv-loop μ-loop
 add-i c = search needs
 
--- src/lib.rt:99:5
 loop-less : tie.Need-loop-less Inv-loop μ-loop
 loop-less c = search needs
 
--- src/lib.rt:99:5
 loop-again : tie.Need-loop-again Inv-loop μ-loop
 unfolding linearSample linearAt
-loop-again c =
-    let a = c .before .before .before .before .before .before .before .before .before .args in
-    goes-on
-    (linearSample (a .from) (a .value) (a .duration))
-    (a .infos .dt)
-    (timeAt (a .infos) (a .filled))
-    (a .filled)
-    (a .to)
-    (a .buffer .now)
-    (c .before .before .before .loop .inv)
-    (omega arith)
-    (c .before .compute-linear-ramp-sample .result)
-    (c .before .compute-linear-ramp-sample .ensures)
+loop-again c = goes-on (c .before .before .before .loop .inv) (omega arith) (c .before .compute-linear-ramp-sample .ensures)
 
--- src/lib.rt:81:1
 same-length : tie.Need-same-length Inv-loop μ-loop
 same-length c = c .before .loop .inv .whole
 
--- src/lib.rt:81:1
 returns-2 : tie.Need-returns-2 Inv-loop μ-loop
 returns-2 c =
-    let s = c .before .before .before .before .before .before .before in
-    let a = s .args in
-    let w = c .before .before .before .before .before .writes-none in
-    ends
-    (a .infos)
-    (linearSample (a .from) (a .value) (a .duration))
-    (a .filled)
-    (a .to)
-    (a .buffer .now)
-    (s .pre)
-    (w .ensures)
-    (c .before .before .before .before .if1 .left)
-    (c .before .loop .inv)
-    (omega arith)
+    ends (c .before .before .before .before .before .before .before .pre) (c .before .before .before .before .before .writes-none .ensures) (c .before .before .before .before .if1 .left) (c .before .loop .inv) (omega arith)
 
 pub fill-linear-ramp-spec : {M : Type 1} → statement M
 fill-linear-ramp-spec =

@@ -1,5 +1,5 @@
 -- `flush` meets its contract: the loop flushes the places filled. Assumes nothing.
-use Prim.Native.Nat.{ℕ, _-_}
+use Prim.Native.Nat.{_-_}
 use native.Mathlib.Omega.{arith}
 use lib.Ieee as Ieee
 use borrow.Author.Needs.{needs}
@@ -7,9 +7,6 @@ use Rattle.rules.specs.Numbers.{isZero}
 use Rattle.fills.proofs.Flushes.{Flushing, begins, goes-on, ends, none}
 use Rattle.fills.proofs.flush.Statement.{statement}
 use Rattle.fills.proofs.flush.Tie as tie
-use Rattle.fills.proofs.flush.Reads as reads
-use Rattle.fills.proofs.flush.Lts as lts
-use Rattle.fills.proofs.without_subnormal.Reads as without-subnormal-reads
 
 abbrev Inv-loop : tie.InvT-loop
 Inv-loop buffer₀ filled target i₀ buffer i =
@@ -18,50 +15,39 @@ Inv-loop buffer₀ filled target i₀ buffer i =
 abbrev μ-loop : tie.MeasureT-loop
 μ-loop buffer₀ filled target i₀ buffer i = filled - i
 
--- src/lib.rt:205:9
 loop-holds : tie.Need-loop-holds Inv-loop μ-loop
 loop-holds c = let s = c .before .before in begins (s .args .filled) (s .args .buffer .now) (s .pre)
 
--- src/lib.rt:206:43
 mul-without-subnormal : tie.Need-mul-without-subnormal Inv-loop μ-loop
 mul-without-subnormal c = search needs
 
--- src/lib.rt:206:43
 slice-read-without-subnormal : tie.Need-slice-read-without-subnormal Inv-loop μ-loop
 slice-read-without-subnormal c = search needs
 
--- src/lib.rt:206:25
 without-subnormal-requires : tie.Need-without-subnormal-requires Inv-loop μ-loop
 without-subnormal-requires c κs = search needs
 
--- src/lib.rt:206:13
 mul-buffer : tie.Need-mul-buffer Inv-loop μ-loop
 mul-buffer c = search needs
 
--- src/lib.rt:206:13
 slice-write-buffer : tie.Need-slice-write-buffer Inv-loop μ-loop
 slice-write-buffer c = search needs
 
--- src/lib.rt:207:13
 add-i : tie.Need-add-i Inv-loop μ-loop
 add-i c = search needs
 
--- src/lib.rt:205:9
 loop-less : tie.Need-loop-less Inv-loop μ-loop
 loop-less c = search needs
 
--- src/lib.rt:205:9
 loop-again : tie.Need-loop-again Inv-loop μ-loop
 loop-again c =
     let a = c .before .before .before .before .before .before .args in
     let r = c .without-subnormal in
     goes-on (a .filled) (a .buffer .now) (c .before .before .before .loop .inv) (omega arith) _ (r .result) (r .ensures)
 
--- src/lib.rt:199:1
 same-length : tie.Need-same-length Inv-loop μ-loop
 same-length c = c .before .loop .inv .whole
 
--- src/lib.rt:199:1
 returns : tie.Need-returns Inv-loop μ-loop
 unfolding isZero Ieee.ofBits
 returns c =
@@ -69,7 +55,6 @@ returns c =
     let a = s .before .args in
     ends (a .filled) (a .buffer .now) (c .before .loop .inv) (a .target) (c .before .before .if1 .taken) (omega arith)
 
--- src/lib.rt:199:1
 returns-2 : tie.Need-returns-2 Inv-loop μ-loop
 unfolding isZero Ieee.ofBits
 returns-2 c = let a = c .before .before .args in none (a .target) (a .filled) (a .buffer .now) (c .if1 .left)

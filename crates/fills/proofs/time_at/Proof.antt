@@ -3,15 +3,10 @@ use Rattle.rules.specs.Numbers.{timeAt}
 use borrow.Author.Needs.{needs}
 use Rattle.fills.proofs.time_at.Statement.{statement}
 use Rattle.fills.proofs.time_at.Tie as tie
-use Rattle.fills.proofs.time_at.Reads as reads
-use Rattle.fills.proofs.time_at.Lts as lts
-use Rattle.rounding.proofs.fused64.Reads as fused64-reads
 
--- src/lib.rt:33:5
 fused64-requires : tie.Need-fused64-requires
 fused64-requires c κs = search needs
 
--- src/lib.rt:29:1
 returns : tie.Need-returns
 unfolding timeAt
 returns c = c .fused64 .ensures

@@ -3,23 +3,17 @@ use Rattle.fills.specs.Filled.{writesNone}
 use borrow.Author.Needs.{needs}
 use Rattle.fills.proofs.writes_none.Statement.{statement}
 use Rattle.fills.proofs.writes_none.Tie as tie
-use Rattle.fills.proofs.writes_none.Reads as reads
-use Rattle.fills.proofs.writes_none.Lts as lts
 
--- src/lib.rt:23:30
 enum-told : tie.Need-enum-told
 enum-told c = search needs
 
--- src/lib.rt:24:30
 enum-told-2 : tie.Need-enum-told-2
 enum-told-2 c = search needs
 
--- src/lib.rt:18:1
 returns : tie.Need-returns
 unfolding writesNone
 returns c = rw (c .enum-told .given .1)
 
--- src/lib.rt:18:1
 returns-2 : tie.Need-returns-2
 unfolding writesNone
 returns-2 c = rw (c .enum-told2 .given .1)

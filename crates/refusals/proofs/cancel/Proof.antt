@@ -23,8 +23,12 @@ row-requires-3 c κs = search needs
 returns : tie.Need-returns
 unfolding said cancelRows
 returns c store lent =
-    let start = c .before .before .before .before .before in
-    rw (c .row3 .ensures, c .before .row2 .ensures, c .before .before .before .row .ensures, one-finite _ (c .before .before .before .before .is-finite64 .ensures), c .before .before .is-negative64 .ensures, lent)
+    let second = c .before in
+    let negative = second .before in
+    let first = negative .before in
+    let time = first .before in
+    let start = time .before in
+    rw (c .row3 .ensures, second .row2 .ensures, first .row .ensures, one-finite _ (time .is-finite64 .ensures), negative .is-negative64 .ensures, lent)
     (said-lowest (cancelRows store (start .args .time)))
 
 pub cancel-spec : {M : Type 1} → statement M

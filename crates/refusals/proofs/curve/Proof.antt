@@ -45,10 +45,23 @@ row-requires-7 c κs = search needs
 returns : tie.Need-returns
 unfolding said curveRows
 returns c q store full crowded lent =
-    let start = c .before .before .before .before .before .before .before .before .before .before .before .before .before in
-    let finite = more-finite _ _ (c .before .before .before .before .before .before .before .before .before .before .before .is-finite64 .ensures) (more-finite _ _ (c .before .before .before .before .before .before .before .before .before .before .is-finite642 .ensures) (c .before .before .before .before .before .before .before .before .before .all-finite .ensures)) in
-    rw (c .row7 .ensures, c .before .row6 .ensures, c .before .before .row5 .ensures, c .before .before .before .row4 .ensures, c .before .before .before .before .row3 .ensures, c .before .before .before .before .before .before .row2 .ensures, c .before .before .before .before .before .before .before .before .row .ensures, finite, c .before .before .before .before .before .before .before .is-negative64 .ensures, c .before .before .before .before .before .is-positive64 .ensures, full, crowded, lent)
-    (said-lowest (curveRows q store (start .args .time) (start .args .duration) (now (start .args .values))))
+    let sixth = c .before in
+    let fifth = sixth .before in
+    let fourth = fifth .before in
+    let third = fourth .before in
+    let positive = third .before in
+    let second = positive .before in
+    let negative = second .before in
+    let first = negative .before in
+    let all = first .before in
+    let duration = all .before in
+    let time = duration .before in
+    let known = time .before in
+    let start = known .before in
+    let finite = more-finite _ _ (time .is-finite64 .ensures) (more-finite _ _ (duration .is-finite642 .ensures) (all .all-finite .ensures)) in
+    rw (c .row7 .ensures, sixth .row6 .ensures, fifth .row5 .ensures, fourth .row4 .ensures, third .row3 .ensures, second .row2 .ensures, first .row .ensures)
+    (rw (finite, negative .is-negative64 .ensures, positive .is-positive64 .ensures, full, crowded, lent)
+    (said-lowest (curveRows q store (start .args .time) (start .args .duration) (now (start .args .values)))))
 
 pub curve-spec : {M : Type 1} → statement M
 curve-spec =

@@ -32,9 +32,16 @@ row-requires-4 c κs = search needs
 returns : tie.Need-returns
 unfolding said exponentialRows
 returns c q full =
-    let start = c .before .before .before .before .before .before .before .before in
-    let finite = more-finite _ _ (c .before .before .before .before .before .before .before .is-finite32 .ensures) (one-finite _ (c .before .before .before .before .before .before .is-finite64 .ensures)) in
-    rw (c .row4 .ensures, c .before .row3 .ensures, c .before .before .before .row2 .ensures, c .before .before .before .before .before .row .ensures, finite, c .before .before .before .before .is-negative64 .ensures, c .before .before .is-zero32 .ensures, full)
+    let third = c .before in
+    let zero = third .before in
+    let second = zero .before in
+    let negative = second .before in
+    let first = negative .before in
+    let time = first .before in
+    let value = time .before in
+    let start = value .before in
+    let finite = more-finite _ _ (value .is-finite32 .ensures) (one-finite _ (time .is-finite64 .ensures)) in
+    rw (c .row4 .ensures, third .row3 .ensures, second .row2 .ensures, first .row .ensures, finite, negative .is-negative64 .ensures, zero .is-zero32 .ensures, full)
     (said-lowest (exponentialRows q (start .args .value) (start .args .time)))
 
 pub exponential-spec : {M : Type 1} → statement M

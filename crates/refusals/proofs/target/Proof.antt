@@ -35,10 +35,17 @@ row-requires-4 c κs = search needs
 returns : tie.Need-returns
 unfolding said targetRows
 returns c q full =
-    let start = c .before .before .before .before .before .before .before .before .before in
-    let finite =
-    more-finite _ _ (c .before .before .before .before .before .before .before .before .is-finite32 .ensures) (more-finite _ _ (c .before .before .before .before .before .before .before .is-finite64 .ensures) (one-finite _ (c .before .before .before .before .before .before .is-finite642 .ensures))) in
-    rw (c .row4 .ensures, c .before .row3 .ensures, c .before .before .before .row2 .ensures, c .before .before .before .before .before .row .ensures, finite, c .before .before .before .before .is-negative64 .ensures, c .before .before .is-negative642 .ensures, full)
+    let third = c .before in
+    let below = third .before in
+    let second = below .before in
+    let negative = second .before in
+    let first = negative .before in
+    let constant = first .before in
+    let time = constant .before in
+    let value = time .before in
+    let start = value .before in
+    let finite = more-finite _ _ (value .is-finite32 .ensures) (more-finite _ _ (time .is-finite64 .ensures) (one-finite _ (constant .is-finite642 .ensures))) in
+    rw (c .row4 .ensures, third .row3 .ensures, second .row2 .ensures, first .row .ensures, finite, negative .is-negative64 .ensures, below .is-negative642 .ensures, full)
     (said-lowest (targetRows q (start .args .value) (start .args .time) (start .args .constant)))
 
 pub target-spec : {M : Type 1} → statement M

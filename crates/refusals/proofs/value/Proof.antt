@@ -26,9 +26,15 @@ row-requires-3 c κs = search needs
 returns : tie.Need-returns
 unfolding said valueRows
 returns c q full =
-    let start = c .before .before .before .before .before .before in
-    let finite = more-finite _ _ (c .before .before .before .before .before .is-finite32 .ensures) (one-finite _ (c .before .before .before .before .is-finite64 .ensures)) in
-    rw (c .row3 .ensures, c .before .row2 .ensures, c .before .before .before .row .ensures, finite, c .before .before .is-negative64 .ensures, full) (said-lowest (valueRows q (start .args .value) (start .args .time)))
+    let second = c .before in
+    let negative = second .before in
+    let first = negative .before in
+    let time = first .before in
+    let value = time .before in
+    let start = value .before in
+    let finite = more-finite _ _ (value .is-finite32 .ensures) (one-finite _ (time .is-finite64 .ensures)) in
+    rw (c .row3 .ensures, second .row2 .ensures, first .row .ensures, finite, negative .is-negative64 .ensures, full)
+    (said-lowest (valueRows q (start .args .value) (start .args .time)))
 
 pub value-spec : {M : Type 1} → statement M
 value-spec =
