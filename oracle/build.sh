@@ -107,7 +107,23 @@ find_port() {
         say "building the port: rt check session (proves what is not proved yet)"
         (cd "$root" && rt check session >&2) || { say "rt check session failed"; return 1; }
         port=$root/target/bin/session
+        [ "$(uname -m)" = x86_64 ] || port=$(emulated "$port") || return 1
     fi
     [ -x "$port" ] || { say "no program at $port"; return 1; }
     echo "$port"
+}
+
+# The port's programs are for x86-64; elsewhere the kit's emulator runs them: a command that does so.
+emulated() {
+    local kit tools
+    kit=$(dirname "$(dirname "$(readlink -f "$(command -v rt)")")")
+    tools=$kit/on/$(uname -m)/toolchain
+    [ -x "$tools/bin/qemu-x86_64" ] || {
+        say "$1 is for x86-64, and the kit has no emulator for $(uname -m)"
+        return 1
+    }
+    say "$1 is for x86-64: the kit's emulator runs it, which is slower"
+    printf '#!/bin/sh\nexec "%s" "%s" --library-path "%s" "%s"\n' \
+        "$tools/bin/qemu-x86_64" "$tools/lib/ld-linux-x86-64.so.2" "$tools/lib" "$1" > "$out/port"
+    chmod +x "$out/port" && echo "$out/port"
 }

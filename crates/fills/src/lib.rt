@@ -115,20 +115,17 @@ pub fn fill_linear_ramp(
         return filled;
     }
     let diff = value - from.value;
-    let mut time = time_at(infos, filled);
-    let mut i = filled;
-    while i < to {
-        buffer[i] = samples::compute_linear_ramp_sample(
-            from.time,
-            duration,
-            from.value,
-            diff,
-            time,
-        );
-        time += infos.dt;
-        i += 1;
-    }
-    i
+    let time = time_at(infos, filled);
+    runs::compute_linear_ramp_samples(
+        &mut buffer[filled..to],
+        from.time,
+        duration,
+        from.value,
+        diff,
+        time,
+        infos.dt,
+    );
+    to
 }
 
 pub fn fill_exponential_ramp(
@@ -146,14 +143,17 @@ pub fn fill_exponential_ramp(
     if writes_none(infos, filled, to) {
         return filled;
     }
-    let mut time = time_at(infos, filled);
-    let mut i = filled;
-    while i < to {
-        buffer[i] = exponential_value(from, duration, log, time);
-        time += infos.dt;
-        i += 1;
-    }
-    i
+    let time = time_at(infos, filled);
+    runs::compute_exponential_ramp_samples(
+        &mut buffer[filled..to],
+        from.time,
+        duration,
+        from.value,
+        log,
+        time,
+        infos.dt,
+    );
+    to
 }
 
 pub fn fill_target(
@@ -174,14 +174,18 @@ pub fn fill_target(
         return filled;
     }
     let diff = from - target;
-    let mut time = time_at(infos, filled);
-    let mut i = filled;
-    while i < to {
-        buffer[i] = target_value(start, intrinsic, constant, target, diff, time);
-        time += infos.dt;
-        i += 1;
-    }
-    i
+    let time = time_at(infos, filled);
+    runs::compute_set_target_samples(
+        &mut buffer[filled..to],
+        start,
+        constant,
+        target,
+        diff,
+        intrinsic,
+        time,
+        infos.dt,
+    );
+    to
 }
 
 pub fn fill_curve(
@@ -200,14 +204,17 @@ pub fn fill_curve(
     if writes_none(infos, filled, to) {
         return filled;
     }
-    let mut time = time_at(infos, filled);
-    let mut i = filled;
-    while i < to {
-        buffer[i] = curve_value(start, intrinsic, duration, values, time);
-        time += infos.dt;
-        i += 1;
-    }
-    i
+    let time = time_at(infos, filled);
+    runs::compute_set_value_curve_samples(
+        &mut buffer[filled..to],
+        start,
+        duration,
+        values,
+        intrinsic,
+        time,
+        infos.dt,
+    );
+    to
 }
 
 // ---- what a target that snaps does to the places filled

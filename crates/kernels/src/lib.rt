@@ -1,7 +1,8 @@
 // The two whole-number kernels: falling power and log.
 ghost use mathlib.Core.Path.{_≡_};
 ghost use Prim.Native.Nat.{_^_, _≤_, _<_};
-ghost use Rattle.rules.specs.Kernels.{falling, log as logOf};
+ghost use lib.ListN.{drop};
+ghost use Rattle.rules.specs.Kernels.{table, fallingFrom, falling, log as logOf};
 
 // c_1 to c_24: each the integer square root of the one before times 2^32, from c_0 = 2^31.
 const TABLE: [u64; 24] = [
@@ -31,13 +32,14 @@ const TABLE: [u64; 24] = [
     4294967117,
 ];
 
-// About 2^32 * 2^-(a / 2^24): a's 24 digits from the highest on.
-pub fn falling_power(a: u64) -> u64
-    ensures { λ r. ⌜ r ≡ falling a ⌝ }
+// The digits of a behind its first ones, of 24, the highest first, taken into x.
+pub fn falling_from(first: usize, a: u64, x: u64) -> u64
+    requires { ⌜ (first ≤ 24) × (x ≤ 2 ^ 32) ⌝ }
+    ensures { λ r. ⌜ r ≡ fallingFrom (drop first table) a x ⌝ }
 {
     let table = TABLE;
-    let mut r: u64 = 4294967296;
-    let mut j = 0usize;
+    let mut r = x;
+    let mut j = first;
     while j < 24 {
         if (a >> (23 - j)) % 2 == 1 {
             r = r * table[j] / 4294967296;
@@ -45,6 +47,13 @@ pub fn falling_power(a: u64) -> u64
         j += 1;
     }
     r
+}
+
+// About 2^32 * 2^-(a / 2^24).
+pub fn falling_power(a: u64) -> u64
+    ensures { λ r. ⌜ r ≡ falling a ⌝ }
+{
+    falling_from(0, a, 4294967296)
 }
 
 // About 2^24 * log2(m / 2^31): 24 digits, the highest first.

@@ -31,7 +31,7 @@ const HALF: u64 = 0x1000_0000;
 const UNDER: u64 = 0xfff_ffff;
 
 // d / 2^sh to the nearest whole number, a tie to the even one.
-fn rounded(d: u64, sh: u64) -> u64
+pub fn rounded(d: u64, sh: u64) -> u64
     requires { ⌜ (0 < sh) × (sh ≤ 64) ⌝ }
     ensures { λ r. ⌜ r ≡ closest d (2 ^ sh) ⌝ }
 {

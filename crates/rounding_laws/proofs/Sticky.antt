@@ -91,7 +91,7 @@ module _ (v a b : ℕ) (o : v % 2 ≡ 1) (below : v * b < a + b) (above : a < v 
       let n : b * (2 * H) ≡ 2 * (H * b) = mul-comm b (2 * H) ∙ mul-assoc 2 H b in
       (omega arith, omega arith)
 
-  stuck-closest : (K : ℕ) → 0 < b → closest a (b * 2 ^ suc (suc K)) ≡ closest v (2 ^ suc (suc K))
+  pub stuck-closest : (K : ℕ) → 0 < b → closest a (b * 2 ^ suc (suc K)) ≡ closest v (2 ^ suc (suc K))
   stuck-closest K B =
       let H = 2 ^ suc K in
       let e : 2 ^ suc (suc K) ≡ 2 * H = pow-succ' 2 (suc K) in

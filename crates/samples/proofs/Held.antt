@@ -17,7 +17,7 @@ use Rattle.rules.specs.Kernels.{parts, falling}
 use Rattle.rules.specs.Samples.{floorOf, powerOf, power, factorOf}
 use Rattle.kernels.proofs.Falling.{falling-range}
 use Rattle.samples.specs.At.{held}
-use Rattle.samples.proofs.Less.{sub-value}
+use Rattle.phases.proofs.Less.{sub-value}
 
 -- ---- values equal as numbers have equal products
 
@@ -33,7 +33,7 @@ crossed a b c p q r e = move a q ∙ ap (λ (x : ℕ). p * c * x) e ∙ sym (mov
     move : (x y : ℕ) → p * x * (c * y) ≡ p * c * (x * y)
     move x y = simp (mul-assoc, mul-comm, mul-left-comm)
 
-mul-same : (f : Format) (x y : Float) (s : Bool) (n : ℕ) (d : ℤ) → HasValue y s (n * up d) (down d) → mul f x y ≡ mul f x (fin s n d)
+pub mul-same : (f : Format) (x y : Float) (s : Bool) (n : ℕ) (d : ℤ) → HasValue y s (n * up d) (down d) → mul f x y ≡ mul f x (fin s n d)
 unfolding mul
 mul-same f x nan s n d v = absurd v
 mul-same f x (inf t) s n d v = absurd v

@@ -4,7 +4,6 @@ pub mod Cut
 pub mod Places
 pub mod Moved
 pub mod Fading
-pub mod Less
 pub mod Ratio
 pub mod Powers
 pub mod Floors

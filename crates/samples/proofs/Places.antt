@@ -1,24 +1,46 @@
--- The search for an end place, one place at a time. Assumes nothing.
-use mathlib.Core.Path.{_≡_}
-use mathlib.Core.Bool.{true, false}
-use Prim.Native.Nat.{ℕ, suc, _+_, _-_, _<_}
-use native.Mathlib.Numerals.{add-one}
+-- The search for an end place may begin past all places whose limits are seen not to exceed q. Assumes nothing.
+use mathlib.Core.Path.{_≡_, refl, _∙_}
+use mathlib.Core.Bool.{Bool, true, false}
+use Prim.Native.Nat.{ℕ, zero, suc, _+_, _-_, _*_, _^_, _≤_, _<_}
 use native.Mathlib.Omega.{arith}
-use lib.Ieee.{Float, lt}
-use Rattle.rules.specs.Numbers.{limit, placeFrom}
+use lib.Dec.{T, lit≤}
+use lib.IntN.{negsuc}
+use lib.Ieee.{Float, fin, binary64, round, sum, lt, le}
+use lib.Ieee.Order.{round-mono}
+use Rattle.rules.specs.Numbers.{wide, limit, placeFrom}
+use Rattle.laws.proofs.Tests.{clash}
+use Rattle.laws.proofs.Order.{lt-le-lt}
+use Rattle.laws.proofs.Places.{place-passed}
+use Rattle.rounding_laws.proofs.Fuse.{rescale, add-value, wide-value}
 
-module _ (q : Float) (count n : ℕ) (h : n < count) where
-  left : count - n ≡ suc (count - (n + 1))
-  left = omega arith
+-- ---- limits rise
 
-  pub place-more : lt q (limit n) ≡ false → placeFrom q (count - n) n ≡ placeFrom q (count - (n + 1)) (n + 1)
-  unfolding placeFrom
-  place-more f = rw (left, f, add-one)
+told : (b : Bool) → T b → b ≡ true
+told true t = refl
+told false t = absurd t
 
-  pub place-here : lt q (limit n) ≡ true → placeFrom q (count - n) n ≡ n
-  unfolding placeFrom
-  place-here f = rw (left, f)
+limit-is : (n : ℕ) → n ≤ 2 ^ 53 → limit n ≡ round binary64 false (n * 2 + 1) 2
+unfolding limit sum
+limit-is n h =
+    add-value binary64 false false (n * 2) 1 2 (lit≤ tt) (wide n) (fin false 1 (negsuc 0)) (rescale (wide n) false (n * 2 ^ 0) (2 ^ 0) (n * 2) 2 (lit≤ tt) (omega arith) (wide-value n h)) (refl, refl)
 
-pub place-none : (q : Float) (count n : ℕ) → count ≡ n → placeFrom q (count - n) n ≡ n
-unfolding placeFrom
-place-none q count n e = let z : count - n ≡ 0 = omega arith in rw z
+limit-mono : (m n : ℕ) → m ≤ n → n ≤ 2 ^ 53 → le (limit m) (limit n) ≡ true
+limit-mono m n h l =
+    rw (limit-is m (omega arith), limit-is n l) (told _ (round-mono binary64 (m * 2 + 1) 2 (n * 2 + 1) 2 (omega arith) (omega arith) (omega arith)))
+
+-- ---- none up to n
+
+passed-at : (q : Float) (n : ℕ) → n ≤ 2 ^ 53 → lt q (limit n) ≡ false → (m : ℕ) → m ≤ n → lt q (limit m) ≡ false
+passed-at q n l f m h = go (lt q (limit m)) refl
+  where
+    go : (b : Bool) → lt q (limit m) ≡ b → b ≡ false
+    go true e = clash (lt-le-lt q (limit m) (limit n) e (limit-mono m n h l)) f
+    go false e = refl
+
+pub none-passed : (q : Float) (count : ℕ) → (0 ≤ count) × (placeFrom q count 0 ≡ placeFrom q (count - 0) 0)
+none-passed q count = let e : count - 0 ≡ count = omega arith in (omega arith, rw e)
+
+pub places-passed : (q : Float) (count n : ℕ) → n < count → count ≤ 2 ^ 53 → lt q (limit n) ≡ false → (m : ℕ) → m ≤ suc n → placeFrom q count 0 ≡ placeFrom q (count - m) m
+places-passed q count n h l f zero k = none-passed q count .1
+places-passed q count n h l f (suc m) k =
+    places-passed q count n h l f m (omega arith) ∙ place-passed q count m (omega arith) (passed-at q n (omega arith) f m (omega arith))

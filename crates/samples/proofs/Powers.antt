@@ -16,7 +16,7 @@ use Rattle.rules.specs.Kernels.{parts, falling}
 use Rattle.rules.specs.Samples.{powerOf, power}
 use Rattle.kernels.proofs.Falling.{falling-none}
 use Rattle.samples.specs.At.{held}
-use Rattle.samples.proofs.Less.{sub-value}
+use Rattle.phases.proofs.Less.{sub-value}
 use Rattle.samples.proofs.Moved.{moved}
 
 -- ---- the two cases of a power
@@ -30,7 +30,7 @@ unfolding powerOf
 whole-turn q zero e = refl
 whole-turn q (suc f) e = absurd (omega arith)
 
-part-turn : (q : ℤ) (f : ℕ) → 0 < f → powerOf q f ≡ fin false (falling (parts - f)) (q +ℤ negsuc 30)
+pub part-turn : (q : ℤ) (f : ℕ) → 0 < f → powerOf q f ≡ fin false (falling (parts - f)) (q +ℤ negsuc 30)
 unfolding powerOf
 part-turn q zero h = absurd (omega arith)
 part-turn q (suc f) h = refl

@@ -14,7 +14,7 @@ use lib.Ieee.Digits.{size-lt, size-reaches, size-le}
 use Rattle.rules.specs.Numbers.{plusZero, isFinite, magnitude}
 use Rattle.rules.specs.Kernels.{parts, logFrom, log}
 use Rattle.rules.specs.Samples.{ratioLog}
-use Rattle.samples.proofs.Less.{pos-sub, sub-same, sub-more}
+use Rattle.phases.proofs.Less.{pos-sub, sub-same, sub-more}
 use Rattle.floats.proofs.Compared.{zero-is, magnitude-none}
 
 -- ---- m * 2 ^ e in units of 2 ^ -1074: m * 2 ^ i

@@ -1,6 +1,6 @@
 // The samples of the four kinds of event, named as in the Rust, and the end place of a time.
 ghost use mathlib.Core.Path.{_≡_};
-ghost use Prim.Native.Nat.{_*_, _^_, _≤_, _<_};
+ghost use Prim.Native.Nat.{_-_, _*_, _^_, _≤_, _<_};
 ghost use lib.ListN.{length};
 ghost use lib.IntN.{pos, negℤ};
 ghost use Rattle.rules.specs.Numbers.{wholePart, narrowed, periodsTo, placeFrom, endPlace};
@@ -9,7 +9,7 @@ ghost use Rattle.samples.specs.At.{linearAt, exponentialAt, exponentialO
 use rules::BlockInfos;
 
 // Rust's `x as u64`: without the fraction, 0 below 0 and for a NaN, and the largest number past the end.
-pub fn whole(x: f64) -> u64
+fn whole_of(x: f64) -> u64
     ensures { λ r. ⌜ r ≡ wholePart x ⌝ }
 {
     if x > -1.0 {
@@ -21,6 +21,17 @@ pub fn whole(x: f64) -> u64
     } else {
         0
     }
+}
+
+// The same, fast below 2^33.
+pub fn whole(x: f64) -> u64
+    ensures { λ r. ⌜ r ≡ wholePart x ⌝ }
+{
+    let h = phases::lifted(x);
+    if h >= 8589934592 {
+        return h - 8589934592;
+    }
+    whole_of(x)
 }
 
 // The factor of a target after p steps of 2^-24.
@@ -125,8 +136,7 @@ pub fn compute_linear_ramp_sample(
 ) -> f32
     ensures { λ r. ⌜ r ≡ linearAt «start_time» duration «start_value» diff time ⌝ }
 {
-    let phase = (time - start_time) / duration;
-    rounding::fused32(diff, rounding::narrow(phase), start_value)
+    phases::phase_sum_of(diff, (time - start_time) / duration, start_value)
 }
 
 // An exponential ramp's sample, with L as an f64.
@@ -188,11 +198,7 @@ pub fn compute_set_value_curve_sample(
     }
     let k = whole(position) as usize;
     let from = values[k];
-    rounding::fused32(
-        values[k + 1] - from,
-        rounding::narrow(position - (k as f64)),
-        from,
-    )
+    phases::phase_sum_of(values[k + 1] - from, position - (k as f64), from)
 }
 
 // q, the time t in sample periods from the block's time on.
@@ -202,12 +208,39 @@ pub fn periods_to(infos: BlockInfos, t: f64) -> f64
     floats::later_of(0.0, t - infos.time) / infos.dt
 }
 
+// n, where the limit before it does not exceed q: those of the places before are smaller. Else 0.
+fn places_passed(q: f64, n: usize, count: usize) -> usize
+    requires { ⌜ (n ≤ count) × (count ≤ 2 ^ 53) ⌝ }
+    ensures { λ r. ⌜ (r ≤ count) × (placeFrom q count 0 ≡ placeFrom q (count - r) r) ⌝ }
+{
+    if n > 0 {
+        let before = ((n - 1) as f64) + 0.5;
+        if q < before {
+            return 0;
+        }
+        return n;
+    }
+    0
+}
+
+// Where the search begins: as far as q has whole parts, if none is found before.
+fn first_place(q: f64, count: usize) -> usize
+    requires { ⌜ count ≤ 2 ^ 53 ⌝ }
+    ensures { λ r. ⌜ (r ≤ count) × (placeFrom q count 0 ≡ placeFrom q (count - r) r) ⌝ }
+{
+    let w = whole_of(q) as usize;
+    if w < count {
+        return places_passed(q, w, count);
+    }
+    places_passed(q, count, count)
+}
+
 // The smallest place whose half-sample limit exceeds q, or count.
 pub fn end_place(q: f64, count: usize) -> usize
     requires { ⌜ count ≤ 2 ^ 53 ⌝ }
     ensures { λ r. ⌜ r ≡ placeFrom q count 0 ⌝ }
 {
-    let mut n = 0usize;
+    let mut n = first_place(q, count);
     let place = loop {
         if count <= n {
             break count;

@@ -1,73 +1,51 @@
--- `fill_curve` meets its contract: the loop is a run of the curve's samples. Assumes nothing.
-use Prim.Native.Nat.{_-_}
-use native.Mathlib.Omega.{arith}
+-- `fill_curve` meets its contract: the run is lent the places to fill. Assumes nothing.
 use borrow.Author.Needs.{needs}
-use Rattle.rules.specs.Numbers.{timeAt}
-use Rattle.rules.specs.Samples.{curveSample}
-use Rattle.rules.specs.Walk.{fromStart}
-use Rattle.fills.proofs.Along.{Along, begins, goes-on, none, ends}
+use Rattle.fills.proofs.Along.{none, upward, lent}
 use Rattle.fills.proofs.fill_curve.Statement.{statement}
 use Rattle.fills.proofs.fill_curve.Tie as tie
 
-abbrev Inv-loop : tie.InvT-loop
-Inv-loop infos buffer₀ filled to start duration intrinsic values time₀ i₀ buffer time i =
-    Along (fromStart start intrinsic (curveSample values start duration)) (infos .dt) (timeAt infos filled) filled to buffer₀ i time buffer
-
-abbrev μ-loop : tie.MeasureT-loop
-μ-loop infos buffer₀ filled to start duration intrinsic values time₀ i₀ buffer time i = to - i
-
-writes-none-requires : tie.Need-writes-none-requires Inv-loop μ-loop
+writes-none-requires : tie.Need-writes-none-requires
 writes-none-requires c κs = search needs
 
-returns : tie.Need-returns Inv-loop μ-loop
-returns c = none (c .before .before .before .before .pre .0) (c .before .writes-none .ensures) (c .if1 .taken)
+returns : tie.Need-returns
+returns c = none (c .before .before .before .before .args .infos) (c .before .before .before .before .pre .0) (c .before .writes-none .ensures) (c .if1 .taken)
 
-time-at-requires : tie.Need-time-at-requires Inv-loop μ-loop
+time-at-requires : tie.Need-time-at-requires
 time-at-requires c κs = search needs
 
-loop-holds : tie.Need-loop-holds Inv-loop μ-loop
-loop-holds c = begins (c .before .before .before .before .before .pre .0) (c .time-at .ensures)
+mul-compute-set-value-curve-samples : tie.Need-mul-compute-set-value-curve-samples
+mul-compute-set-value-curve-samples c = search needs
 
-curve-value-requires : tie.Need-curve-value-requires Inv-loop μ-loop
-curve-value-requires c κs = search needs
+sub-compute-set-value-curve-samples : tie.Need-sub-compute-set-value-curve-samples
+sub-compute-set-value-curve-samples c = upward (c .before .before .before .before .before .args .infos) (c .before .before .before .before .before .pre .0) (c .before .before .writes-none .ensures) (c .before .if1 .left)
 
-mul-buffer : tie.Need-mul-buffer Inv-loop μ-loop
-mul-buffer c = search needs
+part-compute-set-value-curve-samples-start : tie.Need-part-compute-set-value-curve-samples-start
+part-compute-set-value-curve-samples-start c = upward (c .before .before .before .before .before .args .infos) (c .before .before .before .before .before .pre .0) (c .before .before .writes-none .ensures) (c .before .if1 .left)
 
-slice-write-buffer : tie.Need-slice-write-buffer Inv-loop μ-loop
-slice-write-buffer c = search needs
+part-compute-set-value-curve-samples-end : tie.Need-part-compute-set-value-curve-samples-end
+part-compute-set-value-curve-samples-end c = search needs
 
-add-i : tie.Need-add-i Inv-loop μ-loop
-add-i c = search needs
+compute-set-value-curve-samples-requires : tie.Need-compute-set-value-curve-samples-requires
+compute-set-value-curve-samples-requires c κs = search needs
 
-loop-less : tie.Need-loop-less Inv-loop μ-loop
-loop-less c = search needs
+same-length : tie.Need-same-length
+same-length c = search needs
 
-loop-again : tie.Need-loop-again Inv-loop μ-loop
-loop-again c = goes-on (c .before .before .before .loop .inv) (omega arith) (c .before .curve-value .ensures)
-
-same-length : tie.Need-same-length Inv-loop μ-loop
-same-length c = c .before .loop .inv .whole
-
-returns-2 : tie.Need-returns-2 Inv-loop μ-loop
+returns-2 : tie.Need-returns-2
 returns-2 c =
-    ends (c .before .before .before .before .before .before .before .pre .0) (c .before .before .before .before .writes-none .ensures) (c .before .before .before .if1 .left) (c .before .loop .inv) (omega arith)
+    lent (c .before .before .before .before .before .before .before .before .before .args .infos) (c .before .before .before .before .before .before .before .before .before .pre .0) (c .before .before .before .before .before .before .writes-none .ensures) (c .before .before .before .before .before .if1 .left) (c .before .before .before .before .time-at .ensures) (c .before .before .compute-set-value-curve-samples .ensures)
 
 pub fill-curve-spec : {M : Type 1} → statement M
 fill-curve-spec =
     tie.close
     (tie.spec
-    Inv-loop
-    μ-loop
     writes-none-requires
     returns
     time-at-requires
-    loop-holds
-    curve-value-requires
-    mul-buffer
-    slice-write-buffer
-    add-i
-    loop-less
-    loop-again
+    mul-compute-set-value-curve-samples
+    sub-compute-set-value-curve-samples
+    part-compute-set-value-curve-samples-start
+    part-compute-set-value-curve-samples-end
+    compute-set-value-curve-samples-requires
     same-length
     returns-2)

@@ -5,15 +5,12 @@ use Rattle.samples.specs.At.{linearAt}
 use Rattle.samples.proofs.compute_linear_ramp_sample.Statement.{statement}
 use Rattle.samples.proofs.compute_linear_ramp_sample.Tie as tie
 
-narrow-requires : tie.Need-narrow-requires
-narrow-requires c κs = search needs
-
-fused32-requires : tie.Need-fused32-requires
-fused32-requires c κs = search needs
+phase-sum-of-requires : tie.Need-phase-sum-of-requires
+phase-sum-of-requires c κs = search needs
 
 returns : tie.Need-returns
 unfolding linearAt phaseOf
-returns c = rw (← c .before .narrow .ensures) (c .fused32 .ensures)
+returns c = c .phase-sum-of .ensures
 
 pub compute-linear-ramp-sample-spec : {M : Type 1} → statement M
-compute-linear-ramp-sample-spec = tie.close (tie.spec narrow-requires fused32-requires returns)
+compute-linear-ramp-sample-spec = tie.close (tie.spec phase-sum-of-requires returns)

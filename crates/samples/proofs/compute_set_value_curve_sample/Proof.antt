@@ -72,34 +72,30 @@ mul-from c = omega (arith, next c)
 shared-slice-read-from : tie.Need-shared-slice-read-from
 shared-slice-read-from c = omega (arith, next (c .before))
 
-add-fused32 : tie.Need-add-fused32
-add-fused32 c = omega (arith, next (c .before))
+add-phase-sum-of : tie.Need-add-phase-sum-of
+add-phase-sum-of c = omega (arith, next (c .before))
 
-mul-fused32 : tie.Need-mul-fused32
-mul-fused32 c = omega (arith, next (c .before))
+mul-phase-sum-of : tie.Need-mul-phase-sum-of
+mul-phase-sum-of c = omega (arith, next (c .before))
 
-shared-slice-read-fused32 : tie.Need-shared-slice-read-fused32
-shared-slice-read-fused32 c = next (c .before .before) .0
+shared-slice-read-phase-sum-of : tie.Need-shared-slice-read-phase-sum-of
+shared-slice-read-phase-sum-of c = next (c .before .before) .0
 
-int-to-float-narrow : tie.Need-int-to-float-narrow
-int-to-float-narrow c = let w = c .before .before .before in small (w .whole .result) (omega (arith, next w))
+int-to-float-phase-sum-of : tie.Need-int-to-float-phase-sum-of
+int-to-float-phase-sum-of c = let w = c .before .before .before in small (w .whole .result) (omega (arith, next w))
 
-narrow-requires : tie.Need-narrow-requires
-narrow-requires c κs = search needs
-
-fused32-requires : tie.Need-fused32-requires
-fused32-requires c κs = search needs
+phase-sum-of-requires : tie.Need-phase-sum-of-requires
+phase-sum-of-requires c κs = search needs
 
 returns-3 : tie.Need-returns-3
 unfolding wide
 returns-3 c =
-    let w = c .before .before .before .before .before in
+    let w = c .before .before .before .before in
     let e = w .before .before .before .before in
     let s = e .before .before in
     let a = s .args in
-    c .fused32 .ensures
-    ∙ curve-between (a .values .now) (a .start-time) (a .duration) (a .time) (s .pre .0) (s .pre .1) (e .if1 .left) (w .before .if2 .left) (w .whole .result) _ _ (c .before .narrow .result)
-    (w .whole .ensures) refl refl (c .before .narrow .ensures)
+    c .phase-sum-of .ensures
+    ∙ curve-between (a .values .now) (a .start-time) (a .duration) (a .time) (s .pre .0) (s .pre .1) (e .if1 .left) (w .before .if2 .left) (w .whole .result) _ _ _ (w .whole .ensures) refl refl refl
 
 pub compute-set-value-curve-sample-spec : {M : Type 1} → statement M
 compute-set-value-curve-sample-spec =
@@ -117,10 +113,9 @@ compute-set-value-curve-sample-spec =
     whole-requires
     mul-from
     shared-slice-read-from
-    add-fused32
-    mul-fused32
-    shared-slice-read-fused32
-    int-to-float-narrow
-    narrow-requires
-    fused32-requires
+    add-phase-sum-of
+    mul-phase-sum-of
+    shared-slice-read-phase-sum-of
+    int-to-float-phase-sum-of
+    phase-sum-of-requires
     returns-3)

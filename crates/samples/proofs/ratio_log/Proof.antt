@@ -16,7 +16,7 @@ use Rattle.rules.specs.Numbers.{isFinite}
 use Rattle.rules.specs.Kernels.{parts, log}
 use Rattle.rules.specs.Samples.{ratioLog}
 use Rattle.kernels.proofs.Logs.{log-below}
-use Rattle.samples.proofs.Less.{sub-mag}
+use Rattle.phases.proofs.Less.{sub-mag}
 use Rattle.samples.proofs.Ratio.{log-of, log-none, log-zero}
 use Rattle.samples.proofs.ratio_log.Statement.{statement}
 use Rattle.samples.proofs.ratio_log.Tie as tie

@@ -1,28 +1,25 @@
 -- `samples::whole` meets its contract. Assumes nothing.
 use borrow.Author.Needs.{needs}
-use mathlib.Core.Path.{_≡_, sym, subst}
-use lib.Dec.{T}
-use lib.Ieee.{ofBits, neg}
-use Rattle.rules.specs.Numbers.{wholePart}
-use Rattle.samples.proofs.Cut.{past-end, under-zero}
+use native.Mathlib.Omega.{arith}
+use Rattle.phases.proofs.Seen.{seen}
+use Rattle.phases.proofs.Quick.{whole-lifted}
 use Rattle.samples.proofs.whole.Statement.{statement}
 use Rattle.samples.proofs.whole.Tie as tie
 
-truncating-f64-to-u64-requires : tie.Need-truncating-f64-to-u64-requires
-unfolding ofBits neg
-truncating-f64-to-u64-requires c κs = (subst T (sym (c .before .if1 .taken)) tt, subst T (sym (c .if2 .taken)) tt)
+lifted-requires : tie.Need-lifted-requires
+lifted-requires c κs = search needs
 
 returns : tie.Need-returns
-unfolding wholePart
-returns c = c .truncating-f64-to-u64 .ensures
+returns c =
+    let t = c .before in
+    let f = seen (t .lifted .result) (t .lifted .ensures) (λ z. omega arith) in
+    whole-lifted (t .before .args .x) (t .lifted .result) (f .0) (c .if1 .taken) (f .1)
+
+whole-of-requires : tie.Need-whole-of-requires
+whole-of-requires c κs = search needs
 
 returns-2 : tie.Need-returns-2
-unfolding wholePart ofBits neg
-returns-2 c = past-end (c .before .before .args .x) (c .before .if1 .taken) (c .if2 .left)
-
-returns-3 : tie.Need-returns-3
-unfolding wholePart ofBits neg
-returns-3 c = under-zero (c .before .args .x) (c .if1 .left)
+returns-2 c = search needs
 
 pub whole-spec : {M : Type 1} → statement M
-whole-spec = tie.close (tie.spec truncating-f64-to-u64-requires returns returns-2 returns-3)
+whole-spec = tie.close (tie.spec lifted-requires returns whole-of-requires returns-2)

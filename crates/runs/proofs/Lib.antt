@@ -1,0 +1,3 @@
+-- The laws that the proofs of `runs` share. Assumes nothing.
+pub mod Filling
+pub mod Fine

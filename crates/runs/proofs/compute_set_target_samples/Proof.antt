@@ -1,0 +1,71 @@
+-- `runs::compute_set_target_samples` meets its contract. Assumes nothing.
+use borrow.Author.Needs.{needs}
+use mathlib.Core.Path.{_≡_, sym, _∙_, subst}
+use lib.Dec.{T}
+use Rattle.floats.proofs.Compared.{finite-held}
+use Rattle.runs.proofs.Fine.{Fine, asked}
+use Rattle.runs.proofs.compute_set_target_samples.Statement.{statement}
+use Rattle.runs.proofs.compute_set_target_samples.Tie as tie
+
+-- both values are finite there
+fine : (t : tie.Then2) → Fine (t .before .before .before .before .before .args .end-value) (t .before .before .before .before .before .args .diff)
+fine t =
+    let s = t .before .before .before .before .before in
+    record {
+      fits-c = subst T (sym (s .good .1 .1 .1 .0 .1)) tt;
+      fits-a = subst T (sym (s .good .1 .1 .1 .1 .0 .1)) tt;
+      is-c = sym (t .before .before .before .is-finite32 .ensures) ∙ t .before .before .if1 .taken;
+      is-a = sym (t .before .is-finite322 .ensures) ∙ t .if2 .taken;
+    }
+
+is-finite32-requires : tie.Need-is-finite32-requires
+is-finite32-requires c κs = search needs
+
+is-finite32-requires-2 : tie.Need-is-finite32-requires-2
+is-finite32-requires-2 c κs = search needs
+
+float-to-float-c : tie.Need-float-to-float-c
+float-to-float-c c = let f = fine (c .before) in finite-held _ (f .fits-c) (f .is-c)
+
+float-to-float-a : tie.Need-float-to-float-a
+float-to-float-a c = let f = fine (c .before .before) in finite-held _ (f .fits-a) (f .is-a)
+
+table-requires : tie.Need-table-requires
+table-requires c κs = search needs
+
+target-finite-requires : tie.Need-target-finite-requires
+target-finite-requires c κs =
+    let t = c .before .before in
+    let a = asked _ _ (fine (t .before .before .before)) in
+    (t .table .ensures, a .0, a .1, a .2, a .3)
+
+same-length : tie.Need-same-length
+same-length c = search needs
+
+returns : tie.Need-returns
+returns c = search needs
+
+target-run-requires : tie.Need-target-run-requires
+target-run-requires c κs = search needs
+
+same-length-2 : tie.Need-same-length-2
+same-length-2 c = search needs
+
+returns-2 : tie.Need-returns-2
+returns-2 c = search needs
+
+pub compute-set-target-samples-spec : {M : Type 1} → statement M
+compute-set-target-samples-spec =
+    tie.close
+    (tie.spec
+    is-finite32-requires
+    is-finite32-requires-2
+    float-to-float-c
+    float-to-float-a
+    table-requires
+    target-finite-requires
+    same-length
+    returns
+    target-run-requires
+    same-length-2
+    returns-2)

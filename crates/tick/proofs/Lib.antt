@@ -1,0 +1,4 @@
+pub mod Frame
+pub mod Settled
+pub mod Steps
+pub mod Words
