@@ -1,0 +1,101 @@
+-- Several numbers, read one after the other: those read so far, and those that are left. Assumes nothing.
+use mathlib.Core.Path.{_≡_, refl, sym, ap, _∙_, subst}
+use mathlib.Core.List.{List, [], _∷_, _++_, append-nil}
+use mathlib.Core.Option.{Option, none, some}
+use Prim.Native.Nat.{ℕ, zero, suc, _+_, _-_, _≤_, _<_}
+use native.Mathlib.Nat.{sub-zero}
+use native.Mathlib.Numerals.{add-one}
+use native.Mathlib.Omega.{arith}
+use lib.ListN.{length, take, set}
+use lib.Seq.{append-snoc, take-suc-set}
+use lib.Ieee.{Float, binary32}
+use Rattle.text.specs.Floats.{floatIn}
+use Rattle.text.specs.Words.{Word, wordsFrom, taken, countIn, countAt, singleAt}
+use Rattle.text.specs.declared.words.NextSingle.{NextSingle}
+use Rattle.text.specs.declared.words.NextSingle.the-variants as NextSingle
+use Rattle.text.specs.declared.words.NextCount.{NextCount}
+use Rattle.text.specs.declared.words.NextCount.the-variants as NextCount
+use Rattle.text.proofs.Splitting.{count-below}
+use Rattle.calls.specs.declared.Call.{Call}
+use Rattle.calls.specs.declared.Call.the-variants as Call
+use Rattle.calls.specs.declared.NextNumbers.{NextNumbers}
+use Rattle.calls.specs.declared.NextNumbers.the-variants as NextNumbers
+use Rattle.calls.specs.Language.{withTaken, andMore, singles, numbersAt, Said, plain, heard, Heard}
+use Rattle.calls.proofs.Fields.{is-taken, not-taken, single-is, single-not}
+
+-- numbers that were read before some others
+unfoldable pub behind : List Float → Option (List Float × List Word) → Option (List Float × List Word)
+behind xs none = none
+behind xs (some p) = some (xs ++ p .0, p .1)
+
+behind-none : (o : Option (List Float × List Word)) → behind [] o ≡ o
+unfolding behind
+behind-none none = refl
+behind-none (some p) = refl
+
+behind-more : (xs : List Float) (x : Float) (o : Option (List Float × List Word)) → behind xs (andMore x o) ≡ behind (xs ++ (x ∷ [])) o
+unfolding behind andMore
+behind-more xs x none = refl
+behind-more xs x (some p) = ap (λ (ys : List Float). some (ys, p .1)) (sym (append-snoc xs x (p .0)))
+
+pub at-first : (ns : List Float) (count : ℕ) (ws : List Word) → singles count ws ≡ behind (take 0 ns) (singles (count - 0) ws)
+at-first ns count ws = rw (sub-zero count) (sym (behind-none (singles count ws)))
+
+one-more : (count i : ℕ) → i < count → count - i ≡ suc (count - (i + 1))
+one-more count i more = omega arith
+
+-- a turn: the next number is read, or is none
+module _ (s : List ℕ) (from count i : ℕ) (ns : List Float) {r : NextSingle} (more : i < count) (e : singleAt s r ≡ taken (floatIn binary32) (wordsFrom s from)) where
+  pub next-is : {x : Float} {next : ℕ} → i < length ns → r ≡ NextSingle.Is x next
+      → behind (take i ns) (singles (count - i) (wordsFrom s from)) ≡ behind (take (i + 1) (set ns i x)) (singles (count - (i + 1)) (wordsFrom s next))
+  unfolding singles
+  next-is {x} {next} inside g =
+      rw (one-more count i more, add-one i, take-suc-set ns i x inside)
+      (ap (behind (take i ns)) (single-is s from (λ y ws. andMore y (singles (count - suc i) ws)) e g) ∙ behind-more (take i ns) x (singles (count - suc i) (wordsFrom s next)))
+
+  pub next-not : r ≡ NextSingle.Unread → behind (take i ns) (singles (count - i) (wordsFrom s from)) ≡ none
+  unfolding singles behind
+  next-not g = rw (one-more count i more) (ap (behind (take i ns)) (single-not s from (λ y ws. andMore y (singles (count - (i + 1)) ws)) e g))
+
+pub at-last : (ns : List Float) (count i : ℕ) (ws : List Word) → i ≤ count → count ≤ i → behind (take i ns) (singles (count - i) ws) ≡ some (take count ns, ws)
+unfolding singles behind
+at-last ns count i ws low high =
+    let none-left : count - i ≡ 0 = omega arith in
+    let all : i ≡ count = omega arith in
+    rw (none-left, all, append-nil (take count ns))
+
+-- ---- a call and its numbers
+
+pub unheard : {o : Option Said} (numbers : List Float) → o ≡ none → Heard o Call.Unread numbers
+unfolding Heard
+unheard numbers e = subst (λ (o : Option Said). Heard o Call.Unread numbers) (sym e) refl
+
+-- the n numbers in front
+pub heard-with : {o : Option Said} {call : Call} (n : ℕ) (numbers : List Float) → o ≡ some (call, take n numbers) → Heard o call numbers
+unfolding Heard
+heard-with {o} {call} n numbers e = subst (λ (o : Option Said). Heard o call numbers) (sym e) (refl, front n numbers)
+  where
+    front : (n : ℕ) (xs : List Float) → take (length (take n xs)) xs ≡ take n xs
+    front zero xs = refl
+    front (suc n) [] = refl
+    front (suc n) (x ∷ xs) = ap (λ (ys : List Float). x ∷ ys) (front n xs)
+
+-- a call that has no numbers
+pub heard-plain : (o : Option Call) {call : Call} (numbers : List Float) → call ≡ heard o → Heard (plain o) call numbers
+unfolding Heard heard plain
+heard-plain none numbers e = e
+heard-plain (some c) numbers e = (e, refl)
+
+module _ {B : Type 0} (s : List ℕ) (at n : ℕ) (xs : List Float) {r : NextNumbers} (then : List Float → List Word → Option B) (e : numbersAt s xs r ≡ singles n (wordsFrom s at)) where
+  pub numbers-are : {next : ℕ} → r ≡ NextNumbers.At next → withTaken (singles n (wordsFrom s at)) then ≡ then xs (wordsFrom s next)
+  unfolding numbersAt
+  numbers-are g = is-taken then (sym e ∙ ap (numbersAt s xs) g)
+
+  pub numbers-not : r ≡ NextNumbers.Unread → withTaken (singles n (wordsFrom s at)) then ≡ none
+  unfolding numbersAt
+  numbers-not g = not-taken then (sym e ∙ ap (numbersAt s xs) g)
+
+-- as many numbers as were said
+pub within : (s : List ℕ) (at most : ℕ) {r : NextCount} {n next : ℕ} → countAt s r ≡ taken (countIn most) (wordsFrom s at) → r ≡ NextCount.Is n next → n ≤ most
+unfolding countAt
+within s at most e g = count-below most (wordsFrom s at) (sym e ∙ ap (countAt s) g)

@@ -1,0 +1,235 @@
+-- What is read from a line is within the page's ranges. Assumes nothing.
+use mathlib.Core.Path.{_≡_, refl, sym, ap, _∙_, subst}
+use mathlib.Core.Bool.{Bool, true, false, cond}
+use mathlib.Core.List.{List, [], _∷_}
+use mathlib.Core.Option.{Option, none, some}
+use Prim.Native.Nat.{ℕ, zero, suc, _≤_, _<_, zero-le}
+use native.Mathlib.Omega.{arith}
+use lib.Dec.{eqb}
+use lib.ListN.{length, take}
+use lib.Seq.{take-take}
+use lib.Ieee.{Float, binary32, binary64}
+use Rattle.rules.specs.Block as rule
+use Rattle.text.specs.Floats.{floatIn}
+use Rattle.text.specs.Words.{Word, sameWord, wordsOf, taken, isOver, countIn}
+use Rattle.text.proofs.Splitting.{count-below}
+use Rattle.calls.specs.declared.Call.{Call}
+use Rattle.calls.specs.declared.Call.the-variants as Call
+use Rattle.calls.specs.declared.Timed.{Timed}
+use Rattle.calls.specs.declared.Timed.the-variants as Timed
+use Rattle.calls.specs.declared.Cancelling.{Cancelling}
+use Rattle.calls.specs.declared.Cancelling.the-variants as Cancelling
+use Rattle.calls.specs.Language.{withTaken, withSingle, withDouble, withCount, ending, rateIn, andMore, singles, makeOf, setOf, timedAs, timed, targetOf, cancelledAs, cancelling, lendOf, pokeOf, stateOf, Said, curveOf, blockOf, plain, Row, row, scheduling, calls, found, byFirst, callOf, Heard}
+use Rattle.desk.specs.Desk.{InRange, asked, answerOf, saidTurn}
+
+-- ---- a property of what is read, if anything is
+
+unfoldable In : {B : Type 0} → (B → Type 0) → Option B → Type 0
+In P none = Unit
+In P (some b) = P b
+
+module _ {B : Type 0} (P : B → Type 0) where
+  -- behind what has a property R
+  with-known : {A : Type 0} (R : A × List Word → Type 0) (o : Option (A × List Word)) (then : A → List Word → Option B) → In R o → ((x : A) (ws : List Word) → R (x, ws) → In P (then x ws)) → In P (withTaken o then)
+  unfolding withTaken In
+  with-known R none then r h = tt
+  with-known R (some p) then r h = h (p .0) (p .1) r
+
+  any : {A : Type 0} (o : Option (A × List Word)) (then : A → List Word → Option B) → ((x : A) (ws : List Word) → In P (then x ws)) → In P (withTaken o then)
+  unfolding withTaken In
+  any none then h = tt
+  any (some p) then h = h (p .0) (p .1)
+
+  ended : (ws : List Word) (b : B) → P b → In P (ending ws b)
+  unfolding ending In
+  ended ws b h = by-test (isOver ws)
+    where
+      by-test : (t : Bool) → In P (cond t (some b) none)
+      by-test true = h
+      by-test false = tt
+
+-- a count is within its ceiling
+count-in : (most : ℕ) (ws : List Word) → In (λ (p : ℕ × List Word). p .0 ≤ most) (taken (countIn most) ws)
+unfolding In
+count-in most ws = by-option (taken (countIn most) ws) refl
+  where
+    by-option : (o : Option (ℕ × List Word)) → taken (countIn most) ws ≡ o → In (λ (p : ℕ × List Word). p .0 ≤ most) o
+    by-option none e = tt
+    by-option (some p) e = count-below most ws e
+
+-- as many numbers as were said
+abbrev Long : ℕ → List Float × List Word → Type 0
+Long n p = length (p .0) ≡ n
+
+one-more : (n : ℕ) (x : Float) (o : Option (List Float × List Word)) → In (Long n) o → In (Long (suc n)) (andMore x o)
+unfolding andMore In
+one-more n x none h = tt
+one-more n x (some p) h = ap suc h
+
+singles-in : (n : ℕ) (ws : List Word) → In (Long n) (singles n ws)
+unfolding singles withSingle In
+singles-in zero ws = refl
+singles-in (suc n) ws = any (Long (suc n)) _ _ (λ x ws. one-more n x (singles n ws) (singles-in n ws))
+
+-- ---- the calls
+
+-- how many numbers a curve has
+unfoldable curveLength : Call → ℕ
+curveLength Call.Nothing = 0
+curveLength Call.Unread = 0
+curveLength (Call.Make b rate) = 0
+curveLength (Call.Set v) = 0
+curveLength (Call.Step v t) = 0
+curveLength (Call.Linear v t) = 0
+curveLength (Call.Exponential v t) = 0
+curveLength (Call.Target v t c) = 0
+curveLength (Call.Curve t d n) = n
+curveLength (Call.Cancel t) = 0
+curveLength (Call.Hold t) = 0
+curveLength (Call.Block t p n o i) = 0
+curveLength (Call.Lend n) = 0
+curveLength (Call.Poke i v) = 0
+curveLength Call.State = 0
+
+-- within the ranges, and the numbers of a curve are there
+abbrev Fit : Said → Type 0
+Fit s = InRange (s .0) × (curveLength (s .0) ≤ length (s .1))
+
+abbrev Plain : Call → Type 0
+Plain c = Fit (c, [])
+
+in-make : (ws : List Word) → In Plain (makeOf ws)
+unfolding makeOf withSingle InRange curveLength
+in-make ws = any Plain _ _ (λ lo ws. any Plain _ _ (λ d ws. any Plain _ _ (λ hi ws. any Plain _ _ (λ r ws. ended Plain ws _ (tt, zero-le)))))
+
+in-set : (ws : List Word) → In Plain (setOf ws)
+unfolding setOf withSingle InRange curveLength
+in-set ws = any Plain _ _ (λ v ws. ended Plain ws _ (tt, zero-le))
+
+one-timed : (k : Timed) (v t : Float) → Plain (timedAs k v t)
+unfolding timedAs InRange curveLength
+one-timed Timed.Step v t = (tt, zero-le)
+one-timed Timed.Linear v t = (tt, zero-le)
+one-timed Timed.Exponential v t = (tt, zero-le)
+
+in-timed : (kind : Timed) (ws : List Word) → In Plain (timed kind ws)
+unfolding timed withSingle withDouble
+in-timed kind ws = any Plain _ _ (λ v ws. any Plain _ _ (λ t ws. ended Plain ws _ (one-timed kind v t)))
+
+in-target : (ws : List Word) → In Plain (targetOf ws)
+unfolding targetOf withSingle withDouble InRange curveLength
+in-target ws = any Plain _ _ (λ v ws. any Plain _ _ (λ t ws. any Plain _ _ (λ c ws. ended Plain ws _ (tt, zero-le))))
+
+one-cancelling : (k : Cancelling) (t : Float) → Plain (cancelledAs k t)
+unfolding cancelledAs InRange curveLength
+one-cancelling Cancelling.Cancel t = (tt, zero-le)
+one-cancelling Cancelling.Hold t = (tt, zero-le)
+
+in-cancelling : (kind : Cancelling) (ws : List Word) → In Plain (cancelling kind ws)
+unfolding cancelling withDouble
+in-cancelling kind ws = any Plain _ _ (λ t ws. ended Plain ws _ (one-cancelling kind t))
+
+in-lend : (ws : List Word) → In Plain (lendOf ws)
+unfolding lendOf withCount InRange curveLength
+in-lend ws = with-known Plain _ _ _ (count-in 8192 ws) (λ n ws h. ended Plain ws _ (h, zero-le))
+
+in-poke : (ws : List Word) → In Plain (pokeOf ws)
+unfolding pokeOf withCount withSingle InRange curveLength
+in-poke ws = with-known Plain _ _ _ (count-in 8191 ws) (λ i ws h. any Plain _ _ (λ v ws. ended Plain ws _ (omega arith, zero-le)))
+
+in-state : (ws : List Word) → In Plain (stateOf ws)
+unfolding stateOf InRange curveLength
+in-state ws = ended Plain ws _ (tt, zero-le)
+
+in-curve : (ws : List Word) → In Fit (curveOf ws)
+unfolding curveOf withDouble withCount InRange curveLength
+in-curve ws =
+    any Fit _ _ (λ t ws. any Fit _ _ (λ d ws. with-known Fit _ _ _ (count-in 5000 ws) (λ n ws h. with-known Fit (Long n) _ _ (singles-in n ws) (λ xs ws e. ended Fit ws _ (h, omega arith)))))
+
+in-block : (ws : List Word) → In Fit (blockOf ws)
+unfolding blockOf withDouble withCount InRange curveLength
+in-block ws =
+    any Fit _ _ (λ t ws. any Fit _ _ (λ p ws. any Fit _ _ (λ n ws. with-known Fit _ _ _ (count-in 4096 ws) (λ o ws ho. with-known Fit _ _ _ (count-in 4096 ws) (λ i ws hi.
+    any Fit _ _ (λ xs ws. ended Fit ws _ ((ho, hi), zero-le)))))))
+
+-- ---- the table
+
+plainly : (o : Option Call) → In Plain o → In Fit (plain o)
+unfolding plain In
+plainly none h = tt
+plainly (some c) h = h
+
+looked : (x w : Word) (read : List Word → Option Said) (rows : List Row) (ws : List Word) → ((ws : List Word) → In Fit (read ws)) → In Fit (found rows w ws) → In Fit (found (row x read ∷ rows) w ws)
+unfolding found
+looked x w read rows ws here there = by-test (sameWord w x)
+  where
+    by-test : (t : Bool) → In Fit (cond t (read ws) (found rows w ws))
+    by-test true = here ws
+    by-test false = there
+
+nowhere : (w : Word) (ws : List Word) → In Fit (found [] w ws)
+unfolding found In
+nowhere w ws = tt
+
+in-scheduling : (w : Word) (ws : List Word) → In Fit (found scheduling w ws)
+unfolding scheduling
+in-scheduling w ws =
+    looked _ w _ _ ws (λ ws. plainly _ (in-set ws)) (looked _ w _ _ ws (λ ws. plainly _ (in-timed Timed.Step ws)) (looked _ w _ _ ws (λ ws. plainly _ (in-timed Timed.Linear ws))
+    (looked _ w _ _ ws (λ ws. plainly _ (in-timed Timed.Exponential ws)) (looked _ w _ _ ws (λ ws. plainly _ (in-target ws)) (looked _ w _ _ ws in-curve
+    (looked _ w _ _ ws (λ ws. plainly _ (in-cancelling Cancelling.Cancel ws)) (looked _ w _ _ ws (λ ws. plainly _ (in-cancelling Cancelling.Hold ws)) (nowhere w ws))))))))
+
+in-calls : (w : Word) (ws : List Word) → In Fit (found calls w ws)
+unfolding calls
+in-calls w ws =
+    looked _ w _ _ ws (λ ws. plainly _ (in-make ws)) (looked _ w _ _ ws in-block (looked _ w _ _ ws (λ ws. plainly _ (in-lend ws)) (looked _ w _ _ ws (λ ws. plainly _ (in-poke ws))
+    (looked _ w _ _ ws (λ ws. plainly _ (in-state ws)) (in-scheduling w ws)))))
+
+in-first : (ws : List Word) → In Fit (byFirst ws)
+unfolding byFirst In
+in-first [] = tt
+in-first (w ∷ ws) = in-calls w ws
+
+in-line : (line : List ℕ) → In Fit (callOf line)
+unfolding callOf InRange curveLength In
+in-line [] = (tt, zero-le)
+in-line (c ∷ cs) = by-test (eqb c 35)
+  where
+    by-test : (t : Bool) → In Fit (cond t (some (Call.Nothing, [])) (byFirst (wordsOf (c ∷ cs))))
+    by-test true = (tt, zero-le)
+    by-test false = in-first (wordsOf (c ∷ cs))
+
+range-of : (call : Call) (numbers : List Float) (o : Option Said) → In Fit o → Heard o call numbers → InRange call
+unfolding Heard InRange In
+range-of call numbers none fit heard = subst InRange (sym heard) tt
+range-of call numbers (some s) fit heard = subst InRange (sym (heard .0)) (fit .0)
+
+-- what `read_call` ensures says that its call is within the ranges
+pub heard-in-range : (line : List ℕ) (call : Call) (numbers : List Float) → Heard (callOf line) call numbers → InRange call
+heard-in-range line call numbers h = range-of call numbers (callOf line) (in-line line) h
+
+-- and that it does what the line says
+same-turn : (c : Call) (xs numbers : List Float) → take (length xs) numbers ≡ xs → curveLength c ≤ length xs → answerOf c numbers ≡ answerOf c xs
+unfolding answerOf curveLength
+same-turn Call.Nothing xs numbers e h = refl
+same-turn Call.Unread xs numbers e h = refl
+same-turn (Call.Make b rate) xs numbers e h = refl
+same-turn (Call.Set v) xs numbers e h = refl
+same-turn (Call.Step v t) xs numbers e h = refl
+same-turn (Call.Linear v t) xs numbers e h = refl
+same-turn (Call.Exponential v t) xs numbers e h = refl
+same-turn (Call.Target v t c) xs numbers e h = refl
+same-turn (Call.Curve t d n) xs numbers e h = ap (λ (ys : List Float). asked (rule.curve t d ys)) (sym (take-take n (length xs) numbers h) ∙ ap (take n) e)
+same-turn (Call.Cancel t) xs numbers e h = refl
+same-turn (Call.Hold t) xs numbers e h = refl
+same-turn (Call.Block t p n o i) xs numbers e h = refl
+same-turn (Call.Lend n) xs numbers e h = refl
+same-turn (Call.Poke i v) xs numbers e h = refl
+same-turn Call.State xs numbers e h = refl
+
+turn-of : (call : Call) (numbers : List Float) (o : Option Said) → In Fit o → Heard o call numbers → answerOf call numbers ≡ saidTurn o
+unfolding Heard In answerOf saidTurn
+turn-of call numbers none fit heard = ap (λ (c : Call). answerOf c numbers) heard
+turn-of call numbers (some s) fit heard = ap (λ (c : Call). answerOf c numbers) (heard .0) ∙ same-turn (s .0) (s .1) numbers (heard .1) (fit .1)
+
+pub heard-turn : (line : List ℕ) (call : Call) (numbers : List Float) → Heard (callOf line) call numbers → answerOf call numbers ≡ saidTurn (callOf line)
+heard-turn line call numbers h = turn-of call numbers (callOf line) (in-line line) h

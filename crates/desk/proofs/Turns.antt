@@ -1,0 +1,176 @@
+-- From what the parameter's calls ensure to what a session's calls ensure. Assumes nothing.
+use mathlib.Core.Path.{_≡_, refl, sym, ap, _∙_, subst}
+use mathlib.Core.List.{List, [], _∷_, _++_}
+use Prim.Native.Nat.{ℕ, zero, suc, _+_, _≤_, _<_}
+use native.Mathlib.Numerals.{add-one}
+use native.Mathlib.Omega.{arith}
+use lib.ListN.{length, take, drop, set, replicate, take-append-drop}
+use lib.Count.{trailingZeros}
+use lib.Ieee.{Float, binary32, ofBits, ofFields, odd, lt, eq, le}
+use Rattle.rules.specs.declared.Bounds.{Bounds}
+use Rattle.rules.specs.declared.AutomationRate.{AutomationRate}
+use Rattle.rules.specs.declared.Event.{Event}
+use Rattle.rules.specs.declared.Verdict.{Verdict}
+use Rattle.rules.specs.declared.Verdict.the-variants as Verdict
+use Rattle.rules.specs.declared.AutomationRate.the-variants as Rate
+use Rattle.rules.specs.Numbers.{plusZero, isFinite}
+use Rattle.rules.specs.Refusals.{lowest, allFinite, areBounds, makingRows}
+use Rattle.rules.specs.Block.{Param, made, madeAs, Command, Called, called, scheduledAs}
+use Rattle.rules.specs.Block as rule
+use Rattle.text.specs.Put.{Put}
+use Rattle.text.proofs.Writing.{put-same, put-then}
+use Rattle.answers.specs.Answers.{verdictText}
+use Rattle.calls.specs.declared.Call.{Call}
+use Rattle.param.specs.declared.AudioParam.{AudioParam}
+use Rattle.param.specs.declared.Outcome.{Outcome}
+use Rattle.param.specs.Param.{paramOf, structOf, nothingMade, SoundParam, Makes, Answers}
+use Rattle.param.proofs.Calls.{whole}
+use Rattle.desk.specs.declared.Desk.{Desk}
+use Rattle.desk.specs.declared.Answered.{Answered}
+use Rattle.desk.specs.Desk.{Table, Turn, deskOf, tableOf, SoundDesk, Spoken, making, asked, answerOf, withNewline, InRange}
+
+-- ---- a call that is not lent the store
+
+-- it does the same whatever the store is, and leaves it
+abbrev pub Plain : Command → Type 0
+Plain c = (p : Param) (s : List Float) → called p s c ≡ record { verdict = called p [] c .verdict; param = called p [] c .param; store = s }
+
+plain : (v : Verdict) (p : Param) (s : List Float) (e : Event) → scheduledAs v p s e ≡ record { verdict = scheduledAs v p [] e .verdict; param = scheduledAs v p [] e .param; store = s }
+unfolding scheduledAs
+plain Verdict.Answered p s e = refl
+plain (Verdict.Refused r) p s e = refl
+
+pub plain-set : (v : Float) → Plain (rule.set v)
+unfolding called
+plain-set v p s = plain _ p s _
+
+pub plain-step : (v t : Float) → Plain (rule.step v t)
+unfolding called
+plain-step v t p s = plain _ p s _
+
+pub plain-linear : (v t : Float) → Plain (rule.linear v t)
+unfolding called
+plain-linear v t p s = plain _ p s _
+
+pub plain-exponential : (v t : Float) → Plain (rule.exponential v t)
+unfolding called
+plain-exponential v t p s = plain _ p s _
+
+pub plain-target : (v t c : Float) → Plain (rule.target v t c)
+unfolding called
+plain-target v t c p s = plain _ p s _
+
+-- ---- what was told
+
+-- the desk and the text that `told` leaves
+abbrev pub Told : Outcome → ℕ → List ℕ → ℕ → Answered → List ℕ → Type 0
+Told o lent l at t l′ = (t .desk ≡ deskOf (o .param) lent) × Put l at (verdictText (o .verdict)) l′ (t .next) × (t .next ≤ at + 28)
+
+told-sound : {d : Desk} (p : AudioParam) (lent : ℕ) → d ≡ deskOf p lent → SoundParam p → lent ≤ 8192 → SoundDesk d
+told-sound p lent e s h = subst SoundDesk (sym e) (record { param = s; lent = h })
+
+module _ (c : Command) (d : Desk) (s : List Float) (l : List ℕ) (at : ℕ) (o : Outcome) (t : Answered) (l′ : List ℕ) (ok : SoundDesk d) (told : Told o (d .lent) l at t l′) where
+  -- lent the store
+  pub lent : (after : List Float) → Answers (d .param) (take (d .lent) s) c o after → Spoken 41999 (asked c) d s l at t (after ++ drop (d .lent) s) l′
+  unfolding asked
+  lent after a =
+      record {
+        param = ap (λ (x : Desk). x .param) (told .0) ∙ a .param;
+        lent = ap (λ (x : Desk). x .lent) (told .0);
+        store = ap (λ (x : List Float). x ++ drop (d .lent) s) (a .left);
+        text = put-same (ap verdictText (a .verdict)) (told .1);
+        sound = told-sound (o .param) (d .lent) (told .0) (a .sound) (ok .lent);
+        room = omega (arith, told .2);
+      }
+
+  -- not lent it
+  pub alone : Plain c → Answers (d .param) [] c o [] → Spoken 41999 (asked c) d s l at t s l′
+  unfolding asked
+  alone same a =
+      let e : called (paramOf (d .param)) (take (d .lent) s) c ≡ _ = same (paramOf (d .param)) (take (d .lent) s) in
+      record {
+        param = ap (λ (x : Desk). x .param) (told .0) ∙ a .param ∙ ap (λ (x : Called). structOf (x .param)) (sym e);
+        lent = ap (λ (x : Desk). x .lent) (told .0);
+        store = sym (ap (λ (x : Called). x .store ++ drop (d .lent) s) e ∙ take-append-drop (d .lent) s);
+        text = put-same (ap verdictText (a .verdict ∙ ap (λ (x : Called). x .verdict) (sym e))) (told .1);
+        sound = told-sound (o .param) (d .lent) (told .0) (a .sound) (ok .lent);
+        room = omega (arith, told .2);
+      }
+
+-- ---- making
+
+pub made-spoken : (b : Bounds) (rate : AutomationRate) (o : Outcome) (s s′ : List Float) (l : List ℕ) (at : ℕ) (t : Answered) (l′ : List ℕ) → length s ≡ 8192
+    → s′ ≡ replicate (length s) plusZero → Makes b rate o → Told o 4096 l at t l′ → (d : Desk) → Spoken 41999 (making b rate) d s l at t s′ l′
+unfolding making
+made-spoken b rate o s s′ l at t l′ long zeroed a told d =
+    record {
+      param = ap (λ (x : Desk). x .param) (told .0) ∙ a .param;
+      lent = ap (λ (x : Desk). x .lent) (told .0);
+      store = zeroed ∙ ap (λ (n : ℕ). replicate n plusZero) long;
+      text = put-same (ap verdictText (a .verdict)) (told .1);
+      sound = told-sound (o .param) 4096 (told .0) (a .sound) (omega arith);
+      room = omega (arith, told .2);
+    }
+
+-- ---- a call that leaves the parameter: how many are lent, the store after it, and its text
+
+pub said : {most : ℕ} (turn : Table → Turn) (d : Desk) (s : List Float) {l : List ℕ} {at : ℕ} {t : Answered} {l′ : List ℕ} (n : ℕ) (s′ : List Float) (x : List ℕ)
+    → SoundDesk d → t .desk ≡ deskOf (d .param) n → n ≤ 8192
+    → turn (tableOf d s) ≡ record { table = record { param = paramOf (d .param); lent = n; store = s′ }; text = x } → Put l at x l′ (t .next) → t .next ≤ at + most
+    → Spoken most turn d s l at t s′ l′
+said turn d s {t = t} n s′ x ok e h is put-text near =
+    record {
+      param = ap (λ (y : Desk). y .param) e ∙ whole (d .param) (ok .param) ∙ ap (λ (y : Turn). structOf (y .table .param)) (sym is);
+      lent = ap (λ (y : Desk). y .lent) e ∙ ap (λ (y : Turn). y .table .lent) (sym is);
+      store = ap (λ (y : Turn). y .table .store) (sym is);
+      text = put-same (ap (λ (y : Turn). y .text) (sym is)) put-text;
+      sound = told-sound (d .param) n e (ok .param) h;
+      room = near;
+    }
+
+-- ---- a store filled with one number
+
+filled-at : {A : Type 0} (n : ℕ) (v : A) (d : List A) → n < length d → set (replicate n v ++ drop n d) n v ≡ replicate (suc n) v ++ drop (suc n) d
+filled-at n v [] h = absurd (omega arith)
+filled-at zero v (x ∷ d) h = refl
+filled-at {A} (suc n) v (x ∷ d) h = ap (λ (t : List A). v ∷ t) (filled-at n v d (omega arith))
+
+pub filled : {A : Type 0} (n : ℕ) (v : A) (d : List A) → n < length d → set (replicate n v ++ drop n d) n v ≡ replicate (n + 1) v ++ drop (n + 1) d
+filled n v d h = rw (add-one n) (filled-at n v d h)
+
+pub zero-is : ofBits binary32 0 ≡ plusZero
+unfolding ofBits ofFields odd
+zero-is = refl
+
+-- ---- before the first `make`
+
+-- the range 1 to 0 is none
+pub no-range : made (record { min = ofBits binary32 1065353216; default = ofBits binary32 0; max = ofBits binary32 0 }) Rate.A ≡ nothingMade
+unfolding made madeAs lowest makingRows areBounds allFinite isFinite le lt eq ofBits ofFields odd trailingZeros
+no-range = refl
+
+-- ---- the call that was read
+
+pub by-call : {call this : Call} (numbers : List Float) {d : Desk} {s : List Float} {l : List ℕ} {at : ℕ} {r : Answered} {s′ : List Float} {l′ : List ℕ}
+    → call ≡ this → Spoken 41999 (answerOf this numbers) d s l at r s′ l′ → Spoken 41999 (answerOf call numbers) d s l at r s′ l′
+by-call numbers {d} {s} {l} {at} {r} {s′} {l′} e spoken = subst (λ (x : Call). Spoken 41999 (answerOf x numbers) d s l at r s′ l′) (sym e) spoken
+
+pub ranged : {call this : Call} → call ≡ this → InRange call → InRange this
+ranged e h = subst InRange e h
+
+-- ---- its newline
+
+pub newline : {turn this : Table → Turn} {d : Desk} {s : List Float} {l l₁ : List ℕ} {at : ℕ} {r : Answered} {s′ : List Float} {l′ : List ℕ} {next : ℕ}
+    → turn ≡ this → Spoken 41999 turn d s l at r s′ l₁ → Put l₁ (r .next) (10 ∷ []) l′ next → at + 42000 ≤ length l
+    → Spoken 42000 (withNewline this) d s l at (record { desk = r .desk; next = next }) s′ l′
+unfolding withNewline
+newline {turn} {this} {d} {s} {l} {l₁} {at} {r} {s′} {l′} {next} e spoken p room =
+    let k : Spoken 41999 this d s l at r s′ l₁ = subst (λ (f : Table → Turn). Spoken 41999 f d s l at r s′ l₁) e spoken in
+    record {
+      param = k .param;
+      lent = k .lent;
+      store = k .store;
+      text = put-then (k .text) p (omega (arith, k .room));
+      sound = k .sound;
+      room = omega (arith, k .room, p .place);
+    }

@@ -1,0 +1,180 @@
+-- What the calls of a session do, and what is answered: the page's table over document 01's rules.
+use mathlib.Core.Path.{_≡_}
+use mathlib.Core.Bool.{Bool}
+use mathlib.Core.List.{List, [], _∷_, _++_}
+use mathlib.Core.Option.{Option, none, some}
+use Prim.Native.Nat.{ℕ, zero, suc, _+_, _*_, _≤_, _<_}
+use lib.ListN.{length, take, drop, set, replicate}
+use lib.Ieee.{Float}
+use Rattle.rules.specs.declared.Bounds.{Bounds}
+use Rattle.rules.specs.declared.AutomationRate.{AutomationRate}
+use Rattle.rules.specs.declared.Event.{Event}
+use Rattle.rules.specs.declared.Verdict.the-variants as Verdict
+use Rattle.rules.specs.Numbers.{plusZero, storeLength}
+use Rattle.rules.specs.Queue.{lengthOf, lengthsOf}
+use Rattle.rules.specs.Refusals.{lowest, makingRows}
+use Rattle.rules.specs.Block.{Param, made, Command, called}
+use Rattle.rules.specs.Block as rule
+use Rattle.text.specs.Put.{Put}
+use Rattle.calls.specs.Language.{Said, callOf}
+use Rattle.calls.specs.declared.Call.{Call}
+use Rattle.calls.specs.declared.Call.the-variants as Call
+use Rattle.answers.specs.Answers.{verdictText, stateText, eventText, listText, zerosText, areZeros}
+use Rattle.param.specs.declared.AudioParam.{AudioParam}
+use Rattle.param.specs.Param.{paramOf, structOf, nothingMade, SoundParam}
+use Rattle.desk.specs.declared.Desk.{Desk}
+use Rattle.desk.specs.declared.Answered.{Answered}
+
+-- ---- what a session has at hand
+
+-- the parameter, "a fixed array of 8192" numbers, and how many of its first are lent
+pub record Table : Type 0 where
+  pub param : Param
+  pub lent : ℕ
+  pub store : List Float
+
+-- a call's effect, and its answer without the newline
+pub record Turn : Type 0 where
+  pub table : Table
+  pub text : List ℕ
+
+abbrev pub unchanged : List ℕ → Table → Turn
+unchanged text t = record { table = t; text = text }
+
+-- "Before the first `make`, the parameter is what refusal 1 returns", and 4096 are lent
+abbrev pub unmadeDesk : Desk
+unmadeDesk = record { param = structOf nothingMade; lent = storeLength }
+
+-- ---- the calls
+
+-- `unread`
+unfoldable pub unread : Table → Turn
+unread = unchanged (117 ∷ 110 ∷ 114 ∷ 101 ∷ 97 ∷ 100 ∷ [])
+
+-- "A `make`, refused too, sets all 8192 numbers to +0 and lends 4096 again, and the parameter is then what it returned."
+unfoldable pub making : Bounds → AutomationRate → Table → Turn
+making b rate t =
+    record {
+      table = record { param = made b rate; lent = storeLength; store = replicate 8192 plusZero };
+      text = verdictText (lowest (makingRows b));
+    }
+
+-- a scheduling or cancelling call; the numbers behind those that are lent stay
+unfoldable pub asked : Command → Table → Turn
+asked c t =
+    let r = called (t .param) (take (t .lent) (t .store)) c in
+    record {
+      table = record { param = r .param; lent = t .lent; store = r .store ++ drop (t .lent) (t .store) };
+      text = verdictText (r .verdict);
+    }
+
+-- `ok`
+unfoldable pub lending : ℕ → Table → Turn
+lending n t = record { table = record { param = t .param; lent = n; store = t .store }; text = verdictText Verdict.Answered }
+
+-- "put V at place I of that array"
+unfoldable pub poking : ℕ → Float → Table → Turn
+poking i v t = record { table = record { param = t .param; lent = t .lent; store = set (t .store) i v }; text = verdictText Verdict.Answered }
+
+-- ---- the state
+
+-- a waiting event, its numbers being the first of s: the first behind a colon, the others behind commas
+unfoldable pub waitingText : Event → List Float → List ℕ
+waitingText e s = eventText e ++ listText 58 44 (take (lengthOf e) s)
+
+-- "each in queue order", "a curve's numbers as they stand in the store"
+unfoldable pub queueText : List Event → List Float → List ℕ
+queueText [] s = []
+queueText (e ∷ es) s = waitingText e s ++ queueText es (drop (lengthOf e) s)
+
+-- "`zeros` where every number of the first 4096 behind the curves is +0"
+unfoldable pub stateLine : Param → List Float → List ℕ
+stateLine p s =
+    stateText (p .rate) (p .bounds) (p .intrinsic) (p .lastBlock) (p .last) (length (p .queue))
+    ++ (queueText (p .queue) s ++ zerosText (areZeros (drop (lengthsOf (p .queue)) (take storeLength s))))
+
+unfoldable pub stating : Table → Turn
+stating t = unchanged (stateLine (t .param) (t .store)) t
+
+-- ---- a line
+
+-- the numbers of a curve are the first of `numbers`
+unfoldable pub answerOf : Call → List Float → Table → Turn
+answerOf Call.Nothing numbers = unchanged []
+answerOf Call.Unread numbers = unread
+answerOf (Call.Make b rate) numbers = making b rate
+answerOf (Call.Set v) numbers = asked (rule.set v)
+answerOf (Call.Step v t) numbers = asked (rule.step v t)
+answerOf (Call.Linear v t) numbers = asked (rule.linear v t)
+answerOf (Call.Exponential v t) numbers = asked (rule.exponential v t)
+answerOf (Call.Target v t c) numbers = asked (rule.target v t c)
+answerOf (Call.Curve t d n) numbers = asked (rule.curve t d (take n numbers))
+answerOf (Call.Cancel t) numbers = asked (rule.cancel t)
+answerOf (Call.Hold t) numbers = asked (rule.hold t)
+answerOf (Call.Block t p n o i) numbers = unread
+answerOf (Call.Lend n) numbers = lending n
+answerOf (Call.Poke i v) numbers = poking i v
+answerOf Call.State numbers = stating
+
+-- what a line says, or that it is none of these
+unfoldable pub saidTurn : Option Said → Table → Turn
+saidTurn none = unread
+saidTurn (some s) = answerOf (s .0) (s .1)
+
+unfoldable pub withNewline : (Table → Turn) → Table → Turn
+withNewline turn t = record { table = turn t .table; text = turn t .text ++ (10 ∷ []) }
+
+-- "each line gets exactly one line of answer"
+unfoldable pub lineTurn : List ℕ → Table → Turn
+lineTurn line = withNewline (saidTurn (callOf line))
+
+-- ---- what the code keeps and ensures
+
+abbrev pub deskOf : AudioParam → ℕ → Desk
+deskOf p n = record { param = p; lent = n }
+
+-- a desk that these calls leave
+pub record SoundDesk (d : Desk) : Type 0 where
+  pub param : SoundParam (d .param)
+  pub lent : d .lent ≤ 8192
+
+abbrev pub tableOf : Desk → List Float → Table
+tableOf d s = record { param = paramOf (d .param); lent = d .lent; store = s }
+
+-- a call, by its effect, in at most so many characters: from the desk d, the store s and the buffer l, written from `at` on, to what r says, the store s′ and the buffer l′
+pub record Spoken (most : ℕ) (turn : Table → Turn) (d : Desk) (s : List Float) (l : List ℕ) (at : ℕ) (r : Answered) (s′ : List Float) (l′ : List ℕ) : Type 0 where
+  pub param : r .desk .param ≡ structOf (turn (tableOf d s) .table .param)
+  pub lent : r .desk .lent ≡ turn (tableOf d s) .table .lent
+  pub store : s′ ≡ turn (tableOf d s) .table .store
+  pub text : Put l at (turn (tableOf d s) .text) l′ (r .next)
+  pub sound : SoundDesk (r .desk)
+  pub room : r .next ≤ at + most
+
+-- the ranges of the page, as far as the code counts on them
+unfoldable pub InRange : Call → Type 0
+InRange Call.Nothing = Unit
+InRange Call.Unread = Unit
+InRange (Call.Make b rate) = Unit
+InRange (Call.Set v) = Unit
+InRange (Call.Step v t) = Unit
+InRange (Call.Linear v t) = Unit
+InRange (Call.Exponential v t) = Unit
+InRange (Call.Target v t c) = Unit
+InRange (Call.Curve t d n) = n ≤ 5000
+InRange (Call.Cancel t) = Unit
+InRange (Call.Hold t) = Unit
+InRange (Call.Block t p n o i) = (o ≤ 4096) × (i ≤ 4096)
+InRange (Call.Lend n) = n ≤ 8192
+InRange (Call.Poke i v) = i < 8192
+InRange Call.State = Unit
+
+-- the event at place i, as it is printed, and the room that it takes
+unfoldable pub firstText : List Event → List Float → List ℕ
+firstText [] s = []
+firstText (e ∷ es) s = waitingText e s
+
+unfoldable pub waitingAt : List Event → ℕ → List Float → List ℕ
+waitingAt q i s = firstText (drop i q) (drop (lengthsOf (take i q)) s)
+
+unfoldable pub widthAt : List Event → ℕ → ℕ
+widthAt q i = 78 + 9 * lengthsOf (take 1 (drop i q))

@@ -1,0 +1,334 @@
+// The calls of a session, made on one parameter and its store, and their answers.
+ghost use mathlib.Core.Path.{_≡_};
+ghost use mathlib.Core.List.{List};
+ghost use Prim.Native.Nat.{ℕ, _+_, _*_, _≤_, _<_};
+ghost use lib.ListN.{length, take, drop, replicate};
+ghost use lib.Ieee.{Float};
+ghost use Rattle.rules.specs.Numbers.{plusZero};
+ghost use Rattle.rules.specs.Block.{set, step, linear, exponential, target, curve, cancel, hold};
+ghost use Rattle.text.specs.Put.{Put};
+ghost use Rattle.answers.specs.Answers.{verdictText};
+ghost use Rattle.param.specs.Param.{SoundParam, paramOf};
+ghost use Rattle.desk.specs.Desk.{SoundDesk, InRange, deskOf, Spoken, unread, making, asked, lending, poking, stating, answerOf, withNewline, lineTurn, widthAt, waitingAt, queueText, unmadeDesk};
+use answers::is_zeros;
+use answers::put_event;
+use answers::put_list;
+use answers::put_state;
+use answers::put_verdict;
+use answers::put_zeros;
+use calls::Call;
+use calls::read_call;
+use param::AudioParam;
+use param::Outcome;
+use rules::AutomationRate;
+use rules::Bounds;
+use rules::Head;
+use text::write::put_byte;
+use text::write::put_word;
+use timeline::length_of;
+
+// The parameter at hand, and how many numbers of the store are lent to its calls.
+pub struct Desk {
+    pub param: AudioParam,
+    pub lent: usize,
+}
+
+// The desk after a call, and the place behind its answer.
+pub struct Answered {
+    pub desk: Desk,
+    pub next: usize,
+}
+
+// Before the first `make`: what refusal 1 returns.
+pub fn at_first() -> Desk
+    ensures { λ r. ⌜ (r ≡ unmadeDesk) × SoundDesk r ⌝ }
+{
+    let no_range = Bounds {
+        min: 1.0,
+        default: 0.0,
+        max: 0.0,
+    };
+    let r = AudioParam::new(no_range, AutomationRate::A);
+    let param = r.param;
+    Desk { param, lent: 4096 }
+}
+
+// An answer in a word, by which nothing changes.
+fn word(desk: Desk, out: &mut [u8], at: usize, word: &[u8]) -> Answered
+    requires { ⌜ (length (now word) ≤ 7) × (at + 42000 ≤ length (now out)) ⌝ }
+    ensures { λ r. ⌜ (r .desk ≡ desk) × Put (now (out .entry)) at (now (word .entry)) (now (out .exit)) (r .next) ⌝ }
+{
+    let next = put_word(out, at, word);
+    Answered { desk, next }
+}
+
+// What a call says, and the parameter after it.
+fn told(r: Outcome, lent: usize, out: &mut [u8], at: usize) -> Answered
+    requires { ⌜ at + 42000 ≤ length (now out) ⌝ }
+    ensures { λ t. ⌜ (t .desk ≡ deskOf (r .param) lent) × Put (now (out .entry)) at (verdictText (r .verdict)) (now (out .exit)) (t .next) × (t .next ≤ at + 28) ⌝ }
+{
+    let verdict = r.verdict;
+    let param = r.param;
+    let next = put_verdict(out, at, verdict);
+    let desk = Desk { param, lent };
+    Answered { desk, next }
+}
+
+// All numbers of a store +0.
+fn clear(store: &mut [f32])
+    ensures { λ _. ⌜ now (store .exit) ≡ replicate (length (now (store .entry))) plusZero ⌝ }
+{
+    let mut i = 0;
+    while i < store.len() {
+        store[i] = 0.0;
+        i += 1;
+    }
+}
+
+fn make(
+    bounds: Bounds,
+    rate: AutomationRate,
+    store: &mut [f32],
+    out: &mut [u8],
+    at: usize,
+) -> Answered
+    requires { ⌜ (length (now store) ≡ 8192) × (at + 42000 ≤ length (now out)) ⌝ }
+    ensures { λ r. ⌜ ((d : Desk) → Spoken 41999 (making bounds rate) d (now (store .entry)) (now (out .entry)) at r (now (store .exit)) (now (out .exit))) ⌝ }
+{
+    clear(store);
+    told(AudioParam::new(bounds, rate), 4096, out, at)
+}
+
+fn set(desk: Desk, value: f32, out: &mut [u8], at: usize) -> Answered
+    requires { ⌜ SoundDesk desk × (at + 42000 ≤ length (now out)) ⌝ }
+    ensures { λ r. ⌜ ((s : List Float) → Spoken 41999 (asked (set value)) desk s (now (out .entry)) at r s (now (out .exit))) ⌝ }
+{
+    let p = desk.param;
+    told(p.set_value(value), desk.lent, out, at)
+}
+
+fn step(desk: Desk, value: f32, time: f64, out: &mut [u8], at: usize) -> Answered
+    requires { ⌜ SoundDesk desk × (at + 42000 ≤ length (now out)) ⌝ }
+    ensures { λ r. ⌜ ((s : List Float) → Spoken 41999 (asked (step value time)) desk s (now (out .entry)) at r s (now (out .exit))) ⌝ }
+{
+    let p = desk.param;
+    told(p.set_value_at_time(value, time), desk.lent, out, at)
+}
+
+fn linear(desk: Desk, value: f32, time: f64, out: &mut [u8], at: usize) -> Answered
+    requires { ⌜ SoundDesk desk × (at + 42000 ≤ length (now out)) ⌝ }
+    ensures { λ r. ⌜ ((s : List Float) → Spoken 41999 (asked (linear value time)) desk s (now (out .entry)) at r s (now (out .exit))) ⌝ }
+{
+    let p = desk.param;
+    told(
+        p.linear_ramp_to_value_at_time(value, time),
+        desk.lent,
+        out,
+        at,
+    )
+}
+
+fn exponential(desk: Desk, value: f32, time: f64, out: &mut [u8], at: usize) -> Answered
+    requires { ⌜ SoundDesk desk × (at + 42000 ≤ length (now out)) ⌝ }
+    ensures { λ r. ⌜ ((s : List Float) → Spoken 41999 (asked (exponential value time)) desk s (now (out .entry)) at r s (now (out .exit))) ⌝ }
+{
+    let p = desk.param;
+    told(
+        p.exponential_ramp_to_value_at_time(value, time),
+        desk.lent,
+        out,
+        at,
+    )
+}
+
+fn target(desk: Desk, value: f32, time: f64, constant: f64, out: &mut [u8], at: usize) -> Answered
+    requires { ⌜ SoundDesk desk × (at + 42000 ≤ length (now out)) ⌝ }
+    ensures { λ r. ⌜ ((s : List Float) → Spoken 41999 (asked (target value time constant)) desk s (now (out .entry)) at r s (now (out .exit))) ⌝ }
+{
+    let p = desk.param;
+    told(
+        p.set_target_at_time(value, time, constant),
+        desk.lent,
+        out,
+        at,
+    )
+}
+
+fn curve(
+    desk: Desk,
+    start: f64,
+    duration: f64,
+    values: &[f32],
+    store: &mut [f32],
+    out: &mut [u8],
+    at: usize,
+) -> Answered
+    requires { ⌜ SoundDesk desk × (length (now store) ≡ 8192) × (at + 42000 ≤ length (now out)) ⌝ }
+    ensures { λ r. ⌜ Spoken 41999 (asked (curve start duration (now (values .entry)))) desk (now (store .entry)) (now (out .entry)) at r (now (store .exit)) (now (out .exit)) ⌝ }
+{
+    let p = desk.param;
+    let lent = desk.lent;
+    let r = p.set_value_curve_at_time(values, start, duration, &mut store[..lent]);
+    told(r, lent, out, at)
+}
+
+fn cancel(desk: Desk, time: f64, store: &mut [f32], out: &mut [u8], at: usize) -> Answered
+    requires { ⌜ SoundDesk desk × (length (now store) ≡ 8192) × (at + 42000 ≤ length (now out)) ⌝ }
+    ensures { λ r. ⌜ Spoken 41999 (asked (cancel time)) desk (now (store .entry)) (now (out .entry)) at r (now (store .exit)) (now (out .exit)) ⌝ }
+{
+    let p = desk.param;
+    let lent = desk.lent;
+    let r = p.cancel_scheduled_values(time, &mut store[..lent]);
+    told(r, lent, out, at)
+}
+
+fn hold(desk: Desk, time: f64, store: &mut [f32], out: &mut [u8], at: usize) -> Answered
+    requires { ⌜ SoundDesk desk × (length (now store) ≡ 8192) × (at + 42000 ≤ length (now out)) ⌝ }
+    ensures { λ r. ⌜ Spoken 41999 (asked (hold time)) desk (now (store .entry)) (now (out .entry)) at r (now (store .exit)) (now (out .exit)) ⌝ }
+{
+    let p = desk.param;
+    let lent = desk.lent;
+    let r = p.cancel_and_hold_at_time(time, &mut store[..lent]);
+    told(r, lent, out, at)
+}
+
+fn lend(desk: Desk, len: usize, out: &mut [u8], at: usize) -> Answered
+    requires { ⌜ SoundDesk desk × (len ≤ 8192) × (at + 42000 ≤ length (now out)) ⌝ }
+    ensures { λ r. ⌜ ((s : List Float) → Spoken 41999 (lending len) desk s (now (out .entry)) at r s (now (out .exit))) ⌝ }
+{
+    let param = desk.param;
+    word(Desk { param, lent: len }, out, at, b"ok")
+}
+
+fn poke(
+    desk: Desk,
+    place: usize,
+    value: f32,
+    store: &mut [f32],
+    out: &mut [u8],
+    at: usize,
+) -> Answered
+    requires { ⌜ SoundDesk desk × (place < length (now store)) × (at + 42000 ≤ length (now out)) ⌝ }
+    ensures { λ r. ⌜ Spoken 41999 (poking place value) desk (now (store .entry)) (now (out .entry)) at r (now (store .exit)) (now (out .exit)) ⌝ }
+{
+    store[place] = value;
+    word(desk, out, at, b"ok")
+}
+
+// The waiting event at a place, and its numbers as they stand in the store.
+fn put_waiting(p: AudioParam, i: usize, store: &[f32], out: &mut [u8], at: usize) -> usize
+    requires { ⌜ SoundParam p × (length (now store) ≡ 8192) × (at + widthAt (paramOf p .queue) i ≤ length (now out)) ⌝ }
+    ensures { λ r. ⌜ Put (now (out .entry)) at (waitingAt (paramOf p .queue) i (now (store .entry))) (now (out .exit)) r ⌝ }
+    ensures { λ r. ⌜ r ≤ at + widthAt (paramOf p .queue) i ⌝ }
+{
+    let Head::Event(e) = p.event_at(i) else {
+        return at;
+    };
+    let next = put_event(out, at, e);
+    let from = p.offset_of(i);
+    let to = from + length_of(e);
+    put_list(out, next, b':', b',', &store[from..to])
+}
+
+// All waiting events.
+fn put_queue(p: AudioParam, store: &[f32], out: &mut [u8], at: usize) -> usize
+    requires { ⌜ SoundParam p × (length (now store) ≡ 8192) × (at + 41856 ≤ length (now out)) ⌝ }
+    ensures { λ r. ⌜ Put (now (out .entry)) at (queueText (paramOf p .queue) (now (store .entry))) (now (out .exit)) r ⌝ }
+    ensures { λ r. ⌜ r ≤ at + 41856 ⌝ }
+{
+    let n = p.len();
+    let mut next = at;
+    let mut i = 0;
+    while i < n {
+        next = put_waiting(p, i, store, out, next);
+        i += 1;
+    }
+    next
+}
+
+fn state(desk: Desk, store: &[f32], out: &mut [u8], at: usize) -> Answered
+    requires { ⌜ SoundDesk desk × (length (now store) ≡ 8192) × (at + 42000 ≤ length (now out)) ⌝ }
+    ensures { λ r. ⌜ Spoken 41999 stating desk (now (store .entry)) (now (out .entry)) at r (now (store .entry)) (now (out .exit)) ⌝ }
+{
+    let p = desk.param;
+    let n = p.len();
+    let next = put_state(
+        out,
+        at,
+        p.automation_rate(),
+        p.bounds(),
+        p.intrinsic_value(),
+        p.last_block_time(),
+        p.last_event(),
+        n as u64,
+    );
+    let next = put_queue(p, store, out, next);
+    let next = put_zeros(out, next, is_zeros(&store[..4096], p.offset_of(n)));
+    Answered { desk, next }
+}
+
+// One call, whose numbers are in front of `numbers`; `block` is not yet read.
+fn answer(
+    desk: Desk,
+    call: Call,
+    numbers: &[f32],
+    store: &mut [f32],
+    out: &mut [u8],
+    at: usize,
+) -> Answered
+    requires { ⌜ SoundDesk desk × InRange call × (5000 ≤ length (now numbers)) × (length (now store) ≡ 8192) × (at + 42000 ≤ length (now out)) ⌝ }
+    ensures { λ r. ⌜ Spoken 41999 (answerOf call (now (numbers .entry))) desk (now (store .entry)) (now (out .entry)) at r (now (store .exit)) (now (out .exit)) ⌝ }
+{
+    match call {
+        Call::Nothing => Answered { desk, next: at },
+        Call::Unread => word(desk, out, at, b"unread"),
+        Call::Make { bounds, rate } => make(bounds, rate, store, out, at),
+        Call::Set { value } => set(desk, value, out, at),
+        Call::Step { value, time } => step(desk, value, time, out, at),
+        Call::Linear { value, time } => linear(desk, value, time, out, at),
+        Call::Exponential { value, time } => exponential(desk, value, time, out, at),
+        Call::Target {
+            value,
+            time,
+            constant,
+        } => target(desk, value, time, constant, out, at),
+        Call::Curve {
+            start,
+            duration,
+            len,
+        } => curve(desk, start, duration, &numbers[..len], store, out, at),
+        Call::Cancel { time } => cancel(desk, time, store, out, at),
+        Call::Hold { time } => hold(desk, time, store, out, at),
+        Call::Block { .. } => word(desk, out, at, b"unread"),
+        Call::Lend { len } => lend(desk, len, out, at),
+        Call::Poke { place, value } => poke(desk, place, value, store, out, at),
+        Call::State => state(desk, &store[..], out, at),
+    }
+}
+
+// A line of the session language, answered with a line.
+pub fn answer_line(
+    desk: Desk,
+    line: &[u8],
+    numbers: &mut [f32],
+    store: &mut [f32],
+    out: &mut [u8],
+    at: usize,
+) -> Answered
+    requires { ⌜ SoundDesk desk × (5000 ≤ length (now numbers)) × (length (now store) ≡ 8192) × (at + 42000 ≤ length (now out)) ⌝ }
+    ensures { λ r. ⌜ Spoken 42000 (lineTurn (now (line .entry))) desk (now (store .entry)) (now (out .entry)) at r (now (store .exit)) (now (out .exit)) ⌝ }
+{
+    let call = read_call(line, numbers);
+    let r = answer(desk, call, &numbers[..], store, out, at);
+    let desk = r.desk;
+    let next = put_byte(out, r.next, b'\n');
+    Answered { desk, next }
+}
+
+// A line that is too long to be one.
+pub fn answer_long(desk: Desk, out: &mut [u8], at: usize) -> Answered
+    requires { ⌜ SoundDesk desk × (at + 42000 ≤ length (now out)) ⌝ }
+    ensures { λ r. ⌜ ((s : List Float) → Spoken 42000 (withNewline unread) desk s (now (out .entry)) at r s (now (out .exit))) ⌝ }
+{
+    word(desk, out, at, b"unread\n")
+}

@@ -1,0 +1,6 @@
+pub mod Back
+pub mod Patterns
+pub mod Reading
+pub mod Said
+pub mod Splitting
+pub mod Writing

@@ -1,0 +1,4 @@
+pub mod Digits
+pub mod Floats
+pub mod Put
+pub mod Words

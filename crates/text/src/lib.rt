@@ -1,0 +1,4 @@
+// Numbers and words as text: read out of a line, and written into a buffer.
+pub mod read;
+pub mod words;
+pub mod write;
