@@ -1,3 +1,4 @@
+pub mod Blocks
 pub mod Queues
 pub mod Ranges
 pub mod Turns

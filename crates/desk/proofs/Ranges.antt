@@ -20,7 +20,7 @@ use Rattle.calls.specs.declared.Timed.the-variants as Timed
 use Rattle.calls.specs.declared.Cancelling.{Cancelling}
 use Rattle.calls.specs.declared.Cancelling.the-variants as Cancelling
 use Rattle.calls.specs.Language.{withTaken, withSingle, withDouble, withCount, ending, rateIn, andMore, singles, makeOf, setOf, timedAs, timed, targetOf, cancelledAs, cancelling, lendOf, pokeOf, stateOf, Said, curveOf, blockOf, plain, Row, row, scheduling, calls, found, byFirst, callOf, Heard}
-use Rattle.desk.specs.Desk.{InRange, asked, answerOf, saidTurn}
+use Rattle.desk.specs.Desk.{InRange, asked, playing, marks, answerOf, saidTurn}
 
 -- ---- a property of what is read, if anything is
 
@@ -73,41 +73,41 @@ singles-in (suc n) ws = any (Long (suc n)) _ _ (λ x ws. one-more n x (singles n
 
 -- ---- the calls
 
--- how many numbers a curve has
-unfoldable curveLength : Call → ℕ
-curveLength Call.Nothing = 0
-curveLength Call.Unread = 0
-curveLength (Call.Make b rate) = 0
-curveLength (Call.Set v) = 0
-curveLength (Call.Step v t) = 0
-curveLength (Call.Linear v t) = 0
-curveLength (Call.Exponential v t) = 0
-curveLength (Call.Target v t c) = 0
-curveLength (Call.Curve t d n) = n
-curveLength (Call.Cancel t) = 0
-curveLength (Call.Hold t) = 0
-curveLength (Call.Block t p n o i) = 0
-curveLength (Call.Lend n) = 0
-curveLength (Call.Poke i v) = 0
-curveLength Call.State = 0
+-- how many numbers a call has: a curve's, or an input's
+unfoldable saidLength : Call → ℕ
+saidLength Call.Nothing = 0
+saidLength Call.Unread = 0
+saidLength (Call.Make b rate) = 0
+saidLength (Call.Set v) = 0
+saidLength (Call.Step v t) = 0
+saidLength (Call.Linear v t) = 0
+saidLength (Call.Exponential v t) = 0
+saidLength (Call.Target v t c) = 0
+saidLength (Call.Curve t d n) = n
+saidLength (Call.Cancel t) = 0
+saidLength (Call.Hold t) = 0
+saidLength (Call.Block t p n o i) = i
+saidLength (Call.Lend n) = 0
+saidLength (Call.Poke i v) = 0
+saidLength Call.State = 0
 
--- within the ranges, and the numbers of a curve are there
+-- within the ranges, and the numbers are there
 abbrev Fit : Said → Type 0
-Fit s = InRange (s .0) × (curveLength (s .0) ≤ length (s .1))
+Fit s = InRange (s .0) × (saidLength (s .0) ≤ length (s .1))
 
 abbrev Plain : Call → Type 0
 Plain c = Fit (c, [])
 
 in-make : (ws : List Word) → In Plain (makeOf ws)
-unfolding makeOf withSingle InRange curveLength
+unfolding makeOf withSingle InRange saidLength
 in-make ws = any Plain _ _ (λ lo ws. any Plain _ _ (λ d ws. any Plain _ _ (λ hi ws. any Plain _ _ (λ r ws. ended Plain ws _ (tt, zero-le)))))
 
 in-set : (ws : List Word) → In Plain (setOf ws)
-unfolding setOf withSingle InRange curveLength
+unfolding setOf withSingle InRange saidLength
 in-set ws = any Plain _ _ (λ v ws. ended Plain ws _ (tt, zero-le))
 
 one-timed : (k : Timed) (v t : Float) → Plain (timedAs k v t)
-unfolding timedAs InRange curveLength
+unfolding timedAs InRange saidLength
 one-timed Timed.Step v t = (tt, zero-le)
 one-timed Timed.Linear v t = (tt, zero-le)
 one-timed Timed.Exponential v t = (tt, zero-le)
@@ -117,11 +117,11 @@ unfolding timed withSingle withDouble
 in-timed kind ws = any Plain _ _ (λ v ws. any Plain _ _ (λ t ws. ended Plain ws _ (one-timed kind v t)))
 
 in-target : (ws : List Word) → In Plain (targetOf ws)
-unfolding targetOf withSingle withDouble InRange curveLength
+unfolding targetOf withSingle withDouble InRange saidLength
 in-target ws = any Plain _ _ (λ v ws. any Plain _ _ (λ t ws. any Plain _ _ (λ c ws. ended Plain ws _ (tt, zero-le))))
 
 one-cancelling : (k : Cancelling) (t : Float) → Plain (cancelledAs k t)
-unfolding cancelledAs InRange curveLength
+unfolding cancelledAs InRange saidLength
 one-cancelling Cancelling.Cancel t = (tt, zero-le)
 one-cancelling Cancelling.Hold t = (tt, zero-le)
 
@@ -130,27 +130,27 @@ unfolding cancelling withDouble
 in-cancelling kind ws = any Plain _ _ (λ t ws. ended Plain ws _ (one-cancelling kind t))
 
 in-lend : (ws : List Word) → In Plain (lendOf ws)
-unfolding lendOf withCount InRange curveLength
+unfolding lendOf withCount InRange saidLength
 in-lend ws = with-known Plain _ _ _ (count-in 8192 ws) (λ n ws h. ended Plain ws _ (h, zero-le))
 
 in-poke : (ws : List Word) → In Plain (pokeOf ws)
-unfolding pokeOf withCount withSingle InRange curveLength
+unfolding pokeOf withCount withSingle InRange saidLength
 in-poke ws = with-known Plain _ _ _ (count-in 8191 ws) (λ i ws h. any Plain _ _ (λ v ws. ended Plain ws _ (omega arith, zero-le)))
 
 in-state : (ws : List Word) → In Plain (stateOf ws)
-unfolding stateOf InRange curveLength
+unfolding stateOf InRange saidLength
 in-state ws = ended Plain ws _ (tt, zero-le)
 
 in-curve : (ws : List Word) → In Fit (curveOf ws)
-unfolding curveOf withDouble withCount InRange curveLength
+unfolding curveOf withDouble withCount InRange saidLength
 in-curve ws =
     any Fit _ _ (λ t ws. any Fit _ _ (λ d ws. with-known Fit _ _ _ (count-in 5000 ws) (λ n ws h. with-known Fit (Long n) _ _ (singles-in n ws) (λ xs ws e. ended Fit ws _ (h, omega arith)))))
 
 in-block : (ws : List Word) → In Fit (blockOf ws)
-unfolding blockOf withDouble withCount InRange curveLength
+unfolding blockOf withDouble withCount InRange saidLength
 in-block ws =
     any Fit _ _ (λ t ws. any Fit _ _ (λ p ws. any Fit _ _ (λ n ws. with-known Fit _ _ _ (count-in 4096 ws) (λ o ws ho. with-known Fit _ _ _ (count-in 4096 ws) (λ i ws hi.
-    any Fit _ _ (λ xs ws. ended Fit ws _ ((ho, hi), zero-le)))))))
+    with-known Fit (Long i) _ _ (singles-in i ws) (λ xs ws e. ended Fit ws _ ((ho, hi), omega arith)))))))
 
 -- ---- the table
 
@@ -190,7 +190,7 @@ in-first [] = tt
 in-first (w ∷ ws) = in-calls w ws
 
 in-line : (line : List ℕ) → In Fit (callOf line)
-unfolding callOf InRange curveLength In
+unfolding callOf InRange saidLength In
 in-line [] = (tt, zero-le)
 in-line (c ∷ cs) = by-test (eqb c 35)
   where
@@ -208,8 +208,11 @@ pub heard-in-range : (line : List ℕ) (call : Call) (numbers : List Float) → 
 heard-in-range line call numbers h = range-of call numbers (callOf line) (in-line line) h
 
 -- and that it does what the line says
-same-turn : (c : Call) (xs numbers : List Float) → take (length xs) numbers ≡ xs → curveLength c ≤ length xs → answerOf c numbers ≡ answerOf c xs
-unfolding answerOf curveLength
+same-front : (n : ℕ) (xs numbers : List Float) → take (length xs) numbers ≡ xs → n ≤ length xs → take n numbers ≡ take n xs
+same-front n xs numbers e h = sym (take-take n (length xs) numbers h) ∙ ap (take n) e
+
+same-turn : (c : Call) (xs numbers : List Float) → take (length xs) numbers ≡ xs → saidLength c ≤ length xs → answerOf c numbers ≡ answerOf c xs
+unfolding answerOf saidLength
 same-turn Call.Nothing xs numbers e h = refl
 same-turn Call.Unread xs numbers e h = refl
 same-turn (Call.Make b rate) xs numbers e h = refl
@@ -218,10 +221,10 @@ same-turn (Call.Step v t) xs numbers e h = refl
 same-turn (Call.Linear v t) xs numbers e h = refl
 same-turn (Call.Exponential v t) xs numbers e h = refl
 same-turn (Call.Target v t c) xs numbers e h = refl
-same-turn (Call.Curve t d n) xs numbers e h = ap (λ (ys : List Float). asked (rule.curve t d ys)) (sym (take-take n (length xs) numbers h) ∙ ap (take n) e)
+same-turn (Call.Curve t d n) xs numbers e h = ap (λ (ys : List Float). asked (rule.curve t d ys)) (same-front n xs numbers e h)
 same-turn (Call.Cancel t) xs numbers e h = refl
 same-turn (Call.Hold t) xs numbers e h = refl
-same-turn (Call.Block t p n o i) xs numbers e h = refl
+same-turn (Call.Block t p n o i) xs numbers e h = ap (λ (ys : List Float). playing t p n ys (marks o)) (same-front i xs numbers e h)
 same-turn (Call.Lend n) xs numbers e h = refl
 same-turn (Call.Poke i v) xs numbers e h = refl
 same-turn Call.State xs numbers e h = refl

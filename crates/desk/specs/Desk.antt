@@ -5,21 +5,22 @@ use mathlib.Core.List.{List, [], _∷_, _++_}
 use mathlib.Core.Option.{Option, none, some}
 use Prim.Native.Nat.{ℕ, zero, suc, _+_, _*_, _≤_, _<_}
 use lib.ListN.{length, take, drop, set, replicate}
-use lib.Ieee.{Float}
+use lib.Ieee.{Float, binary32, ofBits}
 use Rattle.rules.specs.declared.Bounds.{Bounds}
 use Rattle.rules.specs.declared.AutomationRate.{AutomationRate}
 use Rattle.rules.specs.declared.Event.{Event}
+use Rattle.rules.specs.declared.Verdict.{Verdict}
 use Rattle.rules.specs.declared.Verdict.the-variants as Verdict
 use Rattle.rules.specs.Numbers.{plusZero, storeLength}
 use Rattle.rules.specs.Queue.{lengthOf, lengthsOf}
 use Rattle.rules.specs.Refusals.{lowest, makingRows}
-use Rattle.rules.specs.Block.{Param, made, Command, called}
+use Rattle.rules.specs.Block.{Param, made, Command, called, answered}
 use Rattle.rules.specs.Block as rule
 use Rattle.text.specs.Put.{Put}
 use Rattle.calls.specs.Language.{Said, callOf}
 use Rattle.calls.specs.declared.Call.{Call}
 use Rattle.calls.specs.declared.Call.the-variants as Call
-use Rattle.answers.specs.Answers.{verdictText, stateText, eventText, listText, zerosText, areZeros}
+use Rattle.answers.specs.Answers.{verdictText, blockText, restText, stateText, eventText, listText, zerosText, areMarks, areZeros}
 use Rattle.param.specs.declared.AudioParam.{AudioParam}
 use Rattle.param.specs.Param.{paramOf, structOf, nothingMade, SoundParam}
 use Rattle.desk.specs.declared.Desk.{Desk}
@@ -76,6 +77,27 @@ lending n t = record { table = record { param = t .param; lent = n; store = t .s
 unfoldable pub poking : ℕ → Float → Table → Turn
 poking i v t = record { table = record { param = t .param; lent = t .lent; store = set (t .store) i v }; text = verdictText Verdict.Answered }
 
+-- ---- the block
+
+-- `block STEPS CURRENT ONE S1 .. SCOUNT REST`; or `refused NUMBER REST`, "REST being over the whole output"
+unfoldable pub blockLine : Verdict → ℕ → ℕ → Float → Bool → List Float → List ℕ
+blockLine Verdict.Answered count steps current one output =
+    blockText steps current one ++ (listText 32 32 (take count output) ++ restText (areMarks (drop count output)))
+blockLine (Verdict.Refused why) count steps current one output = verdictText (Verdict.Refused why) ++ restText (areMarks output)
+
+-- a block with this output lent; the numbers of the store behind those that are lent stay
+unfoldable pub playing : Float → Float → ℕ → List Float → List Float → Table → Turn
+playing time period count input output t =
+    let a = answered (t .param) (take (t .lent) (t .store)) (record { time = time; period = period; count = count; input = input; output = output }) in
+    record {
+      table = record { param = a .param; lent = t .lent; store = a .store ++ drop (t .lent) (t .store) };
+      text = blockLine (a .verdict) count (a .steps) (a .current) (a .oneValued) (a .output);
+    }
+
+-- an output of n places, each with "the mark that was put there before the call (`4b000000`)"
+unfoldable pub marks : ℕ → List Float
+marks n = replicate n (ofBits binary32 0x4b000000)
+
 -- ---- the state
 
 -- a waiting event, its numbers being the first of s: the first behind a colon, the others behind commas
@@ -98,7 +120,7 @@ stating t = unchanged (stateLine (t .param) (t .store)) t
 
 -- ---- a line
 
--- the numbers of a curve are the first of `numbers`
+-- the numbers of a curve, or of a block's input, are the first of `numbers`
 unfoldable pub answerOf : Call → List Float → Table → Turn
 answerOf Call.Nothing numbers = unchanged []
 answerOf Call.Unread numbers = unread
@@ -111,7 +133,7 @@ answerOf (Call.Target v t c) numbers = asked (rule.target v t c)
 answerOf (Call.Curve t d n) numbers = asked (rule.curve t d (take n numbers))
 answerOf (Call.Cancel t) numbers = asked (rule.cancel t)
 answerOf (Call.Hold t) numbers = asked (rule.hold t)
-answerOf (Call.Block t p n o i) numbers = unread
+answerOf (Call.Block t p n o i) numbers = playing t p n (take i numbers) (marks o)
 answerOf (Call.Lend n) numbers = lending n
 answerOf (Call.Poke i v) numbers = poking i v
 answerOf Call.State numbers = stating

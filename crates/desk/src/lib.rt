@@ -4,15 +4,19 @@ ghost use mathlib.Core.List.{List};
 ghost use Prim.Native.Nat.{ℕ, _+_, _*_, _≤_, _<_};
 ghost use lib.ListN.{length, take, drop, replicate};
 ghost use lib.Ieee.{Float};
+ghost use Rattle.rules.specs.declared.Verdict.the-variants as Verdict;
 ghost use Rattle.rules.specs.Numbers.{plusZero};
 ghost use Rattle.rules.specs.Block.{set, step, linear, exponential, target, curve, cancel, hold};
 ghost use Rattle.text.specs.Put.{Put};
 ghost use Rattle.answers.specs.Answers.{verdictText};
 ghost use Rattle.param.specs.Param.{SoundParam, paramOf};
-ghost use Rattle.desk.specs.Desk.{SoundDesk, InRange, deskOf, Spoken, unread, making, asked, lending, poking, stating, answerOf, withNewline, lineTurn, widthAt, waitingAt, queueText, unmadeDesk};
+ghost use Rattle.desk.specs.Desk.{SoundDesk, InRange, deskOf, Spoken, unread, making, asked, lending, poking, blockLine, playing, marks, stating, answerOf, withNewline, lineTurn, widthAt, waitingAt, queueText, unmadeDesk};
+use answers::is_clean;
 use answers::is_zeros;
+use answers::put_block;
 use answers::put_event;
 use answers::put_list;
+use answers::put_rest;
 use answers::put_state;
 use answers::put_verdict;
 use answers::put_zeros;
@@ -20,9 +24,11 @@ use calls::Call;
 use calls::read_call;
 use param::AudioParam;
 use param::Outcome;
+use param::Processed;
 use rules::AutomationRate;
 use rules::Bounds;
 use rules::Head;
+use rules::Verdict;
 use text::write::put_byte;
 use text::write::put_word;
 use timeline::length_of;
@@ -215,6 +221,79 @@ fn poke(
     word(desk, out, at, b"ok")
 }
 
+// What a block says: its samples, and whether the places behind them still have the mark.
+fn put_processed(r: Processed, count: usize, output: &[f32], out: &mut [u8], at: usize) -> usize
+    requires { ⌜ (r .verdict ≡ Verdict.Answered → (count ≤ 128) × (count ≤ length (now output))) × (at + 42000 ≤ length (now out)) ⌝ }
+    ensures { λ n. ⌜ Put (now (out .entry)) at (blockLine (r .verdict) count (r .steps) (r .current) (r .one) (now (output .entry))) (now (out .exit)) n ⌝ }
+    ensures { λ n. ⌜ n ≤ at + 1195 ⌝ }
+{
+    let verdict = r.verdict;
+    match verdict {
+        Verdict::Answered => {
+            let next = put_block(out, at, r.steps as u64, r.current, r.one);
+            let next = put_list(out, next, b' ', b' ', &output[..count]);
+            put_rest(out, next, is_clean(output, count))
+        }
+        Verdict::Refused(_) => {
+            let next = put_verdict(out, at, verdict);
+            put_rest(out, next, is_clean(output, 0))
+        }
+    }
+}
+
+// A block, with its output lent.
+fn play(
+    desk: Desk,
+    time: f64,
+    period: f64,
+    count: usize,
+    input: &[f32],
+    output: &mut [f32],
+    store: &mut [f32],
+    out: &mut [u8],
+    at: usize,
+) -> Answered
+    requires { ⌜ SoundDesk desk × (length (now store) ≡ 8192) × (at + 42000 ≤ length (now out)) ⌝ }
+    ensures { λ r. ⌜ Spoken 41999 (playing time period count (now (input .entry)) (now (output .entry))) desk (now (store .entry)) (now (out .entry)) at r (now (store .exit)) (now (out .exit)) ⌝ }
+{
+    let p = desk.param;
+    let lent = desk.lent;
+    let r = p.process(time, period, count, input, output, &mut store[..lent]);
+    let next = put_processed(r, count, &output[..], out, at);
+    let param = r.param;
+    let desk = Desk { param, lent };
+    Answered { desk, next }
+}
+
+// A block whose output, of `len` places, has the mark 4b000000 in each.
+fn block(
+    desk: Desk,
+    time: f64,
+    period: f64,
+    count: usize,
+    len: usize,
+    input: &[f32],
+    store: &mut [f32],
+    out: &mut [u8],
+    at: usize,
+) -> Answered
+    requires { ⌜ SoundDesk desk × (len ≤ 4096) × (length (now store) ≡ 8192) × (at + 42000 ≤ length (now out)) ⌝ }
+    ensures { λ r. ⌜ Spoken 41999 (playing time period count (now (input .entry)) (marks len)) desk (now (store .entry)) (now (out .entry)) at r (now (store .exit)) (now (out .exit)) ⌝ }
+{
+    let mut output = [8388608.0f32; 4096];
+    play(
+        desk,
+        time,
+        period,
+        count,
+        input,
+        &mut output[..len],
+        store,
+        out,
+        at,
+    )
+}
+
 // The waiting event at a place, and its numbers as they stand in the store.
 fn put_waiting(p: AudioParam, i: usize, store: &[f32], out: &mut [u8], at: usize) -> usize
     requires { ⌜ SoundParam p × (length (now store) ≡ 8192) × (at + widthAt (paramOf p .queue) i ≤ length (now out)) ⌝ }
@@ -267,7 +346,7 @@ fn state(desk: Desk, store: &[f32], out: &mut [u8], at: usize) -> Answered
     Answered { desk, next }
 }
 
-// One call, whose numbers are in front of `numbers`; `block` is not yet read.
+// One call, whose numbers are in front of `numbers`.
 fn answer(
     desk: Desk,
     call: Call,
@@ -299,7 +378,23 @@ fn answer(
         } => curve(desk, start, duration, &numbers[..len], store, out, at),
         Call::Cancel { time } => cancel(desk, time, store, out, at),
         Call::Hold { time } => hold(desk, time, store, out, at),
-        Call::Block { .. } => word(desk, out, at, b"unread"),
+        Call::Block {
+            time,
+            period,
+            count,
+            output,
+            input,
+        } => block(
+            desk,
+            time,
+            period,
+            count,
+            output,
+            &numbers[..input],
+            store,
+            out,
+            at,
+        ),
         Call::Lend { len } => lend(desk, len, out, at),
         Call::Poke { place, value } => poke(desk, place, value, store, out, at),
         Call::State => state(desk, &store[..], out, at),

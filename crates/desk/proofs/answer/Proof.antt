@@ -12,6 +12,7 @@ use Rattle.desk.proofs.answer.Statement.{statement}
 use Rattle.desk.proofs.answer.Tie as tie
 use Rattle.desk.proofs.answer.Reads as reads
 use Rattle.desk.proofs.answer.Lts as lts
+use Rattle.desk.proofs.block.Reads as block-reads
 use Rattle.desk.proofs.cancel.Reads as cancel-reads
 use Rattle.desk.proofs.curve.Reads as curve-reads
 use Rattle.desk.proofs.exponential.Reads as exponential-reads
@@ -98,31 +99,37 @@ enum-known-call-9 c = search needs
 hold-requires : tie.Need-hold-requires
 hold-requires c κs = search needs
 
-enum-told-3 : tie.Need-enum-told-3
-enum-told-3 c = search needs
-
-slice-aggregate-word-2 : tie.Need-slice-aggregate-word-2
-slice-aggregate-word-2 c = search needs
-
-word-requires-2 : tie.Need-word-requires-2
-word-requires-2 c κs = search needs
-
 enum-known-call-10 : tie.Need-enum-known-call-10
 enum-known-call-10 c = search needs
 
-lend-requires : tie.Need-lend-requires
+slice-aggregate-block : tie.Need-slice-aggregate-block
 unfolding InRange
-lend-requires c κs = (c .before .before .before .before .before .before .before .pre .0, ranged (c .before .before .call10 .given .1) (c .before .before .before .before .before .before .before .pre .1), search needs)
+slice-aggregate-block c =
+    let h = ranged (c .before .before .call10 .given .1) (c .before .before .before .before .before .before .before .pre .1) in
+    sym (length-take-le (c .before .before .call10 .given .0 .1 .1 .1 .1 .0) (c .before .before .before .before .before .before .before .args .numbers .now) (omega (arith, h .1, c .before .before .before .before .before .before .before .pre .2)))
+
+block-requires : tie.Need-block-requires
+unfolding InRange
+block-requires c κs =
+    let a = c .before .before .before .before .before .before .before .before .before .pre in
+    (a .0, ranged (c .before .before .before .before .call10 .given .1) (a .1) .0, a .3, a .4)
 
 enum-known-call-11 : tie.Need-enum-known-call-11
 enum-known-call-11 c = search needs
 
+lend-requires : tie.Need-lend-requires
+unfolding InRange
+lend-requires c κs = (c .before .before .before .before .before .before .before .pre .0, ranged (c .before .before .call11 .given .1) (c .before .before .before .before .before .before .before .pre .1), search needs)
+
+enum-known-call-12 : tie.Need-enum-known-call-12
+enum-known-call-12 c = search needs
+
 poke-requires : tie.Need-poke-requires
 unfolding InRange
-poke-requires c κs = (c .before .before .before .before .before .before .before .before .pre .0, subst (λ (k : ℕ). c .before .before .before .call11 .given .0 .0 < k) (sym (c .before .before .before .before .before .before .before .before .pre .3)) (ranged (c .before .before .before .call11 .given .1) (c .before .before .before .before .before .before .before .before .pre .1)), search needs)
+poke-requires c κs = (c .before .before .before .before .before .before .before .before .pre .0, subst (λ (k : ℕ). c .before .before .before .call12 .given .0 .0 < k) (sym (c .before .before .before .before .before .before .before .before .pre .3)) (ranged (c .before .before .before .call12 .given .1) (c .before .before .before .before .before .before .before .before .pre .1)), search needs)
 
-enum-told-4 : tie.Need-enum-told-4
-enum-told-4 c = search needs
+enum-told-3 : tie.Need-enum-told-3
+enum-told-3 c = search needs
 
 state-requires : tie.Need-state-requires
 state-requires c κs = search needs
@@ -221,39 +228,39 @@ returns-11 c = by-call (c .before .before .before .before .before .before .befor
 same-length-15 : tie.Need-same-length-15
 same-length-15 c = search needs
 
-returns-12 : tie.Need-returns-12
-unfolding answerOf unread
-returns-12 c =
-    let a = c .before .before .before .before .before .before .before .before .before .before in
-    by-call (a .args .numbers .now) (c .before .before .before .before .before .enum-told3 .given .1)
-    (said _ _ _ (a .args .desk .lent) _ _ (a .pre .0) (c .before .before .word2 .ensures .0) (a .pre .0 .lent) refl (c .before .before .word2 .ensures .1) (omega arith))
-
 same-length-16 : tie.Need-same-length-16
 same-length-16 c = search needs
 
-returns-13 : tie.Need-returns-13
+returns-12 : tie.Need-returns-12
 unfolding answerOf
-returns-13 c = by-call (c .before .before .before .before .before .before .before .before .before .before .args .numbers .now) (c .before .before .before .before .before .call10 .given .1) (c .before .before .lend .ensures (c .before .before .before .before .before .before .before .before .before .before .args .store .now))
+returns-12 c = by-call (c .before .before .before .before .before .before .before .before .before .before .before .before .before .before .args .numbers .now) (c .before .before .before .before .before .before .before .before .before .call10 .given .1) (c .before .before .before .before .block .ensures)
 
 same-length-17 : tie.Need-same-length-17
 same-length-17 c = search needs
 
+returns-13 : tie.Need-returns-13
+unfolding answerOf
+returns-13 c = by-call (c .before .before .before .before .before .before .before .before .before .before .args .numbers .now) (c .before .before .before .before .before .call11 .given .1) (c .before .before .lend .ensures (c .before .before .before .before .before .before .before .before .before .before .args .store .now))
+
 same-length-18 : tie.Need-same-length-18
 same-length-18 c = search needs
-
-returns-14 : tie.Need-returns-14
-unfolding answerOf
-returns-14 c = by-call (c .before .before .before .before .before .before .before .before .before .before .before .before .before .args .numbers .now) (c .before .before .before .before .before .before .before .before .call11 .given .1) (c .before .before .before .before .poke .ensures)
 
 same-length-19 : tie.Need-same-length-19
 same-length-19 c = search needs
 
+returns-14 : tie.Need-returns-14
+unfolding answerOf
+returns-14 c = by-call (c .before .before .before .before .before .before .before .before .before .before .before .before .before .args .numbers .now) (c .before .before .before .before .before .before .before .before .call12 .given .1) (c .before .before .before .before .poke .ensures)
+
 same-length-20 : tie.Need-same-length-20
 same-length-20 c = search needs
 
+same-length-21 : tie.Need-same-length-21
+same-length-21 c = search needs
+
 returns-15 : tie.Need-returns-15
 unfolding answerOf
-returns-15 c = by-call (c .before .before .before .before .before .before .before .before .before .before .args .numbers .now) (c .before .before .before .before .before .enum-told4 .given .1) (c .before .before .state .ensures)
+returns-15 c = by-call (c .before .before .before .before .before .before .before .before .before .before .args .numbers .now) (c .before .before .before .before .before .enum-told3 .given .1) (c .before .before .state .ensures)
 
 pub answer-spec : {M : Type 1} → statement M
 answer-spec =
@@ -282,14 +289,14 @@ answer-spec =
     cancel-requires
     enum-known-call-9
     hold-requires
-    enum-told-3
-    slice-aggregate-word-2
-    word-requires-2
     enum-known-call-10
-    lend-requires
+    slice-aggregate-block
+    block-requires
     enum-known-call-11
+    lend-requires
+    enum-known-call-12
     poke-requires
-    enum-told-4
+    enum-told-3
     state-requires
     returns
     same-length
@@ -317,12 +324,13 @@ answer-spec =
     same-length-14
     returns-11
     same-length-15
-    returns-12
     same-length-16
-    returns-13
+    returns-12
     same-length-17
+    returns-13
     same-length-18
-    returns-14
     same-length-19
+    returns-14
     same-length-20
+    same-length-21
     returns-15)

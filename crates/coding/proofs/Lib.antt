@@ -1,0 +1,4 @@
+pub mod Patterns
+pub mod Words
+pub mod Written
+pub mod Read

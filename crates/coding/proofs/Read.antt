@@ -1,0 +1,96 @@
+-- A state read as a parameter: it is accepted where what it has is sound, and gives back what was written. Assumes nothing.
+use mathlib.Core.Path.{_≡_, refl, sym, ap, _∙_}
+use mathlib.Core.Bool.{Bool, true, false, cond, _&&_}
+use mathlib.Core.List.{List}
+use Prim.Native.Nat.{ℕ, _≤_}
+use native.Mathlib.Omega.{arith}
+use lib.Dec.{leb, eqb}
+use lib.ListN.{length, getD}
+use lib.Ieee.{Float}
+use borrow.Author.Tests.{leb-true, le-leb, eq-eqb, ne-eqb}
+use Rattle.rules.specs.declared.Bounds.{Bounds}
+use Rattle.rules.specs.declared.AutomationRate.{AutomationRate}
+use Rattle.rules.specs.declared.AutomationRate.the-variants as Rate
+use Rattle.rules.specs.declared.MaybeTime.{MaybeTime}
+use Rattle.rules.specs.declared.LastEvent.{LastEvent}
+use Rattle.rules.specs.declared.Event.{Event}
+use Rattle.rules.specs.declared.Verdict.the-variants as Verdict
+use Rattle.rules.specs.Numbers.{mostEvents}
+use Rattle.rules.specs.Refusals.{lowest, areBounds, makingRows}
+use Rattle.rules.specs.Block.{Param, made, madeAs, withQueue}
+use Rattle.laws.specs.Sound.{Sound, isSound}
+use Rattle.laws.proofs.Tests.{both, and}
+use Rattle.laws.proofs.Tested.{tested, passes-test}
+use Rattle.timeline.specs.declared.AudioParamEventTimeline.{AudioParamEventTimeline}
+use Rattle.param.specs.declared.AudioParam.{AudioParam}
+use Rattle.param.specs.declared.Outcome.{Outcome}
+use Rattle.param.specs.Param.{paramOf, structOf, SoundParam, Makes, unmade, partsOf, isWhole, Restores}
+use Rattle.param.proofs.Calls.{whole, counted}
+use Rattle.coding.specs.Coding.{stateLength, paramIn, eventsIn, isState, stateOf, Queues, Decodes, Encodes}
+
+-- ---- refused
+
+same : {a b : Outcome} → a .verdict ≡ b .verdict → a .param ≡ b .param → a ≡ b
+same v p = rw (v, p)
+
+pub nothing-made : (b : Bounds) {r : Outcome} → areBounds b ≡ false → Makes b Rate.A r → r ≡ unmade
+unfolding made madeAs makingRows lowest
+nothing-made b h m = same (m .verdict ∙ rw h) (m .param ∙ rw h)
+
+module _ (s : List ℕ) where
+  pub decodes-none : {r : Outcome} → (length s ≡ stateLength → ⊥) → r ≡ unmade → SoundParam (r .param) → Decodes s r
+  unfolding isState
+  decodes-none h e f = record { gives = rw (ne-eqb (length s) stateLength h) e; sound = f }
+
+  -- ---- accepted where the parts are
+
+  module _ (q : AudioParamEventTimeline) (long : length s ≡ stateLength) (h : Queues s q) where
+    abbrev parts : AudioParam
+    parts =
+        partsOf (paramIn s .bounds) (paramIn s .rate) (paramIn s .intrinsic) q (paramIn s .lastBlock) (paramIn s .last)
+
+    read : leb (q .len) mostEvents ≡ true → paramOf parts ≡ paramIn s
+    read t = ap (λ (es : List Event). withQueue es (paramIn s)) (h .events (leb-true (q .len) mostEvents t))
+
+    accepted : isWhole parts ≡ isState s
+    unfolding isWhole isState
+    accepted =
+        go (leb (q .len) mostEvents) refl
+        ∙ rw (eq-eqb (length s) stateLength long) (ap (λ (n : ℕ). leb n mostEvents && isSound (paramIn s)) (h .many))
+      where
+        go : (b : Bool) → leb (q .len) mostEvents ≡ b → (b && isSound (paramOf parts)) ≡ (b && isSound (paramIn s))
+        go true e = ap isSound (read e)
+        go false e = refl
+
+    pub decodes : {r : Outcome} → Restores parts r → Decodes s r
+    decodes {r} a = record { gives = go (isState s) refl; sound = a .sound }
+      where
+        go : (b : Bool) → isState s ≡ b → r ≡ cond b (record { verdict = Verdict.Answered; param = structOf (paramIn s) }) unmade
+        go false e = a .gives ∙ rw (accepted, e)
+        go true e =
+            let f : leb (q .len) mostEvents ≡ true = unfold isWhole in both (leb (q .len) mostEvents) (isSound (paramOf parts)) (accepted ∙ e) .0 in
+            a .gives ∙ ap (λ (b : Bool). cond b (record { verdict = Verdict.Answered; param = structOf (paramOf parts) }) unmade) (accepted ∙ e)
+            ∙ ap (λ (x : Param). record { verdict = Verdict.Answered; param = structOf x }) (read f)
+
+-- ---- "decoding after encoding is the identity, every accepted state is sound"
+
+pub accepted-sound : (s : List ℕ) → isState s ≡ true → Sound (paramIn s)
+unfolding isState
+accepted-sound s h = tested (paramIn s) (both (leb (getD s 10 0) mostEvents) _ (both (eqb (length s) stateLength) _ h .1) .1)
+
+count-in : (p : Param) (s : List ℕ) → getD (stateOf p s) 10 0 ≡ length (p .queue)
+unfolding stateOf
+count-in p s = refl
+
+pub encoded-accepted : {p : AudioParam} {s after : List ℕ} → SoundParam p → length after ≡ stateLength → Encodes p s after → isState after ≡ true
+unfolding isState
+encoded-accepted {p} {s} {after} f long e =
+    let few : length (paramOf p .queue) ≤ mostEvents = f .sound .waiting .few in
+    and (eq-eqb (length after) stateLength long) (and (le-leb (getD after 10 0) mostEvents (omega (arith, ap (λ (l : List ℕ). getD l 10 0) (e .is) ∙ count-in (paramOf p) s))) (rw (e .back) (passes-test (paramOf p) (f .sound))))
+
+pub decoded-encoded : {p : AudioParam} {s after : List ℕ} {r : Outcome} → SoundParam p → length after ≡ stateLength → Encodes p s after → Decodes after r
+    → r ≡ record { verdict = Verdict.Answered; param = p }
+decoded-encoded {p} {s} {after} f long e d =
+    d .gives ∙ ap (λ (b : Bool). cond b (record { verdict = Verdict.Answered; param = structOf (paramIn after) }) unmade) (encoded-accepted f long e)
+    ∙ ap (λ (x : Param). record { verdict = Verdict.Answered; param = structOf x }) (e .back)
+    ∙ ap (λ (x : AudioParam). record { verdict = Verdict.Answered; param = x }) (sym (whole p f))

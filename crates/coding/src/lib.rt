@@ -1,0 +1,170 @@
+// The state that a caller keeps, an array of plain numbers: a parameter read from it, and written to it.
+ghost use mathlib.Core.Path.{_≡_};
+ghost use lib.ListN.{length};
+ghost use lib.Seq.{sets};
+ghost use Rattle.param.specs.Param.{paramOf, SoundParam, unmade};
+ghost use Rattle.coding.specs.Coding.{stateLength, lastIn, rateIn, rateWord, PutsLast, PutsHead, Queues, Decodes, Encodes};
+use bits::double_bits;
+use bits::double_in;
+use bits::single_bits;
+use bits::single_in;
+use event::event_at;
+use event::flag_of;
+use event::put_event;
+use event::time_bits;
+use event::time_in;
+use param::AudioParam;
+use param::Outcome;
+use rules::AutomationRate;
+use rules::Bounds;
+use rules::Finished;
+use rules::Head;
+use rules::LastEvent;
+use timeline::AudioParamEvent;
+use timeline::AudioParamEventTimeline;
+
+mod bits; // bits.rt: floats as numbers
+mod event; // event.rt: one waiting event
+
+// How many numbers a state has: the parameter's own, then those of 64 events.
+pub const LENGTH: usize = 395;
+
+const HEAD: usize = 11;
+
+const EVENT: usize = 6;
+
+fn rate_in(word: u64) -> AutomationRate
+    ensures { λ r. ⌜ r ≡ rateIn word ⌝ }
+{
+    if word == 0 {
+        AutomationRate::A
+    } else {
+        AutomationRate::K
+    }
+}
+
+fn last_in(flag: u64, time: u64, value: u64) -> LastEvent
+    ensures { λ r. ⌜ r ≡ lastIn flag time value ⌝ }
+{
+    if flag == 0 {
+        LastEvent::None
+    } else {
+        LastEvent::Done(Finished {
+            time: double_in(time),
+            value: single_in(value),
+        })
+    }
+}
+
+// The waiting events, if they are few enough.
+fn queue_in(state: &[u64]) -> AudioParamEventTimeline
+    requires { ⌜ length (now state) ≡ stateLength ⌝ }
+    ensures { λ r. ⌜ Queues (now (state .entry)) r ⌝ }
+{
+    let empty = AudioParamEventTimeline::new();
+    let mut slots = empty.slots;
+    let len = state[10] as usize;
+    if len <= AudioParam::EVENTS {
+        let mut i = 0usize;
+        while i < len {
+            let event = event_at(state, HEAD + EVENT * i);
+            slots[i] = AudioParamEvent { event };
+            i += 1;
+        }
+    }
+    AudioParamEventTimeline { slots, len }
+}
+
+// What no state gives.
+fn none() -> Outcome
+    ensures { λ r. ⌜ (r ≡ unmade) × SoundParam (r .param) ⌝ }
+{
+    let bounds = Bounds {
+        min: 1.0,
+        default: 0.0,
+        max: 0.0,
+    };
+    AudioParam::new(bounds, AutomationRate::A)
+}
+
+// The parameter of a state; refused as bad bounds are where it has none.
+pub fn decode(state: &[u64]) -> Outcome
+    ensures { λ r. ⌜ Decodes (now (state .entry)) r ⌝ }
+{
+    if state.len() != LENGTH {
+        return none();
+    }
+    let bounds = Bounds {
+        min: single_in(state[0]),
+        default: single_in(state[1]),
+        max: single_in(state[2]),
+    };
+    let rate = rate_in(state[3]);
+    let intrinsic = single_in(state[4]);
+    let block = time_in(state[5], state[6]);
+    let last = last_in(state[7], state[8], state[9]);
+    let timeline = queue_in(state);
+    AudioParam::from_parts(bounds, rate, intrinsic, timeline, block, last)
+}
+
+fn rate_word(rate: AutomationRate) -> u64
+    ensures { λ r. ⌜ r ≡ rateWord rate ⌝ }
+{
+    match rate {
+        AutomationRate::A => 0,
+        AutomationRate::K => 1,
+    }
+}
+
+fn put_last(state: &mut [u64], last: LastEvent)
+    requires { ⌜ length (now state) ≡ stateLength ⌝ }
+    ensures { λ _. ⌜ PutsLast (now (state .entry)) last (now (state .exit)) ⌝ }
+{
+    match last {
+        LastEvent::None => {
+            state[7] = 0;
+            state[8] = 0;
+            state[9] = 0;
+        }
+        LastEvent::Done(l) => {
+            state[7] = 1;
+            state[8] = double_bits(l.time);
+            state[9] = single_bits(l.value);
+        }
+    }
+}
+
+// All but the events.
+fn put_head(state: &mut [u64], p: AudioParam)
+    requires { ⌜ SoundParam p × (length (now state) ≡ stateLength) ⌝ }
+    ensures { λ _. ⌜ PutsHead (now (state .entry)) (paramOf p) (now (state .exit)) ⌝ }
+{
+    let bounds = p.bounds();
+    let block = p.last_block_time();
+    state[0] = single_bits(bounds.min);
+    state[1] = single_bits(bounds.default);
+    state[2] = single_bits(bounds.max);
+    state[3] = rate_word(p.automation_rate());
+    state[4] = single_bits(p.intrinsic_value());
+    state[5] = flag_of(block);
+    state[6] = time_bits(block);
+    put_last(state, p.last_event());
+    state[10] = p.len() as u64;
+}
+
+// Writes a parameter over a state: the numbers behind its events stay.
+pub fn encode(p: AudioParam, state: &mut [u64])
+    requires { ⌜ SoundParam p × (length (now state) ≡ stateLength) ⌝ }
+    ensures { λ _. ⌜ Encodes p (now (state .entry)) (now (state .exit)) ⌝ }
+{
+    put_head(state, p);
+    let n = p.len();
+    let mut i = 0usize;
+    while i < n {
+        let Head::Event(e) = p.event_at(i) else {
+            return;
+        };
+        put_event(state, HEAD + EVENT * i, e);
+        i += 1;
+    }
+}

@@ -1,0 +1,170 @@
+-- What a state gives, the call on that, and what is written: the exported call, whatever the call is. Assumes nothing.
+use mathlib.Core.Path.{_≡_, refl, sym, ap, _∙_}
+use mathlib.Core.Bool.{Bool, true, false, cond}
+use mathlib.Core.List.{List}
+use Prim.Native.Nat.{ℕ, _≤_}
+use native.Mathlib.Omega.{arith}
+use lib.Dec.{eqb}
+use lib.ListN.{length, length-append, length-drop}
+use lib.Ieee.{Float}
+use borrow.Author.Tests.{eqb-true, eq-eqb, ne-eqb}
+use Rattle.rules.specs.declared.AutomationRate.{AutomationRate}
+use Rattle.rules.specs.declared.Bounds.{Bounds}
+use Rattle.rules.specs.declared.Refusal.{Refusal}
+use Rattle.rules.specs.declared.Verdict.{Verdict}
+use Rattle.rules.specs.declared.Verdict.the-variants as Verdict
+use Rattle.rules.specs.Numbers.{mostEvents}
+use Rattle.rules.specs.Refusals.{lowest, makingRows}
+use Rattle.rules.specs.Block.{Param, made, Command, Called, called, Call, Answer, answered}
+use Rattle.laws.proofs.Tests.{clash, both}
+use Rattle.param.specs.declared.AudioParam.{AudioParam}
+use Rattle.param.specs.declared.Outcome.{Outcome}
+use Rattle.param.specs.declared.Processed.{Processed}
+use Rattle.param.specs.Param.{paramOf, structOf, unmade, SoundParam, Makes, Answers}
+use Rattle.param.specs.Processed.{Processes}
+use Rattle.param.proofs.Calls.{struct-back}
+use Rattle.param.proofs.Settled.{refused-same}
+use Rattle.param.proofs.Blocks.{refused-keeps}
+use Rattle.coding.specs.Coding.{stateLength, paramIn, isState, wordsFor, stateOf, Decodes, Encodes}
+use Rattle.coding.proofs.Words.{words-length}
+use Rattle.coding.proofs.Read.{encoded-accepted}
+use Rattle.crackledray.specs.Exported.{badState, numberAs, stateAfter, Told, told, Played, played, Begins, Tells, Plays, Closes}
+
+-- ---- the state of a parameter
+
+accepted-long : (s : List ℕ) → isState s ≡ true → length s ≡ stateLength
+unfolding isState
+accepted-long s h = eqb-true (length s) stateLength (both (eqb (length s) stateLength) _ h .0)
+
+written-long : (p : Param) (s : List ℕ) → length (p .queue) ≤ mostEvents → length s ≡ stateLength → length (stateOf p s) ≡ stateLength
+unfolding stateOf
+written-long p s few long = simp (length-append, length-drop) (omega (arith, words-length (p .queue)))
+
+module _ {p : AudioParam} {s after : List ℕ} (f : SoundParam p) (long : length s ≡ stateLength) (e : Encodes p s after) where
+  pub reads-back : (isState after ≡ true) × (paramIn after ≡ paramOf p)
+  reads-back = (encoded-accepted f (ap length (e .is) ∙ written-long (paramOf p) s (f .sound .waiting .few) long) e, e .back)
+
+  pub closes-answered : {v : Verdict} → v ≡ Verdict.Answered → Closes v (paramOf p) s 0 after
+  unfolding numberAs stateAfter
+  closes-answered h = record { number = rw h; state = rw h (e .is); reads = λ t. reads-back }
+
+pub closes-refused : {v : Verdict} {why : Refusal} {n : ℕ} (p : Param) (s : List ℕ) → v ≡ Verdict.Refused why → n ≡ numberAs v → Closes v p s n s
+unfolding stateAfter
+closes-refused p s h e =
+    record { number = e; state = rw h; reads = λ t. let z : _≡_ {A = ℕ} 0 1 = cc in absurd (omega arith) }
+
+-- ---- the constructor
+
+pub begins-bad : (s : List ℕ) (b : Bounds) (rate : AutomationRate) → (length s ≡ stateLength → ⊥) → Begins s b rate badState s
+begins-bad s b rate h =
+    let e : eqb (length s) stateLength ≡ false = ne-eqb (length s) stateLength h in
+    record { number = rw e; state = rw e; reads = λ t. absurd (h t) }
+
+pub begins : {s after : List ℕ} {b : Bounds} {rate : AutomationRate} {m : Outcome} {n : ℕ} → length s ≡ stateLength → Makes b rate m → Encodes (m .param) s after
+    → n ≡ numberAs (m .verdict) → Begins s b rate n after
+begins {s} {after} {b} {rate} {m} long made-it e h =
+    let t : eqb (length s) stateLength ≡ true = eq-eqb (length s) stateLength long in
+    let is : paramOf (m .param) ≡ made b rate = ap paramOf (made-it .param) ∙ struct-back (made b rate) in
+    let back = reads-back (made-it .sound) long e in
+    record {
+      number = rw t (h ∙ ap numberAs (made-it .verdict));
+      state = rw t (e .is ∙ ap (λ (p : Param). stateOf p s) is);
+      reads = λ _. (back .0, back .1 ∙ is);
+    }
+
+-- ---- a call
+
+module _ {s : List ℕ} {d : Outcome} (x : Decodes s d) where
+  pub opened : d .verdict ≡ Verdict.Answered → (isState s ≡ true) × (paramOf (d .param) ≡ paramIn s)
+  opened h = go (isState s) refl
+    where
+      go : (b : Bool) → isState s ≡ b → (b ≡ true) × (paramOf (d .param) ≡ paramIn s)
+      go true e =
+          let is : d ≡ record { verdict = Verdict.Answered; param = structOf (paramIn s) } = x .gives ∙ rw e in
+          (refl, ap (λ (o : Outcome). paramOf (o .param)) is ∙ struct-back (paramIn s))
+      go false e = let is : d ≡ unmade = x .gives ∙ rw e in let z : _≡_ {A = ℕ} 0 1 = cc in absurd (omega arith)
+
+  pub opened-long : d .verdict ≡ Verdict.Answered → length s ≡ stateLength
+  opened-long h = accepted-long s (opened h .0)
+
+  pub shut : {why : Refusal} → d .verdict ≡ Verdict.Refused why → isState s ≡ false
+  shut {why} h = go (isState s) refl
+    where
+      go : (b : Bool) → isState s ≡ b → b ≡ false
+      go false e = refl
+      go true e =
+          let is : d ≡ record { verdict = Verdict.Answered; param = structOf (paramIn s) } = x .gives ∙ rw e in
+          let z : _≡_ {A = ℕ} 0 1 = cc in
+          absurd (omega arith)
+
+  pub tells-bad : {store : List Float} {c : Command} {why : Refusal} → d .verdict ≡ Verdict.Refused why → Tells s store c badState s store
+  unfolding told
+  tells-bad h = record { says = rw (shut h); reads = λ t. clash t (shut h) }
+
+  module _ {store left : List Float} {c : Command} {r : Outcome} {n : ℕ} {after : List ℕ} (h : d .verdict ≡ Verdict.Answered) (a : Answers (d .param) store c r left)
+      (k : Closes (r .verdict) (paramOf (r .param)) s n after) where
+    abbrev answer : Called
+    answer = called (paramIn s) store c
+
+    verdict : r .verdict ≡ answer .verdict
+    verdict = a .verdict ∙ ap (λ (p : Param). called p store c .verdict) (opened h .1)
+
+    param : paramOf (r .param) ≡ answer .param
+    param = ap paramOf (a .param) ∙ struct-back _ ∙ ap (λ (p : Param). called p store c .param) (opened h .1)
+
+    left-is : left ≡ answer .store
+    left-is = a .left ∙ ap (λ (p : Param). called p store c .store) (opened h .1)
+
+    state-reads : (isState after ≡ true) × (paramIn after ≡ answer .param)
+    state-reads = go (r .verdict) refl
+      where
+        go : (v : Verdict) → r .verdict ≡ v → (isState after ≡ true) × (paramIn after ≡ answer .param)
+        go Verdict.Answered e = let b = k .reads e in (b .0, b .1 ∙ param)
+        go (Verdict.Refused why) e =
+            let same : after ≡ s = k .state ∙ unfold stateAfter in rw e in
+            let kept = refused-same (x .sound) a e .0 in
+            (rw same (opened h .0), ap paramIn same ∙ sym (opened h .1) ∙ ap paramOf (sym kept) ∙ param)
+
+    pub tells : Tells s store c n after left
+    unfolding told
+    tells = record { says = rw (opened h .0) (rw (k .number, k .state, verdict, param, left-is)); reads = λ t. state-reads }
+
+  -- ---- a block
+
+  pub plays-bad : {store : List Float} {c : Call} {why : Refusal} (before : Played) → d .verdict ≡ Verdict.Refused why → before .state ≡ s → Plays s store c before before
+  unfolding played
+  plays-bad before h e = record { says = rw (shut h); reads = λ t. clash t (shut h) }
+
+  module _ {store left output : List Float} {c : Call} {r : Processed} {n : ℕ} {after : List ℕ} (before : Played) (h : d .verdict ≡ Verdict.Answered)
+      (a : Processes (d .param) store c r output left) (k : Closes (r .verdict) (paramOf (r .param)) s n after) where
+    abbrev block : Answer
+    block = answered (paramIn s) store c
+
+    by : {A : Type 0} (f : Answer → A) → f (answered (paramOf (d .param)) store c) ≡ f block
+    by f = ap (λ (p : Param). f (answered p store c)) (opened h .1)
+
+    block-verdict : r .verdict ≡ block .verdict
+    block-verdict = a .verdict ∙ by (λ (y : Answer). y .verdict)
+
+    block-param : paramOf (r .param) ≡ block .param
+    block-param = ap paramOf (a .param) ∙ struct-back _ ∙ by (λ (y : Answer). y .param)
+
+    block-reads : (isState after ≡ true) × (paramIn after ≡ block .param)
+    block-reads = go (r .verdict) refl
+      where
+        go : (v : Verdict) → r .verdict ≡ v → (isState after ≡ true) × (paramIn after ≡ block .param)
+        go Verdict.Answered e = let b = k .reads e in (b .0, b .1 ∙ block-param)
+        go (Verdict.Refused why) e =
+            let same : after ≡ s = k .state ∙ unfold stateAfter in rw e in
+            let kept = ap (λ (y : Processed). y .param) (refused-keeps a (x .sound) e .0) in
+            (rw same (opened h .0), ap paramIn same ∙ sym (opened h .1) ∙ ap paramOf (sym kept) ∙ block-param)
+
+    pub plays : Plays s store c before (record { number = n; state = after; store = left; output = output; steps = r .steps; current = r .current; one = r .one })
+    unfolding played
+    plays =
+        record {
+          says =
+              rw (opened h .0)
+              (rw (k .number, k .state, block-verdict, block-param, a .left ∙ by (λ (y : Answer). y .store), a .written ∙ by (λ (y : Answer). y .output), a .steps ∙ by (λ (y : Answer). y .steps), a .current ∙ by (λ (y : Answer). y .current), a .one ∙ by (λ (y : Answer). y .oneValued)));
+          reads = λ t. block-reads;
+        }

@@ -1,0 +1,238 @@
+// The parameter for programs in Rust or C: each call over a state, an array of plain numbers that the caller keeps, and the curve store.
+// A call gives 0, document 01's number of its refusal, or 100 where the state is none of a parameter; then nothing changes.
+ghost use mathlib.Core.Path.{_≡_};
+ghost use mathlib.Core.List.{[]};
+ghost use lib.ListN.{length};
+ghost use Rattle.rules.specs.Block.{set, step, linear, exponential, target, curve, cancel, hold};
+ghost use Rattle.block.specs.Asked.{asked};
+ghost use Rattle.param.specs.Param.{paramOf, SoundParam};
+ghost use Rattle.coding.specs.Coding.{stateLength};
+ghost use Rattle.crackledray.specs.Exported.{badState, rateOf, numberAs, Begins, Tells, Plays, Closes};
+use param::AudioParam;
+use rules::AutomationRate;
+use rules::Bounds;
+use rules::Verdict;
+
+const BAD_STATE: u32 = 100;
+
+fn rate_of(k_rate: bool) -> AutomationRate
+    ensures { λ r. ⌜ r ≡ rateOf «k_rate» ⌝ }
+{
+    if k_rate {
+        AutomationRate::K
+    } else {
+        AutomationRate::A
+    }
+}
+
+// 0, or document 01's number.
+fn number_of(verdict: Verdict) -> u32
+    ensures { λ r. ⌜ r ≡ numberAs verdict ⌝ }
+{
+    match verdict {
+        Verdict::Answered => 0,
+        Verdict::Refused(why) => refusals::number_of(why) as u32,
+    }
+}
+
+// What a call answers: its number, and its parameter written where it is answered.
+fn close(verdict: Verdict, p: AudioParam, state: &mut [u64]) -> u32
+    requires { ⌜ SoundParam p × (length (now state) ≡ stateLength) ⌝ }
+    ensures { λ r. ⌜ Closes verdict (paramOf p) (now (state .entry)) r (now (state .exit)) ⌝ }
+{
+    match verdict {
+        Verdict::Answered => {
+            coding::encode(p, state);
+            0
+        }
+        Verdict::Refused(_) => number_of(verdict),
+    }
+}
+
+#[no_mangle]
+pub extern "C" fn crackledray_make(
+    state: &mut [u64],
+    min: f32,
+    default: f32,
+    max: f32,
+    k_rate: bool,
+) -> u32
+    ensures { λ r. ⌜ Begins (now (state .entry)) (record { min = min; default = default; max = max }) (rateOf «k_rate») r (now (state .exit)) ⌝ }
+{
+    if state.len() != coding::LENGTH {
+        return BAD_STATE;
+    }
+    let bounds = Bounds { min, default, max };
+    let r = AudioParam::new(bounds, rate_of(k_rate));
+    let p = r.param;
+    coding::encode(p, state);
+    let verdict = r.verdict;
+    number_of(verdict)
+}
+
+#[no_mangle]
+pub extern "C" fn crackledray_set(state: &mut [u64], value: f32) -> u32
+    ensures { λ r. ⌜ Tells (now (state .entry)) [] (set value) r (now (state .exit)) [] ⌝ }
+{
+    let d = coding::decode(&state[..]);
+    let verdict = d.verdict;
+    let Verdict::Answered = verdict else {
+        return BAD_STATE;
+    };
+    let p = d.param;
+    let r = p.set_value(value);
+    let verdict = r.verdict;
+    let p = r.param;
+    close(verdict, p, state)
+}
+
+#[no_mangle]
+pub extern "C" fn crackledray_step(state: &mut [u64], value: f32, time: f64) -> u32
+    ensures { λ r. ⌜ Tells (now (state .entry)) [] (step value «time») r (now (state .exit)) [] ⌝ }
+{
+    let d = coding::decode(&state[..]);
+    let verdict = d.verdict;
+    let Verdict::Answered = verdict else {
+        return BAD_STATE;
+    };
+    let p = d.param;
+    let r = p.set_value_at_time(value, time);
+    let verdict = r.verdict;
+    let p = r.param;
+    close(verdict, p, state)
+}
+
+#[no_mangle]
+pub extern "C" fn crackledray_linear(state: &mut [u64], value: f32, time: f64) -> u32
+    ensures { λ r. ⌜ Tells (now (state .entry)) [] (linear value «time») r (now (state .exit)) [] ⌝ }
+{
+    let d = coding::decode(&state[..]);
+    let verdict = d.verdict;
+    let Verdict::Answered = verdict else {
+        return BAD_STATE;
+    };
+    let p = d.param;
+    let r = p.linear_ramp_to_value_at_time(value, time);
+    let verdict = r.verdict;
+    let p = r.param;
+    close(verdict, p, state)
+}
+
+#[no_mangle]
+pub extern "C" fn crackledray_exponential(state: &mut [u64], value: f32, time: f64) -> u32
+    ensures { λ r. ⌜ Tells (now (state .entry)) [] (exponential value «time») r (now (state .exit)) [] ⌝ }
+{
+    let d = coding::decode(&state[..]);
+    let verdict = d.verdict;
+    let Verdict::Answered = verdict else {
+        return BAD_STATE;
+    };
+    let p = d.param;
+    let r = p.exponential_ramp_to_value_at_time(value, time);
+    let verdict = r.verdict;
+    let p = r.param;
+    close(verdict, p, state)
+}
+
+#[no_mangle]
+pub extern "C" fn crackledray_target(state: &mut [u64], value: f32, time: f64, constant: f64) -> u32
+    ensures { λ r. ⌜ Tells (now (state .entry)) [] (target value «time» constant) r (now (state .exit)) [] ⌝ }
+{
+    let d = coding::decode(&state[..]);
+    let verdict = d.verdict;
+    let Verdict::Answered = verdict else {
+        return BAD_STATE;
+    };
+    let p = d.param;
+    let r = p.set_target_at_time(value, time, constant);
+    let verdict = r.verdict;
+    let p = r.param;
+    close(verdict, p, state)
+}
+
+#[no_mangle]
+pub extern "C" fn crackledray_curve(
+    state: &mut [u64],
+    values: &[f32],
+    time: f64,
+    duration: f64,
+    store: &mut [f32],
+) -> u32
+    ensures { λ r. ⌜ Tells (now (state .entry)) (now (store .entry)) (curve «time» duration (now (values .entry))) r (now (state .exit)) (now (store .exit)) ⌝ }
+{
+    let d = coding::decode(&state[..]);
+    let verdict = d.verdict;
+    let Verdict::Answered = verdict else {
+        return BAD_STATE;
+    };
+    let p = d.param;
+    let r = p.set_value_curve_at_time(values, time, duration, store);
+    let verdict = r.verdict;
+    let p = r.param;
+    close(verdict, p, state)
+}
+
+#[no_mangle]
+pub extern "C" fn crackledray_cancel(state: &mut [u64], time: f64, store: &mut [f32]) -> u32
+    ensures { λ r. ⌜ Tells (now (state .entry)) (now (store .entry)) (cancel «time») r (now (state .exit)) (now (store .exit)) ⌝ }
+{
+    let d = coding::decode(&state[..]);
+    let verdict = d.verdict;
+    let Verdict::Answered = verdict else {
+        return BAD_STATE;
+    };
+    let p = d.param;
+    let r = p.cancel_scheduled_values(time, store);
+    let verdict = r.verdict;
+    let p = r.param;
+    close(verdict, p, state)
+}
+
+#[no_mangle]
+pub extern "C" fn crackledray_hold(state: &mut [u64], time: f64, store: &mut [f32]) -> u32
+    ensures { λ r. ⌜ Tells (now (state .entry)) (now (store .entry)) (hold «time») r (now (state .exit)) (now (store .exit)) ⌝ }
+{
+    let d = coding::decode(&state[..]);
+    let verdict = d.verdict;
+    let Verdict::Answered = verdict else {
+        return BAD_STATE;
+    };
+    let p = d.param;
+    let r = p.cancel_and_hold_at_time(time, store);
+    let verdict = r.verdict;
+    let p = r.param;
+    close(verdict, p, state)
+}
+
+// `steps`, `current` and `one` are written where the state is one of a parameter: 0, 0 and false where the block is refused.
+#[no_mangle]
+pub extern "C" fn crackledray_block(
+    state: &mut [u64],
+    time: f64,
+    period: f64,
+    count: usize,
+    input: &[f32],
+    output: &mut [f32],
+    store: &mut [f32],
+    steps: &mut usize,
+    current: &mut f32,
+    one: &mut bool,
+) -> u32
+    ensures { λ r. ⌜ Plays (now (state .entry)) (now (store .entry)) (asked «time» period count (now (input .entry)) (now (output .entry)))
+        (record { number = badState; state = now (state .entry); store = now (store .entry); output = now (output .entry); steps = now (steps .entry); current = now (current .entry); one = now (one .entry) })
+        (record { number = r; state = now (state .exit); store = now (store .exit); output = now (output .exit); steps = now (steps .exit); current = now (current .exit); one = now (one .exit) }) ⌝ }
+{
+    let d = coding::decode(&state[..]);
+    let verdict = d.verdict;
+    let Verdict::Answered = verdict else {
+        return BAD_STATE;
+    };
+    let p = d.param;
+    let r = p.process(time, period, count, input, output, store);
+    *steps = r.steps;
+    *current = r.current;
+    *one = r.one;
+    let verdict = r.verdict;
+    let p = r.param;
+    close(verdict, p, state)
+}

@@ -1,0 +1,55 @@
+-- `desk::play` meets its contract: what the block ensures of the part of the store that it is lent, and its text. Assumes nothing.
+use mathlib.Core.Path.{sym, subst}
+use Prim.Native.Nat.{ℕ, _≤_}
+use lib.Seq.{length-take-le}
+use Rattle.desk.proofs.Blocks.{block-fits, played}
+use borrow.Author.Needs.{needs}
+use Rattle.desk.proofs.play.Statement.{statement}
+use Rattle.desk.proofs.play.Tie as tie
+use Rattle.desk.proofs.play.Reads as reads
+use Rattle.desk.proofs.play.Lts as lts
+use Rattle.desk.proofs.put_processed.Reads as put-processed-reads
+use Rattle.param.proofs.AudioParam.process.Reads as process-reads
+
+slice-relend-prefix-process : tie.Need-slice-relend-prefix-process
+slice-relend-prefix-process c = search needs
+
+slice-aggregate-process : tie.Need-slice-aggregate-process
+slice-aggregate-process c =
+    let a = c .before .before .before .before .before .before .before in
+    sym (length-take-le (a .args .desk .lent) (a .args .store .now) (subst (λ (n : ℕ). a .args .desk .lent ≤ n) (sym (a .pre .1)) (a .pre .0 .lent)))
+
+process-requires : tie.Need-process-requires
+process-requires c κs = search needs
+
+put-processed-requires : tie.Need-put-processed-requires
+put-processed-requires c κs =
+    let a = c .before .before .before .before .before .before .before .before .before .before .before .before .before .before in
+    (block-fits _ _ _ _ _ (a .args .desk) (a .args .store .now) (c .before .before .before .before .before .before .process .ensures), a .pre .2)
+
+same-length : tie.Need-same-length
+same-length c = search needs
+
+same-length-2 : tie.Need-same-length-2
+same-length-2 c = search needs
+
+same-length-3 : tie.Need-same-length-3
+same-length-3 c = search needs
+
+returns : tie.Need-returns
+returns c =
+    let a = c .before .before .before .before .before .before .before .before .before .before .before .before .before .before .before .before .before .before in
+    played _ _ _ _ _ (a .args .desk) (a .args .store .now) (c .before .before .before .before .before .before .before .before .before .before .process .ensures) (a .pre .0) (c .before .before .before .put-processed .ensures .0) (c .before .before .before .put-processed .ensures .1)
+
+pub play-spec : {M : Type 1} → statement M
+play-spec =
+    tie.close
+    (tie.spec
+    slice-relend-prefix-process
+    slice-aggregate-process
+    process-requires
+    put-processed-requires
+    same-length
+    same-length-2
+    same-length-3
+    returns)
