@@ -30,6 +30,12 @@ fn side_faults(side: &Side, name: &str, text: &str, kept: &Path) -> Option<Strin
     Some(format!("{name}, line {}: {given}\n    on file: {wanted}", line + 1))
 }
 
+/// The Rust's answers on file: those of this kind of machine where they have a file of their own.
+fn rust_answers(file: &Path) -> PathBuf {
+    let own = file.with_extension(format!("{}.rust", std::env::consts::ARCH));
+    if own.exists() { own } else { file.with_extension("rust") }
+}
+
 impl Page {
     pub fn read(page: &Path, folder: PathBuf) -> Self {
         Self { text: read(page), folder }
@@ -64,9 +70,11 @@ impl Page {
     fn file_faults(&self, sides: &Sides, file: &Path) -> Vec<String> {
         let (text, name) = (read(file), file.file_stem().unwrap_or_default().to_string_lossy());
         let mut faults = Vec::new();
-        for (side, who, ending) in [(&sides.port, "port", "port"), (&sides.rust, "Rust", "rust")] {
+        let rust = rust_answers(file);
+        let port = file.with_extension("port");
+        for (side, who, kept) in [(&sides.port, "port", port), (&sides.rust, "Rust", rust)] {
             let name = format!("{name}: the {who}");
-            faults.extend(side_faults(side, &name, &text, &file.with_extension(ending)));
+            faults.extend(side_faults(side, &name, &text, &kept));
         }
         for played in sides.play(sessions(&text)) {
             faults.extend(self.shown(&name, &played));
@@ -75,7 +83,7 @@ impl Page {
     }
 
     /// The session stands on the page with both answers, and differs as its
-    /// file's name says (`zero-bound`: as far as seen not at all).
+    /// file's name says (`zero-bound`: on some processors not at all).
     fn shown(&self, name: &str, played: &Played) -> Vec<String> {
         let Played { session, ours, rust, verdict } = played;
         let mut faults = Vec::new();

@@ -1,0 +1,3 @@
+pub mod Examples
+pub mod Fields
+pub mod Reasons

@@ -1,0 +1,3 @@
+pub mod Asks
+pub mod Counts
+pub mod Sheet
