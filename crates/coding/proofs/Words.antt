@@ -6,14 +6,12 @@ use native.Mathlib.Nat.{add-zero, zero-add}
 use native.Mathlib.Numerals.{add-one}
 use native.Mathlib.Omega.{arith}
 use lib.ListN.{length, getD, set, take, drop, List·getD-append, length-append}
-use lib.Seq.{sets-eq, getD-append-add, getD-take, drop-nil}
+use lib.Seq.{sets-eq, getD-append-add, getD-take}
 use lib.Ieee.{Float, binary32, binary64, toBits}
 use Rattle.rules.specs.declared.MaybeTime.{MaybeTime}
 use Rattle.rules.specs.declared.MaybeTime.the-variants as MaybeTime
 use Rattle.rules.specs.declared.Event.{Event}
 use Rattle.rules.specs.declared.Event.the-variants as Event
-use Rattle.rules.specs.declared.Head.the-variants as Head
-use Rattle.timeline.specs.Timeline.{firstOf}
 use Rattle.coding.specs.Coding.{eventWords, placeOf, singleIn, doubleIn, timeIn, eventOf, eventAt, eventsIn, flagOf, bitsOf, sixWords, wordsOf, wordsFor, writtenAt, SingleBits, DoubleBits, TimeBits, PutsEvent}
 
 -- ---- one event
@@ -115,17 +113,3 @@ pub words-length : (q : List Event) → length (wordsFor q) ≡ eventWords * len
 unfolding wordsFor
 words-length [] = refl
 words-length (e ∷ q) = simp length-append (omega (arith, six e, words-length q))
-
--- the event at a place of the queue is the next
-pub first-next : (q : List Event) (i : ℕ) (e : Event) → firstOf (drop i q) ≡ Head.Event e → take (i + 1) q ≡ take i q ++ (e ∷ [])
-first-next q i e h = rw add-one (go q i h)
-  where
-    go : (q : List Event) (i : ℕ) → firstOf (drop i q) ≡ Head.Event e → take (suc i) q ≡ take i q ++ (e ∷ [])
-    go [] i h = let g : firstOf (drop i []) ≡ Head.Empty = rw (drop-nil i) (unfold firstOf in refl) in let z : _≡_ {A = ℕ} 0 1 = cc in absurd (omega arith)
-    go (d ∷ q) zero h = let g : firstOf (d ∷ q) ≡ Head.Event d = unfold firstOf in refl in let k : d ≡ e = cc in rw k
-    go (d ∷ q) (suc i) h = ap (λ (r : List Event). d ∷ r) (go q i h)
-
-pub first-none : (q : List Event) (i : ℕ) → firstOf (drop i q) ≡ Head.Empty → length q ≤ i
-first-none [] i h = omega arith
-first-none (d ∷ q) zero h = let g : firstOf (d ∷ q) ≡ Head.Event d = unfold firstOf in refl in let z : _≡_ {A = ℕ} 0 1 = cc in absurd (omega arith)
-first-none (d ∷ q) (suc i) h = omega (arith, first-none q i h)

@@ -18,7 +18,6 @@ use param::Outcome;
 use rules::AutomationRate;
 use rules::Bounds;
 use rules::Finished;
-use rules::Head;
 use rules::LastEvent;
 use timeline::AudioParamEvent;
 use timeline::AudioParamEventTimeline;
@@ -158,12 +157,12 @@ pub fn encode(p: AudioParam, state: &mut [u64])
     ensures { λ _. ⌜ Encodes p (now (state .entry)) (now (state .exit)) ⌝ }
 {
     put_head(state, p);
-    let n = p.len();
+    let q = p.timeline();
+    let n = q.len;
     let mut i = 0usize;
     while i < n {
-        let Head::Event(e) = p.event_at(i) else {
-            return;
-        };
+        let s = q.slots[i];
+        let e = s.event;
         put_event(state, HEAD + EVENT * i, e);
         i += 1;
     }

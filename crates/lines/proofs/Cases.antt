@@ -62,8 +62,8 @@ end-in buf l w = (omega arith, omega (arith, index-le 10 (drop (l .from) (take (
 abbrev nextBy : List ℕ → Lines → Bool → Taken
 nextBy buf l b = cond b (record { next = Next.None; lines = l }) (record { next = cond (l .long) Next.Long (Next.Line (l .from) (lineEnd buf l)); lines = record { from = lineEnd buf l + 1; to = l .to; long = false } })
 
--- where the line goes on, nothing is taken; else the line and its newline; the bytes end where they ended
-pub next-in : (buf : List ℕ) (l : Lines) → Within buf l → LineIn buf (nextOf buf l .next) × Within buf (nextOf buf l .lines) × (l .from ≤ nextOf buf l .lines .from) × (nextOf buf l .lines .to ≡ l .to)
+-- where the line goes on, nothing is taken; else the line and its newline, which is some; the bytes end where they ended
+pub next-in : (buf : List ℕ) (l : Lines) → Within buf l → LineIn buf (nextOf buf l .next) × Within buf (nextOf buf l .lines) × (l .from ≤ nextOf buf l .lines .from) × (nextOf buf l .lines .to ≡ l .to) × (nextOf buf l .lines .from ≡ l .from → nextOf buf l .next ≡ Next.None)
 unfolding nextOf LineIn
 next-in buf l w = by-end (end-in buf l w) (eqb (lineEnd buf l) (l .to)) refl
   where
@@ -71,9 +71,9 @@ next-in buf l w = by-end (end-in buf l w) (eqb (lineEnd buf l) (l .to)) refl
     taken e true = tt
     taken e false = (e .0, omega (arith, e .1, w .inside))
 
-    by-end : (e : (l .from ≤ lineEnd buf l) × (lineEnd buf l ≤ l .to)) (b : Bool) → eqb (lineEnd buf l) (l .to) ≡ b → LineIn buf (nextBy buf l b .next) × Within buf (nextBy buf l b .lines) × (l .from ≤ nextBy buf l b .lines .from) × (nextBy buf l b .lines .to ≡ l .to)
-    by-end e true t = (tt, w, omega arith, refl)
-    by-end e false t = (taken e (l .long), record { ordered = omega (arith, e .1, lt-of-le-ne (e .1) (eqb-false (lineEnd buf l) (l .to) t)); inside = w .inside }, omega (arith, e .0), refl)
+    by-end : (e : (l .from ≤ lineEnd buf l) × (lineEnd buf l ≤ l .to)) (b : Bool) → eqb (lineEnd buf l) (l .to) ≡ b → LineIn buf (nextBy buf l b .next) × Within buf (nextBy buf l b .lines) × (l .from ≤ nextBy buf l b .lines .from) × (nextBy buf l b .lines .to ≡ l .to) × (nextBy buf l b .lines .from ≡ l .from → nextBy buf l b .next ≡ Next.None)
+    by-end e true t = (tt, w, omega arith, refl, λ q. refl)
+    by-end e false t = (taken e (l .long), record { ordered = omega (arith, e .1, lt-of-le-ne (e .1) (eqb-false (lineEnd buf l) (l .to) t)); inside = w .inside }, omega (arith, e .0), refl, λ q. absurd (omega (arith, e .0, q)))
 
 pub last-in : (buf : List ℕ) (l : Lines) → Within buf l → LineIn buf (lastOf l)
 unfolding lastOf LineIn

@@ -1,43 +1,39 @@
--- A parameter of its parts: when one event more leaves it sound, and what the first i events of a queue make. Assumes nothing.
+-- A parameter of its parts: events taken one by one, and when all of it is sound. Assumes nothing.
 use mathlib.Core.Path.{_≡_, refl, sym, ap, _∙_}
-use mathlib.Core.Bool.{Bool, true, false, cond, _&&_, _||_, and-true}
+use mathlib.Core.Bool.{Bool, true, false, _&&_, and-false}
 use mathlib.Core.List.{List, [], _∷_, _++_}
-use Prim.Native.Nat.{ℕ, suc, _+_, _-_, _≤_, _<_}
+use Prim.Native.Nat.{ℕ, _+_, _-_, _≤_, _<_}
 use native.Mathlib.Numerals.{add-one}
 use native.Mathlib.Omega.{arith}
-use lib.Dec.{leb, ltb, eqb, eqb·suc-suc, eqb·zero-suc}
-use lib.ListN.{length, take, getD, List·getD-map, length-append, length-map, length-take, drop-of-length-le}
-use lib.Seq.{take-all, take-suc, getD-take}
+use lib.Dec.{leb}
+use lib.ListN.{length, take, getD, set, List·getD-map, length-append, length-map, length-take}
+use lib.Seq.{take-all, take-suc, getD-take, append-snoc}
 use lib.Ieee as Ieee
-use lib.Ieee.{Float}
-use borrow.Author.Tests.{ltb-true, le-leb, lt-leb, eqb-true}
+use lib.Ieee.{Float, nan, inf, fin}
+use borrow.Author.Tests.{le-leb, lt-leb}
 use Rattle.rules.specs.declared.Event.{Event}
-use Rattle.rules.specs.declared.AutomationRate.{AutomationRate}
 use Rattle.rules.specs.declared.AutomationRate.the-variants as Rate
-use Rattle.rules.specs.declared.MaybeTime.{MaybeTime}
-use Rattle.rules.specs.declared.LastEvent.{LastEvent}
-use Rattle.rules.specs.declared.Refusal.{Refusal}
-use Rattle.rules.specs.declared.Bounds.{Bounds}
 use Rattle.rules.specs.declared.Verdict.the-variants as Verdict
 use Rattle.rules.specs.Numbers.{mostEvents, storeLength, plusZero, isFinite}
-use Rattle.rules.specs.Queue.{filedUnder, lengthOf, lengthsOf, hasNotLater, placeBehind, putAt, arrived}
+use Rattle.rules.specs.Queue.{filedUnder, lengthOf, lengthsOf}
 use Rattle.rules.specs.Refusals.{lowest, allFinite, areBounds, makingRows}
-use Rattle.rules.specs.Block.{Param, made, madeAs, withQueue}
-use Rattle.laws.specs.Sound.{goesBefore, inOrder, isClear, areClear, SoundQueue, isSoundQueue, isLastClear, isNumberIfAny, Sound, isSound}
-use Rattle.laws.proofs.Tests.{clash, both, and}
+use Rattle.rules.specs.Block.{made, madeAs}
+use Rattle.laws.specs.Sound.{isNumber, isNumberIfAny, isLastClear, goesBefore, inOrder, isClear, areClear, SoundQueue, isSoundQueue, Sound, isSound}
+use Rattle.laws.proofs.Tests.{never, clash, both}
 use Rattle.laws.proofs.Events.{lengths-append}
-use Rattle.laws.proofs.Ordered.{order-parts}
-use Rattle.laws.proofs.Tested.{tested, passes-test, clear-last}
-use Rattle.laws.proofs.Queues.{prefix-sound}
+use Rattle.laws.proofs.Tested.{tested, queue-tested, queue-passes, order-last, clear-last}
+use Rattle.laws.proofs.Queues.{prefix-sound, clear-number}
 use Rattle.laws.proofs.Kept.{made-sound}
 use Rattle.timeline.specs.declared.AudioParamEvent.{AudioParamEvent}
 use Rattle.timeline.specs.declared.AudioParamEventTimeline.{AudioParamEventTimeline}
-use Rattle.timeline.specs.Timeline.{slotOf, padded, waiting, made as queueOf}
-use Rattle.timeline.proofs.Laws.{nothing, waits}
+use Rattle.timeline.specs.Timeline.{slotOf, waiting, made as queueOf}
+use Rattle.timeline.proofs.Laws.{nothing, Filled, filled-more, filled-made}
 use Rattle.param.specs.declared.AudioParam.{AudioParam}
 use Rattle.param.specs.declared.Outcome.{Outcome}
-use Rattle.param.specs.Param.{paramOf, structOf, SoundParam, nothingMade, unmade, partsOf, answeredWith, withEvent, isWhole, Restores}
-use Rattle.param.proofs.Calls.{struct-back, struct-sound, same-test}
+use Rattle.param.specs.Param.{paramOf, structOf, nothingMade, unmade, partsOf, isWhole, Restores}
+use Rattle.param.specs.declared.taking.Taken.{Taken}
+use Rattle.param.specs.Takes.{Takes}
+use Rattle.param.proofs.Calls.{struct-sound, same-test}
 
 -- ---- restored, or not
 
@@ -55,161 +51,108 @@ restores-whole {parts} h e =
 pub restores-not : {parts : AudioParam} {r : Outcome} → isWhole parts ≡ false → r ≡ unmade → Restores parts r
 restores-not h e = record { gives = rw (h, e); sound = rw e (struct-sound nothingMade nothing-sound) }
 
--- ---- one event more
+-- more events than slots
+pub too-many : (parts : AudioParam) → mostEvents < parts .timeline .len → isWhole parts ≡ false
+unfolding isWhole
+too-many parts h = rw (lt-leb (parts .timeline .len) mostEvents h)
 
--- it is in order where its place is the last
-ordered-behind : (e : Event) (q : List Event) → inOrder q ≡ true → inOrder (q ++ (e ∷ [])) ≡ eqb (placeBehind (filedUnder e) q) (length q)
-unfolding inOrder goesBefore placeBehind hasNotLater
-ordered-behind e [] h = refl
-ordered-behind e (x ∷ []) h = go (Ieee.le (filedUnder x) (filedUnder e))
-  where
-    go : (b : Bool) → (b && true) ≡ eqb (cond (b || false) 1 0) 1
-    go true = refl
-    go false = refl
-ordered-behind e (x ∷ y ∷ q) h =
-    let a = order-parts x (y ∷ q) h in
-    rw (a .0, ordered-behind e (y ∷ q) (a .1)) (go (Ieee.le (filedUnder x) (filedUnder e)) (hasNotLater (filedUnder e) (y ∷ q)) (placeBehind (filedUnder e) q) (length q))
-  where
-    go : (a b : Bool) (m n : ℕ) → eqb (cond b (suc m) 0) (suc n) ≡ eqb (cond (a || b) (suc (cond b (suc m) 0)) 0) (suc (suc n))
-    go true true m n = sym (eqb·suc-suc (suc m) (suc n))
-    go false true m n = sym (eqb·suc-suc (suc m) (suc n))
-    go true false m n = sym (eqb·suc-suc 0 (suc n))
-    go false false m n = eqb·zero-suc n ∙ sym (eqb·zero-suc (suc n))
+-- ---- events taken one by one
 
-whole-struct : (p : Param) → isWhole (structOf p) ≡ (leb (length (p .queue)) mostEvents && isSound p)
-unfolding isWhole queueOf
-whole-struct p = rw (struct-back p)
+-- an infinity below all is before every time that is a number
+below-all : (t : Float) → isNumber t ≡ true → Ieee.le (inf true) t ≡ true
+unfolding isNumber Ieee.isNan Ieee.le Ieee.lt Ieee.eq
+below-all nan h = never h
+below-all (inf true) h = refl
+below-all (inf false) h = refl
+below-all (fin s m d) h = refl
 
-module _ (p : AudioParam) (s : SoundParam p) (e : Event) where
+-- the first i of them are a sound queue, of so many numbers, the last at a time, and wait in these slots
+pub record Took (es : List Event) (used : ℕ) (before : Float) (i : ℕ) (slots : List AudioParamEvent) : Type 0 where
+  pub sound : SoundQueue (take i es)
+  pub many : used ≡ lengthsOf (take i es)
+  pub next : (e : Event) → isNumber (filedUnder e) ≡ true → inOrder (take i es ++ (e ∷ [])) ≡ Ieee.le before (filedUnder e)
+  pub filled : Filled slots i (take i es)
+
+pub took-none : (es : List Event) {q : AudioParamEventTimeline} → q ≡ queueOf [] → Took es 0 (inf true) 0 (q .slots)
+unfolding inOrder goesBefore lengthsOf areClear queueOf
+took-none es e =
+    record {
+      sound = record { few = omega arith; ordered = refl; clear = refl; room = omega arith };
+      many = refl;
+      next = λ d n. sym (below-all (filedUnder d) n);
+      filled = record { many = refl; held = ap (λ (u : AudioParamEventTimeline). u .slots) e };
+    }
+
+module _ {es : List Event} {used : ℕ} {before : Float} {i : ℕ} {slots : List AudioParamEvent} (t : Took es used before i slots) (e : Event) (more : take (i + 1) es ≡ take i es ++ (e ∷ []))
+    (few : i < mostEvents) where
+  abbrev fits : Bool
+  fits = Ieee.le before (filedUnder e) && (isClear e && leb (lengthOf e) (storeLength - used))
+
   abbrev q : List Event
-  q = paramOf p .queue
+  q = take i es
 
-  sound-behind : isSoundQueue (q ++ (e ∷ []))
-      ≡ (ltb (length q) mostEvents && (eqb (placeBehind (filedUnder e) q) (length q) && (isClear e && leb (lengthOf e) (storeLength - lengthsOf q))))
-  unfolding isSoundQueue lengthsOf
-  sound-behind =
-      let w : SoundQueue q = s .sound .waiting in
-      let r : lengthsOf q ≤ storeLength = w .room in
-      let n : length (q ++ (e ∷ [])) ≡ suc (length q) = simp length-append (omega arith) in
+  room : leb (lengthsOf (q ++ (e ∷ []))) storeLength ≡ leb (lengthOf e) (storeLength - used)
+  unfolding lengthsOf
+  room =
       let m : lengthsOf (q ++ (e ∷ [])) ≡ lengthsOf q + lengthOf e = lengths-append q (e ∷ []) ∙ omega arith in
-      let room : leb (lengthsOf (q ++ (e ∷ []))) storeLength ≡ leb (lengthOf e) (storeLength - lengthsOf q) =
-      same-test (lengthsOf (q ++ (e ∷ []))) storeLength (lengthOf e) (storeLength - lengthsOf q) (λ h. omega arith) (λ h. omega arith) in
-      rw (n, ordered-behind e q (w .ordered), clear-last q e, w .clear, room)
+      let r : lengthsOf q ≤ storeLength = t .sound .room in
+      let u : used ≡ lengthsOf q = t .many in
+      same-test (lengthsOf (q ++ (e ∷ []))) storeLength (lengthOf e) (storeLength - used) (λ h. omega arith) (λ h. omega arith)
 
-  pub whole-is : isWhole (withEvent p e)
-      ≡ (ltb (length q) mostEvents && (eqb (placeBehind (filedUnder e) q) (length q) && (isClear e && leb (lengthOf e) (storeLength - lengthsOf q))))
-  unfolding isSound
-  whole-is =
-      let n : length (q ++ (e ∷ [])) ≡ suc (length q) = simp length-append (omega arith) in
-      whole-struct _ ∙ rw (n, sound-behind, s .sound .bounded, s .sound .last, s .sound .block) (go (ltb (length q) mostEvents) _)
+  -- one event more is sound where it fits
+  fits-is : isSoundQueue (take (i + 1) es) ≡ fits
+  unfolding isSoundQueue
+  fits-is = rw more (go (isClear e) refl)
     where
-      go : (a b : Bool) → (a && ((a && b) && true)) ≡ (a && b)
-      go true b = and-true b
-      go false b = refl
+      short : leb (length (q ++ (e ∷ []))) mostEvents ≡ true
+      short = let n : i ≡ length q = t .filled .many in le-leb (length (q ++ (e ∷ []))) mostEvents (simp length-append (omega arith))
+
+      none : (a b : Bool) → (a && false) ≡ (b && false)
+      none a b = and-false a ∙ sym (and-false b)
+
+      go : (b : Bool) → isClear e ≡ b → isSoundQueue (q ++ (e ∷ [])) ≡ (Ieee.le before (filedUnder e) && (b && leb (lengthOf e) (storeLength - used)))
+      go true h = rw (short, t .next e (clear-number e h), clear-last q e, t .sound .clear, h, room)
+      go false h = rw (short, clear-last q e, t .sound .clear, h) (none (inOrder (q ++ (e ∷ []))) (Ieee.le before (filedUnder e)))
+
+  took-more : {x : AudioParamEvent} → fits ≡ true → x ≡ slotOf e → Took es (used + lengthOf e) (filedUnder e) (i + 1) (set slots i x)
+  unfolding lengthsOf
+  took-more h g =
+      let s : SoundQueue (take (i + 1) es) = queue-tested (take (i + 1) es) (fits-is ∙ h) in
+      record {
+        sound = s;
+        many = ap (λ (n : ℕ). n + lengthOf e) (t .many) ∙ sym (ap lengthsOf more ∙ lengths-append q (e ∷ []) ∙ omega arith);
+        next = λ d n. ap (λ (l : List Event). inOrder (l ++ (d ∷ []))) more ∙ ap inOrder (append-snoc q e (d ∷ [])) ∙ order-last q e d
+            ∙ ap (λ (b : Bool). b && Ieee.le (filedUnder e) (filedUnder d)) (ap inOrder (sym more) ∙ s .ordered);
+        filled = filled-more (t .filled) few g more;
+      }
+
+  took-not : fits ≡ false → false ≡ isSoundQueue es
+  took-not h = go (isSoundQueue es) refl
+    where
+      go : (b : Bool) → isSoundQueue es ≡ b → false ≡ b
+      go false k = refl
+      go true k = clash (queue-passes _ (prefix-sound (i + 1) es (queue-tested es k))) (fits-is ∙ h)
 
   -- the same, as code finds its parts
-  pub whole-by : {n place size used : ℕ} {clear : Bool} → length q ≡ n → place ≡ placeBehind (filedUnder e) q → clear ≡ isClear e → size ≡ lengthOf e
-      → used ≡ lengthsOf q → (ltb n mostEvents && (eqb place n && (clear && leb size (storeLength - used)))) ≡ isWhole (withEvent p e)
-  whole-by a b c d u = rw (b, c, d, u, ← a) (sym whole-is)
+  module _ {time : Float} {clear : Bool} {size : ℕ} (et : time ≡ filedUnder e) (ec : clear ≡ isClear e) (es' : size ≡ lengthOf e) where
+    found : (Ieee.le before time && (clear && leb size (storeLength - used))) ≡ fits
+    found = rw (et, ec, es')
 
-  module _ (h : isWhole (withEvent p e) ≡ true) where
-    passed : (ltb (length q) mostEvents ≡ true) × (eqb (placeBehind (filedUnder e) q) (length q) ≡ true)
-    passed =
-        let a = both (ltb (length q) mostEvents) _ (sym whole-is ∙ h) in
-        (a .0, both (eqb (placeBehind (filedUnder e) q) (length q)) _ (a .1) .0)
+    pub takes-more : {x : AudioParamEvent} → (Ieee.le before time && (clear && leb size (storeLength - used))) ≡ true → x ≡ slotOf e
+        → Took es (used + size) time (i + 1) (set slots i x)
+    takes-more h g = rw (et, es') (took-more (sym found ∙ h) g)
 
-    pub whole-few : length q < mostEvents
-    whole-few = ltb-true (length q) mostEvents (passed .0)
+    pub takes-not : (Ieee.le before time && (clear && leb size (storeLength - used))) ≡ false → false ≡ isSoundQueue es
+    takes-not h = took-not (sym found ∙ h)
 
-    arrived-last : arrived e q ≡ q ++ (e ∷ [])
-    unfolding arrived putAt
-    arrived-last =
-        let l : length q ≤ length q = omega arith in
-        rw (eqb-true (placeBehind (filedUnder e) q) (length q) (passed .1), take-all (length q) q l, drop-of-length-le q l)
-
-    pub restores-event : (t : AudioParamEventTimeline) {r : Outcome} → t ≡ queueOf (arrived e q) → r ≡ answeredWith p t (p .intrinsic) → Restores (withEvent p e) r
-    restores-event t g a = restores-whole h (a ∙ rw (g, arrived-last, waits (q ++ (e ∷ []))))
-
--- ---- nothing waits
-
-pub whole-empty : (b : Bounds) (rate : AutomationRate) (v : Float) (t : MaybeTime) (l : LastEvent)
-    → isWhole (partsOf b rate v (queueOf []) t l) ≡ (areBounds b && (isLastClear l && isNumberIfAny t))
-unfolding isWhole queueOf padded isSound isSoundQueue inOrder areClear lengthsOf
-whole-empty b rate v t l = refl
-
--- ---- the first i events of a queue, one by one
-
-module _ (parts : AudioParam) where
-  abbrev events : List Event
-  events = paramOf parts .queue
-
-  abbrev pub upTo : ℕ → AudioParam
-  upTo i = structOf (withQueue (take i events) (paramOf parts))
-
-  -- more events than slots
-  pub too-many : mostEvents < parts .timeline .len → isWhole parts ≡ false
-  unfolding isWhole
-  too-many h = rw (lt-leb (parts .timeline .len) mostEvents h)
-
-  -- what is whole is whole up to each place
-  whole-up-to : (i : ℕ) → isWhole parts ≡ true → isWhole (upTo i) ≡ true
-  unfolding isWhole
-  whole-up-to i h =
-      let s : Sound (paramOf parts) = tested (paramOf parts) (both (leb (parts .timeline .len) mostEvents) (isSound (paramOf parts)) h .1) in
-      let q : SoundQueue (take i events) = prefix-sound i events (s .waiting) in
-      whole-struct (withQueue (take i events) (paramOf parts))
-      ∙ and (le-leb (length (take i events)) mostEvents (q .few)) (passes-test _ (record { waiting = q; bounded = s .bounded; last = s .last; block = s .block }))
-
-  module _ (i : ℕ) (r : Outcome) (s : Restores (upTo i) r) where
-    gave : (b : Bool) → isWhole (upTo i) ≡ b → r ≡ cond b (record { verdict = Verdict.Answered; param = upTo i }) unmade
-    gave b e = s .gives ∙ rw (e, waits (take i events))
-
-    -- answered so far
-    pub up-to-is : r .verdict ≡ Verdict.Answered → r .param ≡ upTo i
-    up-to-is h = go (isWhole (upTo i)) refl
-      where
-        go : (b : Bool) → isWhole (upTo i) ≡ b → r .param ≡ upTo i
-        go true e = ap (λ (o : Outcome). o .param) (gave true e)
-        go false e = let g : r ≡ unmade = gave false e in let z : _≡_ {A = ℕ} 0 1 = cc in absurd (omega arith)
-
-    -- refused, and so is the whole
-    pub restores-refused : {why : Refusal} → r .verdict ≡ Verdict.Refused why → Restores parts r
-    restores-refused {why} h = go (isWhole (upTo i)) (isWhole parts) refl refl
-      where
-        go : (b w : Bool) → isWhole (upTo i) ≡ b → isWhole parts ≡ w → Restores parts r
-        go true w e f =
-            let g : r .verdict ≡ Verdict.Answered = ap (λ (o : Outcome). o .verdict) (gave true e) in
-            let z : _≡_ {A = ℕ} 0 1 = cc in
-            absurd (omega arith)
-        go false true e f = clash (whole-up-to i f) e
-        go false false e f = restores-not f (gave false e)
-
-    -- one more
-    pub restores-next : (e : Event) {next : Outcome} → r .verdict ≡ Verdict.Answered → take (i + 1) events ≡ take i events ++ (e ∷ [])
-        → Restores (withEvent (r .param) e) next → Restores (upTo (i + 1)) next
-    restores-next e {next} h g t =
-        let a : Restores (withEvent (upTo i) e) next = rw (up-to-is h) at t in
-        rw g (rw (waits (take i events)) at a)
-
-    -- all of them
-    pub restores-all : parts .timeline .len ≤ mostEvents → parts .timeline .len ≤ i → Restores parts r
-    restores-all h l = go (isWhole parts) refl
-      where
-        few : length events ≤ parts .timeline .len
-        few = simp (length-map, length-take) (omega arith)
-
-        all : take i events ≡ events
-        all = take-all i events (omega (arith, few))
-
-        same : isWhole (upTo i) ≡ isWhole parts
-        same =
-            unfold isWhole in
-            whole-struct (withQueue (take i events) (paramOf parts))
-            ∙ rw (all, le-leb (length events) mostEvents (omega (arith, few)), le-leb (parts .timeline .len) mostEvents h)
-
-        go : (b : Bool) → isWhole parts ≡ b → Restores parts r
-        go true f = restores-whole f (gave true (same ∙ f) ∙ rw all)
-        go false f = restores-not f (gave false (same ∙ f))
+-- all of them
+pub took-all : {es : List Event} {used len : ℕ} {before : Float} {i : ℕ} {slots : List AudioParamEvent} → Took es used before i slots → i ≡ len → length es ≤ i
+    → (true ≡ isSoundQueue es) × (_≡_ {A = AudioParamEventTimeline} (record { slots = slots; len = len }) (queueOf es))
+took-all {es} {i = i} {slots} t e h =
+    let all : take i es ≡ es = take-all i es h in (
+      sym (queue-passes es (rw all at (t .sound))),
+      ap (λ (n : ℕ). record { slots = slots; len = n }) (sym e) ∙ filled-made (t .filled) ∙ ap queueOf all,
+    )
 
 -- the event in a slot is the next that waits
 pub slot-next : (q : AudioParamEventTimeline) (i : ℕ) → length (q .slots) ≡ mostEvents → i < q .len → q .len ≤ mostEvents
@@ -220,3 +163,18 @@ slot-next q i n l m =
     (ap (λ (e : Event). take i (waiting q) ++ (e ∷ []))
     (List·getD-map (λ (s : AudioParamEvent). s .event) (take (q .len) (q .slots)) i (slotOf nothing)
     ∙ ap (λ (s : AudioParamEvent). s .event) (getD-take (q .len) (q .slots) i (slotOf nothing) l)))
+
+-- ---- all the parts
+
+module _ (parts : AudioParam) (few : parts .timeline .len ≤ mostEvents) {t : Taken} (k : Takes (parts .timeline) t) {bounds last block : Bool} (eb : bounds ≡ areBounds (parts .bounds))
+    (el : last ≡ isLastClear (parts .last)) (et : block ≡ isNumberIfAny (parts .block)) where
+  whole-is : (t .sound && (bounds && (last && block))) ≡ isWhole parts
+  unfolding isWhole isSound
+  whole-is = rw (le-leb (parts .timeline .len) mostEvents few, k .sound, eb, el, et)
+
+  pub restores-all : {r : Outcome} → (t .sound && (bounds && (last && block))) ≡ true
+      → r ≡ record { verdict = Verdict.Answered; param = partsOf (parts .bounds) (parts .rate) (parts .intrinsic) (t .queue) (parts .block) (parts .last) } → Restores parts r
+  restores-all h e = restores-whole (sym whole-is ∙ h) (e ∙ rw (k .queue (both (t .sound) _ h .0)))
+
+  pub restores-none : {r : Outcome} → (t .sound && (bounds && (last && block))) ≡ false → r ≡ unmade → Restores parts r
+  restores-none h e = restores-not (sym whole-is ∙ h) e

@@ -1,2 +1,3 @@
 pub mod Param
+pub mod Takes
 pub mod Processed

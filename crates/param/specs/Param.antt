@@ -104,7 +104,3 @@ answeredWith p q v = record { verdict = Verdict.Answered; param = partsOf (p .bo
 -- one more event can wait where a call is answered
 abbrev pub HasRoom : Verdict → List Event → Type 0
 HasRoom v q = v ≡ Verdict.Answered → length q < mostEvents
-
--- one event more behind all others
-abbrev pub withEvent : AudioParam → Event → AudioParam
-withEvent p e = structOf (withQueue (paramOf p .queue ++ (e ∷ [])) (paramOf p))

@@ -7,7 +7,7 @@ ghost use Rattle.rules.specs.Numbers.{mostEvents};
 ghost use Rattle.rules.specs.Queue.{Waiting, headOf, lengthsOf, losesRamp, valueAfterCancel, targetEvent};
 ghost use Rattle.rules.specs.Block.{fresh, scheduledAs, set, step, linear, exponential, target, curve, cancel, hold};
 ghost use Rattle.timeline.specs.Timeline.{made, firstOf};
-ghost use Rattle.param.specs.Param.{paramOf, structOf, outcomeOf, SoundParam, HasRoom, unmade, answeredWith, Makes, Answers, partsOf, withEvent, isWhole, Restores};
+ghost use Rattle.param.specs.Param.{paramOf, structOf, outcomeOf, SoundParam, HasRoom, unmade, answeredWith, Makes, Answers, partsOf, Restores};
 use floats::is_zero64;
 use floats::taken_time;
 use rules::AutomationRate;
@@ -21,8 +21,8 @@ use rules::Verdict;
 use timeline::AudioParamEventTimeline;
 use timeline::filed_under;
 use timeline::is_ramp;
-use timeline::length_of;
 
+mod taking; // taking.rt: events that can wait, from outside
 mod process; // process.rt: the block
 
 pub struct AudioParam {
@@ -173,6 +173,14 @@ impl AudioParam {
         ensures { λ r. ⌜ r ≡ paramOf self .lastBlock ⌝ }
     {
         self.block
+    }
+
+    // The waiting events, for one who reads many of them.
+    pub fn timeline(self) -> AudioParamEventTimeline
+        requires { ⌜ SoundParam self ⌝ }
+        ensures { λ r. ⌜ r ≡ made (paramOf self .queue) ⌝ }
+    {
+        self.timeline
     }
 
     // How many events wait.
@@ -356,44 +364,25 @@ impl AudioParam {
         }
     }
 
-    // Whether an event may wait behind all others: whether the calls could have left it there.
-    fn may_follow(self, e: Event) -> bool
-        requires { ⌜ SoundParam self ⌝ }
-        ensures { λ r. ⌜ r ≡ isWhole (withEvent self e) ⌝ }
-    {
-        let q = self.timeline;
-        let n = q.len;
-        let last = q.place_behind(filed_under(e)) == n;
-        let room = length_of(e) <= AudioParam::STORE - q.lengths();
-        (n < AudioParam::EVENTS) & (last & (refusals::sound::is_clear(e) & room))
-    }
-
-    // One event more, behind all others.
-    fn with_event(self, e: Event) -> Outcome
-        requires { ⌜ SoundParam self ⌝ }
-        ensures { λ r. ⌜ Restores (withEvent self e) r ⌝ }
-    {
-        if self.may_follow(e) {
-            let q = self.timeline;
-            self.answered(q.push(e), self.intrinsic)
-        } else {
-            AudioParam::refused()
-        }
-    }
-
-    // A parameter for which nothing waits, of its other parts.
-    fn without_events(
+    // A parameter of its parts, if the calls could have left it; else refused as bad bounds are. Slots behind the timeline's length do not count.
+    pub fn from_parts(
         bounds: Bounds,
         rate: AutomationRate,
         intrinsic: f32,
+        timeline: AudioParamEventTimeline,
         block: MaybeTime,
         last: LastEvent,
     ) -> Outcome
-        ensures { λ r. ⌜ Restores (partsOf bounds rate intrinsic (made []) block last) r ⌝ }
+        ensures { λ r. ⌜ Restores (partsOf bounds rate intrinsic timeline block last) r ⌝ }
     {
+        if AudioParam::EVENTS < timeline.len {
+            return AudioParam::refused();
+        }
+        let taken = taking::take(timeline);
+        let sound = taken.sound;
         let clear = refusals::sound::is_last_clear(last) & refusals::sound::is_number_if_any(block);
-        if refusals::are_bounds(bounds) & clear {
-            let timeline = AudioParamEventTimeline::new();
+        if sound & (refusals::are_bounds(bounds) & clear) {
+            let timeline = taken.queue;
             let param = AudioParam {
                 bounds,
                 rate,
@@ -409,36 +398,5 @@ impl AudioParam {
         } else {
             AudioParam::refused()
         }
-    }
-
-    // A parameter of its parts, if the calls could have left it; else refused as bad bounds are. Slots behind the timeline's length do not count.
-    pub fn from_parts(
-        bounds: Bounds,
-        rate: AutomationRate,
-        intrinsic: f32,
-        timeline: AudioParamEventTimeline,
-        block: MaybeTime,
-        last: LastEvent,
-    ) -> Outcome
-        ensures { λ r. ⌜ Restores (partsOf bounds rate intrinsic timeline block last) r ⌝ }
-    {
-        let n = timeline.len;
-        if AudioParam::EVENTS < n {
-            return AudioParam::refused();
-        }
-        let mut r = AudioParam::without_events(bounds, rate, intrinsic, block, last);
-        let mut i = 0usize;
-        while i < n {
-            let verdict = r.verdict;
-            let Verdict::Answered = verdict else {
-                return r;
-            };
-            let s = timeline.slots[i];
-            let e = s.event;
-            let p = r.param;
-            r = p.with_event(e);
-            i += 1;
-        }
-        r
     }
 }

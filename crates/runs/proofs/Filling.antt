@@ -12,7 +12,7 @@ use Rattle.runs.specs.After.{after}
 
 -- ---- runs from their end
 
-after-first : (dt : Float) (i : ℕ) (t : Float) → after dt i (add binary64 t dt) ≡ after dt (suc i) t
+pub after-first : (dt : Float) (i : ℕ) (t : Float) → after dt i (add binary64 t dt) ≡ after dt (suc i) t
 unfolding after
 after-first dt zero t = refl
 after-first dt (suc i) t = ap (λ (u : Float). add binary64 u dt) (after-first dt i t)

@@ -1,16 +1,18 @@
 // Runs of samples: every place of a slice takes the sample at its time, the first at `time`, each next one `dt` later.
+// Up to 128 places take two passes, so that a processor need not wait for the divisions of the first in the second.
 ghost use mathlib.Core.Path.{_≡_};
 ghost use Prim.Native.Nat.{_≤_};
 ghost use lib.Dec.{T};
 ghost use lib.ListN.{length};
-ghost use lib.Ieee.{binary32, fits};
+ghost use lib.Ieee.{binary32, binary64, fits, mul};
 ghost use lib.Ieee.Scale.{finite};
-ghost use Rattle.rules.specs.Numbers.{run};
-ghost use Rattle.rules.specs.Samples.{curveSample};
+ghost use Rattle.rules.specs.Numbers.{narrowed, run};
+ghost use Rattle.rules.specs.Samples.{phaseOf, factorOf, curveSample};
 ghost use Rattle.rules.specs.Walk.{fromStart};
 ghost use Rattle.powers.specs.Estimates.{estimates};
 ghost use Rattle.phases.specs.Once.{Once};
 ghost use Rattle.samples.specs.At.{linearAt, exponentialAt, exponentialOver, targetAt};
+ghost use Rattle.runs.specs.Passes.{each, timed, fadedAt};
 
 // A linear ramp's run.
 fn linear_run(
@@ -82,6 +84,19 @@ pub fn compute_linear_ramp_samples(
     linear_run(out, start_time, duration, start_value, diff, time, dt);
 }
 
+// The first pass of ramps and targets: the phase at each time.
+fn phases_of(xs: &mut [f64], start_time: f64, duration: f64, time: f64, dt: f64)
+    ensures { λ r. ⌜ now (xs .exit) ≡ run (phaseOf «start_time» duration) dt (length (now (xs .entry))) time ⌝ }
+{
+    let mut i = 0usize;
+    let mut t = time;
+    while i < xs.len() {
+        xs[i] = (t - start_time) / duration;
+        t = t + dt;
+        i += 1;
+    }
+}
+
 // An exponential ramp's run, with L as an f64.
 fn exponential_run(
     out: &mut [f32],
@@ -103,10 +118,20 @@ fn exponential_run(
     }
 }
 
-// The same by the table, from a finite value.
+// The second pass: from a finite value, by the table, at the phases xs.
+fn exponential_over(out: &mut [f32], xs: &[f64], table: &[u32; 768], from: f64, l: f64)
+    requires { ⌜ (length (now out) ≡ length (now xs)) × (now table ≡ estimates) × T (finite from) ⌝ }
+    ensures { λ r. ⌜ now (out .exit) ≡ each (λ x. narrowed (mul binary64 from (factorOf (mul binary64 l x)))) (now (xs .entry)) ⌝ }
+{
+    let mut i = 0usize;
+    while i < out.len() {
+        out[i] = decays::grown_by(table, from, l * xs[i]);
+        i += 1;
+    }
+}
+
 fn exponential_finite(
     out: &mut [f32],
-    table: &[u32; 768],
     start_time: f64,
     duration: f64,
     from: f64,
@@ -114,16 +139,14 @@ fn exponential_finite(
     time: f64,
     dt: f64,
 )
-    requires { ⌜ (now table ≡ estimates) × T (finite from) ⌝ }
+    requires { ⌜ (length (now out) ≤ 128) × T (finite from) ⌝ }
     ensures { λ r. ⌜ now (out .exit) ≡ run (exponentialOver «start_time» duration from l) dt (length (now (out .entry))) time ⌝ }
 {
-    let mut i = 0usize;
-    let mut t = time;
-    while i < out.len() {
-        out[i] = decays::grown_by(table, from, l * ((t - start_time) / duration));
-        t = t + dt;
-        i += 1;
-    }
+    let n = out.len();
+    let mut xs = [0.0; 128];
+    phases_of(&mut xs[..n], start_time, duration, time, dt);
+    let table = powers::table();
+    exponential_over(out, &xs[..n], &table, from, l);
 }
 
 pub fn compute_exponential_ramp_samples(
@@ -138,13 +161,14 @@ pub fn compute_exponential_ramp_samples(
     ensures { λ r. ⌜ now (out .exit) ≡ run (exponentialAt «start_time» duration «start_value» log) dt (length (now (out .entry))) time ⌝ }
 {
     let l = std::num::nearest_i64_to_f64(log);
-    if floats::is_finite32(start_value) {
-        let from = start_value as f64;
-        let table = powers::table();
-        exponential_finite(out, &table, start_time, duration, from, l, time, dt);
-    } else {
-        exponential_run(out, start_time, duration, start_value, l, time, dt);
+    if out.len() <= 128 {
+        if floats::is_finite32(start_value) {
+            let from = start_value as f64;
+            exponential_finite(out, start_time, duration, from, l, time, dt);
+            return;
+        }
     }
+    exponential_run(out, start_time, duration, start_value, l, time, dt);
 }
 
 // A target's sample, or the intrinsic value before the start.
@@ -187,29 +211,52 @@ fn target_run(
     }
 }
 
-// A target's sample by the table; to c, from a more: values of `f32`.
+// A target's sample at the phase x, by the table; to c, from a more: values of `f32`.
 fn target_by(
     table: &[u32; 768],
     start_time: f64,
-    time_constant: f64,
     c: f64,
     a: f64,
     intrinsic: f32,
     time: f64,
+    x: f64,
 ) -> f32
     requires { ⌜ (now table ≡ estimates) × T (fits binary32 a) × T (fits binary32 c) × T (finite a) × T (finite c) ⌝ }
-    ensures { λ r. ⌜ r ≡ fromStart «start_time» intrinsic (targetAt «start_time» «time_constant» c a) time ⌝ }
+    ensures { λ r. ⌜ r ≡ fadedAt «start_time» intrinsic c a time x ⌝ }
 {
     if time < start_time {
         return intrinsic;
     }
-    let x = (time - start_time) / time_constant;
     decays::faded_by(table, a, x * 1.4426950408889634, c)
+}
+
+// The second pass: a target's samples at the phases xs.
+fn target_over(
+    out: &mut [f32],
+    xs: &[f64],
+    table: &[u32; 768],
+    start_time: f64,
+    c: f64,
+    a: f64,
+    intrinsic: f32,
+    time: f64,
+    dt: f64,
+)
+    requires { ⌜ length (now out) ≡ length (now xs) ⌝ }
+    requires { ⌜ (now table ≡ estimates) × T (fits binary32 a) × T (fits binary32 c) × T (finite a) × T (finite c) ⌝ }
+    ensures { λ r. ⌜ now (out .exit) ≡ timed (fadedAt «start_time» intrinsic c a) dt (now (xs .entry)) time ⌝ }
+{
+    let mut i = 0usize;
+    let mut t = time;
+    while i < out.len() {
+        out[i] = target_by(table, start_time, c, a, intrinsic, t, xs[i]);
+        t = t + dt;
+        i += 1;
+    }
 }
 
 fn target_finite(
     out: &mut [f32],
-    table: &[u32; 768],
     start_time: f64,
     time_constant: f64,
     c: f64,
@@ -218,16 +265,15 @@ fn target_finite(
     time: f64,
     dt: f64,
 )
-    requires { ⌜ (now table ≡ estimates) × T (fits binary32 a) × T (fits binary32 c) × T (finite a) × T (finite c) ⌝ }
+    requires { ⌜ length (now out) ≤ 128 ⌝ }
+    requires { ⌜ T (fits binary32 a) × T (fits binary32 c) × T (finite a) × T (finite c) ⌝ }
     ensures { λ r. ⌜ now (out .exit) ≡ run (fromStart «start_time» intrinsic (targetAt «start_time» «time_constant» c a)) dt (length (now (out .entry))) time ⌝ }
 {
-    let mut i = 0usize;
-    let mut t = time;
-    while i < out.len() {
-        out[i] = target_by(table, start_time, time_constant, c, a, intrinsic, t);
-        t = t + dt;
-        i += 1;
-    }
+    let n = out.len();
+    let mut xs = [0.0; 128];
+    phases_of(&mut xs[..n], start_time, time_constant, time, dt);
+    let table = powers::table();
+    target_over(out, &xs[..n], &table, start_time, c, a, intrinsic, time, dt);
 }
 
 pub fn compute_set_target_samples(
@@ -244,21 +290,12 @@ pub fn compute_set_target_samples(
 {
     if floats::is_finite32(end_value) {
         if floats::is_finite32(diff) {
-            let c = end_value as f64;
-            let a = diff as f64;
-            let table = powers::table();
-            target_finite(
-                out,
-                &table,
-                start_time,
-                time_constant,
-                c,
-                a,
-                intrinsic,
-                time,
-                dt,
-            );
-            return;
+            if out.len() <= 128 {
+                let c = end_value as f64;
+                let a = diff as f64;
+                target_finite(out, start_time, time_constant, c, a, intrinsic, time, dt);
+                return;
+            }
         }
     }
     target_run(

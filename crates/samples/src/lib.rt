@@ -23,13 +23,20 @@ fn whole_of(x: f64) -> u64
     }
 }
 
-// The same, fast below 2^33.
+// The same, fast below 2^33, by the pattern of x + 3 * 2^33 (see `phases::lifted`).
 pub fn whole(x: f64) -> u64
     ensures { λ r. ⌜ r ≡ wholePart x ⌝ }
 {
-    let h = phases::lifted(x);
-    if h >= 8589934592 {
-        return h - 8589934592;
+    let v = x + 25769803776.0;
+    if v == v {
+        let b = f64::to_bits(v);
+        if b >= 0x4218_0000_0000_0000 {
+            if b < 0x4220_0000_0000_0000 {
+                if b % 0x4_0000 != 0 {
+                    return (b - 0x4218_0000_0000_0000) / 0x4_0000;
+                }
+            }
+        }
     }
     whole_of(x)
 }
@@ -198,7 +205,8 @@ pub fn compute_set_value_curve_sample(
     }
     let k = whole(position) as usize;
     let from = values[k];
-    phases::phase_sum_of(values[k + 1] - from, position - (k as f64), from)
+    // a signed number is quicker to convert
+    phases::phase_sum_of(values[k + 1] - from, position - ((k as i64) as f64), from)
 }
 
 // q, the time t in sample periods from the block's time on.

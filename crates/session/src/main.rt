@@ -3,8 +3,9 @@ ghost use mathlib.Core.Path.{_≡_};
 ghost use Prim.Native.Nat.{ℕ, _+_, _≤_};
 ghost use lib.ListN.{length};
 ghost use Rattle.desk.specs.Desk.{SoundDesk, Spoken};
-ghost use Rattle.lines.specs.Lines.{LineIn};
-ghost use Rattle.session.specs.Session.{Lent, Going, nextTurn, placeFor};
+ghost use Rattle.lines.specs.declared.Next.the-variants as Next;
+ghost use Rattle.lines.specs.Lines.{LineIn, nextOf};
+ghost use Rattle.session.specs.Session.{Lent, Going, Through, nextTurn};
 use desk::Answered;
 use desk::Desk;
 use desk::answer_line;
@@ -26,18 +27,6 @@ struct Session {
     more: bool,
 }
 
-// Room for one more answer: where there is none, those that wait are written.
-fn room(out: &[u8], at: usize) -> usize
-    requires { ⌜ (at ≤ length (now out)) × (42000 ≤ length (now out)) ⌝ }
-    ensures { λ r. ⌜ (r ≡ placeFor (now (out .entry)) at) × (r + 42000 ≤ length (now (out .entry))) ⌝ }
-{
-    if at <= out.len() - 42000 {
-        return at;
-    }
-    io::write_all(STDOUT_FILENO, &out[..at]);
-    0
-}
-
 // The answer to a line, or none where there is none.
 fn answer_next(
     desk: Desk,
@@ -48,11 +37,9 @@ fn answer_next(
     out: &mut [u8],
     at: usize,
 ) -> Answered
-    requires { ⌜ SoundDesk desk × LineIn (now input) next × Lent (now numbers) (now store) (now out) × (at ≤ length (now out)) ⌝ }
-    ensures { λ r. ⌜ Spoken 42000 (nextTurn (now (input .entry)) next) desk (now (store .entry)) (now (out .entry)) (placeFor (now (out .entry)) at) r (now (store .exit)) (now (out .exit)) ⌝ }
-    ensures { λ r. ⌜ r .next ≤ length (now (out .entry)) ⌝ }
+    requires { ⌜ SoundDesk desk × LineIn (now input) next × Lent (now numbers) (now store) (now out) × (at + 42000 ≤ length (now out)) ⌝ }
+    ensures { λ r. ⌜ Spoken 42000 (nextTurn (now (input .entry)) next) desk (now (store .entry)) (now (out .entry)) at r (now (store .exit)) (now (out .exit)) ⌝ }
 {
-    let at = room(out, at);
     match next {
         Next::Line { from, to } => answer_line(desk, &input[from..to], numbers, store, out, at),
         Next::Long => answer_long(desk, out, at),
@@ -60,7 +47,7 @@ fn answer_next(
     }
 }
 
-// Every line of the input that ends in a newline.
+// The lines of the input that end in a newline, until none is left or there is no room for an answer.
 fn answer_lines(
     s: Session,
     input: &[u8],
@@ -70,27 +57,30 @@ fn answer_lines(
 ) -> Session
     requires { ⌜ Going (s .desk) (s .lines) (s .at) (now input) (now numbers) (now store) (now out) ⌝ }
     ensures { λ r. ⌜ Going (r .desk) (r .lines) (r .at) (now (input .entry)) (now (numbers .exit)) (now (store .exit)) (now (out .exit)) ⌝ }
+    ensures { λ r. ⌜ Through (now (input .entry)) (s .desk) (s .lines) (s .at) (now (store .entry)) (now (out .entry)) (r .desk) (r .lines) (r .at) (now (store .exit)) (now (out .exit)) ⌝ }
+    ensures { λ r. ⌜ (r .at + 42000 ≤ length (now (out .entry)) → nextOf (now (input .entry)) (r .lines) .next ≡ Next.None) ⌝ }
 {
     let mut desk = s.desk;
     let mut lines = s.lines;
     let mut at = s.at;
-    loop {
+    while at <= out.len() - 42000 {
         let t = next_line(input, lines);
         let rest = t.lines;
         // no line was taken
         if rest.from == lines.from {
-            return Session {
-                desk,
-                lines,
-                at,
-                more: s.more,
-            };
+            break;
         }
         let next = t.next;
         let r = answer_next(desk, next, input, numbers, store, out, at);
         desk = r.desk;
         lines = rest;
         at = r.next;
+    }
+    Session {
+        desk,
+        lines,
+        at,
+        more: s.more,
     }
 }
 
@@ -104,7 +94,7 @@ fn read_more(input: &mut [u8], at: usize) -> usize
     io::count(got, part)
 }
 
-// Answers the lines that the input has, writes all answers, and reads more.
+// Answers lines and writes the answers, or reads more where no whole line is left.
 fn turn(
     s: Session,
     input: &mut [u8],
@@ -117,11 +107,20 @@ fn turn(
 {
     let s = answer_lines(s, &input[..], numbers, store, out);
     let at = s.at;
-    io::write_all(STDOUT_FILENO, &out[..at]);
+    let desk = s.desk;
+    if 0 < at {
+        io::write_all(STDOUT_FILENO, &out[..at]);
+        let lines = s.lines;
+        return Session {
+            desk,
+            lines,
+            at: 0,
+            more: true,
+        };
+    }
     let left = make_room(input, s.lines);
     let to = left.to;
     let n = read_more(input, to);
-    let desk = s.desk;
     let lines = Lines {
         from: left.from,
         to: to + n,

@@ -1,6 +1,6 @@
 -- The rows are document 01's sheet: the acts of each are those of the table that the checker computes, `bench-sheet` of `rules`. Assumes nothing.
 use mathlib.Core.Path.{_≡_, refl}
-use mathlib.Core.Bool.{Bool, true, false, cond}
+use mathlib.Core.Bool.{cond}
 use mathlib.Core.List.{List, [], _∷_, _++_, map}
 use Prim.Native.Nat.{ℕ, zero, suc}
 use Rattle.rules.specs.Block.{step, linear, exponential, curve, cancel, hold}

@@ -1,4 +1,5 @@
 pub mod Frame
+pub mod Lent
 pub mod Settled
 pub mod Steps
 pub mod Words

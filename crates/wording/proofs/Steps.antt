@@ -17,8 +17,7 @@ use Rattle.text.specs.Floats.{digitsFor, floatText}
 use Rattle.text.specs.Put.{put, Put}
 use Rattle.text.specs.Words.{Word, sameWord, isOver}
 use Rattle.text.proofs.Writing.{put-front, put-then, length-float}
-use Rattle.calls.specs.declared.Call.{Call}
-use Rattle.calls.specs.Language.{Said, ending, Heard}
+use Rattle.calls.specs.Language.{ending}
 use Rattle.decimal.specs.Codes.{codes}
 use Rattle.decimal.specs.Decimals.{before, plainIn}
 use Rattle.decimal.proofs.Reading.{found}
@@ -295,6 +294,3 @@ pub written-is : {l t l′ : List ℕ} {p : ℕ} → Put l 0 t l′ p → p ≤ 
 written-is {l} {t} {l′} {p} v h =
     let k : p ≡ 0 + length t = v .place in
     ap (λ (m : List ℕ). take p m) (v .bytes) ∙ ap (λ (i : ℕ). take i (put l 0 t)) k ∙ put-front l 0 t (omega arith)
-
-pub heard-same : {o q : Option Said} (r : Call) (ns : List Float) → o ≡ q → Heard o r ns → Heard q r ns
-heard-same r ns e v = subst (λ (o : Option Said). Heard o r ns) e v

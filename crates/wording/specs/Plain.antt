@@ -11,7 +11,7 @@ use lib.Ieee.{Float, Format, binary32, binary64}
 use Rattle.text.specs.Digits.{numberIn, decimalOf}
 use Rattle.text.specs.Floats.{floatText}
 use Rattle.text.specs.Words.{Word, sameWord, joined}
-use Rattle.calls.specs.Language.{Said, ending, callOf}
+use Rattle.calls.specs.Language.{ending}
 use Rattle.decimal.specs.Codes.{codes}
 use Rattle.decimal.specs.Decimals.{before, plainIn}
 use Rattle.wording.specs.declared.Kind.{Kind}
@@ -162,10 +162,3 @@ translated (w ∷ ws) = whole w (formed (formIn rows w) ws)
 -- the line in the session language, where it can be read
 unfoldable pub translation : List ℕ → Option (List ℕ)
 translation line = translated (wordsAt (before (code "#") line) 0)
-
-unfoldable pub callIn : Option (List ℕ) → Option Said
-callIn none = none
-callIn (some s) = callOf s
-
-unfoldable pub plainCallOf : List ℕ → Option Said
-plainCallOf line = callIn (translation line)

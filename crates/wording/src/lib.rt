@@ -3,11 +3,8 @@ ghost use mathlib.Core.Path.{_≡_};
 ghost use Prim.Native.Nat.{ℕ, _+_, _-_, _*_, _≤_, _<_};
 ghost use lib.ListN.{length, drop};
 ghost use Rattle.text.specs.Put.{Put};
-ghost use Rattle.wording.specs.Plain.{isBlank, isSmall, wordsAt, spaced, fieldOf, fields, numbers, lengthFor, blockFields, tailOf, formed, formIn, scheduling, rows, translated, translation, plainCallOf};
+ghost use Rattle.wording.specs.Plain.{isBlank, isSmall, wordsAt, spaced, fieldOf, fields, numbers, lengthFor, blockFields, tailOf, formed, formIn, scheduling, rows, translated, translation};
 ghost use Rattle.wording.specs.Walked.{runOf, firstOf, nextAt, Behind, Wrote, Ran, Passed, Inside, Room};
-ghost use Rattle.calls.specs.Language.{Heard};
-use calls::Call;
-use calls::read_call;
 use decimal::read::time_in;
 use decimal::read::value_in;
 use text::read::Double;
@@ -387,15 +384,4 @@ pub fn translate(out: &mut [u8], line: &[u8]) -> Field
 {
     let end = bytes::scan::find(line, 0, line.len(), b'#');
     put_call(out, &line[..end])
-}
-
-// The call of a line, through its translation into `out`; the numbers of a curve or an input are then in front of `numbers`.
-pub fn read_plain(line: &[u8], out: &mut [u8], numbers: &mut [f32]) -> Call
-    requires { ⌜ (21 + 17 * length (now line) ≤ length (now out)) × (5000 ≤ length (now numbers)) ⌝ }
-    ensures { λ r. ⌜ Heard (plainCallOf (now (line .entry))) r (now (numbers .exit)) ⌝ }
-{
-    let Field::To(to) = translate(out, line) else {
-        return Call::Unread;
-    };
-    read_call(&out[..to], numbers)
 }

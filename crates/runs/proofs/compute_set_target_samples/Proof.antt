@@ -25,19 +25,15 @@ is-finite32-requires-2 : tie.Need-is-finite32-requires-2
 is-finite32-requires-2 c κs = search needs
 
 float-to-float-c : tie.Need-float-to-float-c
-float-to-float-c c = let f = fine (c .before) in finite-held _ (f .fits-c) (f .is-c)
+float-to-float-c c = let f = fine (c .before .before) in finite-held _ (f .fits-c) (f .is-c)
 
 float-to-float-a : tie.Need-float-to-float-a
-float-to-float-a c = let f = fine (c .before .before) in finite-held _ (f .fits-a) (f .is-a)
-
-table-requires : tie.Need-table-requires
-table-requires c κs = search needs
+float-to-float-a c = let f = fine (c .before .before .before) in finite-held _ (f .fits-a) (f .is-a)
 
 target-finite-requires : tie.Need-target-finite-requires
 target-finite-requires c κs =
-    let t = c .before .before in
-    let a = asked _ _ (fine (t .before .before .before)) in
-    (t .table .ensures, a .0, a .1, a .2, a .3)
+    let t = c .before .before .before in
+    (t .if3 .taken, asked _ _ (fine (t .before)))
 
 same-length : tie.Need-same-length
 same-length c = search needs
@@ -62,7 +58,6 @@ compute-set-target-samples-spec =
     is-finite32-requires-2
     float-to-float-c
     float-to-float-a
-    table-requires
     target-finite-requires
     same-length
     returns

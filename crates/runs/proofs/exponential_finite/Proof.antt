@@ -1,73 +1,72 @@
--- `runs::exponential_finite` meets its contract. Assumes nothing.
+-- `runs::exponential_finite` meets its contract: the second pass reads what the first wrote. Assumes nothing.
 use borrow.Author.Needs.{needs}
-use mathlib.Core.Path.{_≡_}
-use Prim.Native.Nat.{_-_}
-use native.Mathlib.Omega.{arith}
+use mathlib.Core.Path.{_≡_, ap, _∙_}
+use Prim.Native.Nat.{_≤_}
 use lib.ListN.{length}
-use lib.Ieee.{Float}
-use Rattle.rules.specs.Samples.{phaseOf}
+use lib.Ieee.{Float, binary64, mul}
+use Rattle.rules.specs.Numbers.{narrowed}
+use Rattle.rules.specs.Samples.{phaseOf, factorOf}
 use Rattle.samples.specs.At.{exponentialOver}
-use Rattle.runs.proofs.Filling.{Filled, none-filled, one-more, filled-length, all-filled}
+use Rattle.runs.specs.Passes.{each}
+use Rattle.runs.proofs.Passing.{each-run, prefix-length, read-back, room, as-many}
 use Rattle.runs.proofs.exponential_finite.Statement.{statement}
 use Rattle.runs.proofs.exponential_finite.Tie as tie
 
-abbrev Inv-loop : tie.InvT-loop
-Inv-loop out₀ table start-time duration «from» l time dt i₀ t₀ out i t = Filled (exponentialOver start-time duration «from» l) dt time out₀ out i t
+abbrev start : tie.After-phases-of → tie.Start
+start f = f .before .before .before
 
-abbrev μ-loop : tie.MeasureT-loop
-μ-loop out₀ table start-time duration «from» l time dt i₀ t₀ out i t = length out₀ - i
+abbrev phases : tie.After-phases-of → Float → Float
+phases f = phaseOf (start f .args .start-time) (start f .args .duration)
 
-abbrev sample : tie.Start Inv-loop μ-loop → Float → Float
-sample s = let a = s .args in exponentialOver (a .start-time) (a .duration) (a .«from») (a .l)
+few : (f : tie.After-phases-of) → length (start f .args .out .now) ≤ 128
+few f = start f .pre .0
 
-kept : (c : tie.At-loop Inv-loop μ-loop) → length (c .loop .out) ≡ length (c .before .before .args .out .now)
-kept c = let s = c .before .before in filled-length (sample s) (s .args .dt) (s .args .time) (c .loop .inv)
+array-borrow-prefix-xs : tie.Need-array-borrow-prefix-xs
+array-borrow-prefix-xs c = search needs
 
-loop-holds : tie.Need-loop-holds Inv-loop μ-loop
-loop-holds c = let a = c .before .args in none-filled (sample (c .before)) (a .dt) (a .time) (a .out .now)
+slice-aggregate-phases-of : tie.Need-slice-aggregate-phases-of
+slice-aggregate-phases-of c = prefix-length _ _ (c .before .before .pre .0)
 
-grown-by-requires : tie.Need-grown-by-requires Inv-loop μ-loop
-grown-by-requires c κs = c .before .before .before .pre
+phases-of-requires : tie.Need-phases-of-requires
+phases-of-requires c κs = search needs
 
-mul-out : tie.Need-mul-out Inv-loop μ-loop
-mul-out c = search needs
+table-requires : tie.Need-table-requires
+table-requires c κs = search needs
 
-slice-write-out : tie.Need-slice-write-out Inv-loop μ-loop
-slice-write-out c = c .before .loop-test .taken
+array-share-prefix-xs : tie.Need-array-share-prefix-xs
+array-share-prefix-xs c = let f = c .before .before .before in room (phases f) (start f .args .dt) (length (start f .args .out .now)) (start f .args .time) _ _ (few f) (f .phases-of .ensures)
 
-add-i : tie.Need-add-i Inv-loop μ-loop
-add-i c = omega (arith, kept (c .before .before))
+slice-aggregate-exponential-over : tie.Need-slice-aggregate-exponential-over
+slice-aggregate-exponential-over c = let f = c .before .before .before .before in as-many (phases f) (start f .args .dt) (length (start f .args .out .now)) (start f .args .time) _ _ (few f) (f .phases-of .ensures)
 
-loop-less : tie.Need-loop-less Inv-loop μ-loop
-loop-less c = omega (arith, kept (c .before .before))
+exponential-over-requires : tie.Need-exponential-over-requires
+exponential-over-requires c κs =
+    let f = c .before .before .before .before .before in
+    let p = start f .pre in
+    (as-many (phases f) (start f .args .dt) (length (start f .args .out .now)) (start f .args .time) _ _ (few f) (f .phases-of .ensures), c .before .before .before .table .ensures, p .1)
 
-loop-again : tie.Need-loop-again Inv-loop μ-loop
-unfolding exponentialOver phaseOf
-loop-again c =
-    let l = c .before .before .loop in
-    let s = c .before .before .before .before in
-    one-more (sample s) (s .args .dt) (s .args .time) (l .inv) (omega (arith, kept (c .before .before))) (c .grown-by .result) (c .grown-by .ensures)
+same-length : tie.Need-same-length
+same-length c = search needs
 
-same-length : tie.Need-same-length Inv-loop μ-loop
-same-length c = kept (c .before)
-
-returns : tie.Need-returns Inv-loop μ-loop
+returns : tie.Need-returns
+unfolding exponentialOver
 returns c =
-    let s = c .before .before .before in
-    all-filled (sample s) (s .args .dt) (s .args .time) (c .before .loop .inv) (omega (arith, kept (c .before)))
+    let f = c .before .before .before .before .before .before .before .before in
+    let a = start f .args in
+    c .before .before .exponential-over .ensures
+    ∙ ap (each (λ x. narrowed (mul binary64 (a .«from») (factorOf (mul binary64 (a .l) x))))) (read-back (phases f) (start f .args .dt) (length (start f .args .out .now)) (start f .args .time) _ _ (few f) (f .phases-of .ensures))
+    ∙ each-run (λ x. narrowed (mul binary64 (a .«from») (factorOf (mul binary64 (a .l) x)))) (phaseOf (a .start-time) (a .duration)) (a .dt) (length (a .out .now)) (a .time)
 
 pub exponential-finite-spec : {M : Type 1} → statement M
 exponential-finite-spec =
     tie.close
     (tie.spec
-    Inv-loop
-    μ-loop
-    loop-holds
-    grown-by-requires
-    mul-out
-    slice-write-out
-    add-i
-    loop-less
-    loop-again
+    array-borrow-prefix-xs
+    slice-aggregate-phases-of
+    phases-of-requires
+    table-requires
+    array-share-prefix-xs
+    slice-aggregate-exponential-over
+    exponential-over-requires
     same-length
     returns)

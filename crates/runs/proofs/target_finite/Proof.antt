@@ -1,72 +1,73 @@
--- `runs::target_finite` meets its contract. Assumes nothing.
+-- `runs::target_finite` meets its contract: the second pass reads what the first wrote. Assumes nothing.
 use borrow.Author.Needs.{needs}
-use mathlib.Core.Path.{_≡_}
-use Prim.Native.Nat.{_-_}
-use native.Mathlib.Omega.{arith}
+use mathlib.Core.Path.{_≡_, ap, _∙_}
+use mathlib.Core.List.{List}
+use Prim.Native.Nat.{_≤_}
 use lib.ListN.{length}
 use lib.Ieee.{Float}
+use Rattle.rules.specs.Samples.{phaseOf}
 use Rattle.rules.specs.Walk.{fromStart}
 use Rattle.samples.specs.At.{targetAt}
-use Rattle.runs.proofs.Filling.{Filled, none-filled, one-more, filled-length, all-filled}
+use Rattle.runs.specs.Passes.{timed, fadedAt}
+use Rattle.runs.proofs.Passing.{timed-run, prefix-length, read-back, room, as-many}
 use Rattle.runs.proofs.target_finite.Statement.{statement}
 use Rattle.runs.proofs.target_finite.Tie as tie
 
-abbrev Inv-loop : tie.InvT-loop
-Inv-loop out₀ table start-time time-constant «c» a intrinsic time dt i₀ t₀ out i t = Filled (fromStart start-time intrinsic (targetAt start-time time-constant «c» a)) dt time out₀ out i t
+abbrev start : tie.After-phases-of → tie.Start
+start f = f .before .before .before
 
-abbrev μ-loop : tie.MeasureT-loop
-μ-loop out₀ table start-time time-constant «c» a intrinsic time dt i₀ t₀ out i t = length out₀ - i
+abbrev phases : tie.After-phases-of → Float → Float
+phases f = phaseOf (start f .args .start-time) (start f .args .time-constant)
 
-abbrev sample : tie.Start Inv-loop μ-loop → Float → Float
-sample s = let a = s .args in fromStart (a .start-time) (a .intrinsic) (targetAt (a .start-time) (a .time-constant) (a .«c») (a .a))
+few : (f : tie.After-phases-of) → length (start f .args .out .now) ≤ 128
+few f = start f .pre .0
 
-kept : (c : tie.At-loop Inv-loop μ-loop) → length (c .loop .out) ≡ length (c .before .before .args .out .now)
-kept c = let s = c .before .before in filled-length (sample s) (s .args .dt) (s .args .time) (c .loop .inv)
+array-borrow-prefix-xs : tie.Need-array-borrow-prefix-xs
+array-borrow-prefix-xs c = search needs
 
-loop-holds : tie.Need-loop-holds Inv-loop μ-loop
-loop-holds c = let a = c .before .args in none-filled (sample (c .before)) (a .dt) (a .time) (a .out .now)
+slice-aggregate-phases-of : tie.Need-slice-aggregate-phases-of
+slice-aggregate-phases-of c = prefix-length _ _ (c .before .before .pre .0)
 
-target-by-requires : tie.Need-target-by-requires Inv-loop μ-loop
-target-by-requires c κs = c .before .before .before .pre
+phases-of-requires : tie.Need-phases-of-requires
+phases-of-requires c κs = search needs
 
-mul-out : tie.Need-mul-out Inv-loop μ-loop
-mul-out c = search needs
+table-requires : tie.Need-table-requires
+table-requires c κs = search needs
 
-slice-write-out : tie.Need-slice-write-out Inv-loop μ-loop
-slice-write-out c = c .before .loop-test .taken
+array-share-prefix-xs : tie.Need-array-share-prefix-xs
+array-share-prefix-xs c = let f = c .before .before .before in room (phases f) (start f .args .dt) (length (start f .args .out .now)) (start f .args .time) _ _ (few f) (f .phases-of .ensures)
 
-add-i : tie.Need-add-i Inv-loop μ-loop
-add-i c = omega (arith, kept (c .before .before))
+slice-aggregate-target-over : tie.Need-slice-aggregate-target-over
+slice-aggregate-target-over c = let f = c .before .before .before .before in as-many (phases f) (start f .args .dt) (length (start f .args .out .now)) (start f .args .time) _ _ (few f) (f .phases-of .ensures)
 
-loop-less : tie.Need-loop-less Inv-loop μ-loop
-loop-less c = omega (arith, kept (c .before .before))
+target-over-requires : tie.Need-target-over-requires
+target-over-requires c κs =
+    let f = c .before .before .before .before .before in
+    let p = start f .pre in
+    (as-many (phases f) (start f .args .dt) (length (start f .args .out .now)) (start f .args .time) _ _ (few f) (f .phases-of .ensures), (c .before .before .before .table .ensures, p .1 .0, p .1 .1, p .1 .2, p .1 .3))
 
-loop-again : tie.Need-loop-again Inv-loop μ-loop
-loop-again c =
-    let l = c .before .before .loop in
-    let s = c .before .before .before .before in
-    one-more (sample s) (s .args .dt) (s .args .time) (l .inv) (omega (arith, kept (c .before .before))) (c .target-by .result) (c .target-by .ensures)
+same-length : tie.Need-same-length
+same-length c = search needs
 
-same-length : tie.Need-same-length Inv-loop μ-loop
-same-length c = kept (c .before)
-
-returns : tie.Need-returns Inv-loop μ-loop
+returns : tie.Need-returns
+unfolding fadedAt fromStart targetAt
 returns c =
-    let s = c .before .before .before in
-    all-filled (sample s) (s .args .dt) (s .args .time) (c .before .loop .inv) (omega (arith, kept (c .before)))
+    let f = c .before .before .before .before .before .before .before .before in
+    let a = start f .args in
+    c .before .before .target-over .ensures
+    ∙ ap (λ (xs : List Float). timed (fadedAt (a .start-time) (a .intrinsic) (a .«c») (a .a)) (a .dt) xs (a .time)) (read-back (phases f) (start f .args .dt) (length (start f .args .out .now)) (start f .args .time) _ _ (few f) (f .phases-of .ensures))
+    ∙ timed-run (fadedAt (a .start-time) (a .intrinsic) (a .«c») (a .a)) (a .dt) (phaseOf (a .start-time) (a .time-constant)) (length (a .out .now)) (a .time)
 
 pub target-finite-spec : {M : Type 1} → statement M
 target-finite-spec =
     tie.close
     (tie.spec
-    Inv-loop
-    μ-loop
-    loop-holds
-    target-by-requires
-    mul-out
-    slice-write-out
-    add-i
-    loop-less
-    loop-again
+    array-borrow-prefix-xs
+    slice-aggregate-phases-of
+    phases-of-requires
+    table-requires
+    array-share-prefix-xs
+    slice-aggregate-target-over
+    target-over-requires
     same-length
     returns)

@@ -2,12 +2,16 @@
 use borrow.Author.Needs.{needs}
 use mathlib.Core.Path.{_≡_, refl, _∙_}
 use Prim.Native.Nat.{ℕ, _+_, _-_, _^_, _≤_, _<_}
+use native.Mathlib.Nat.{lt-of-lt-of-le}
 use native.Mathlib.Omega.{arith}
 use borrow.Author.Tests.{le-leb}
-use lib.Dec.{T}
+use lib.Dec.{T, lit≤}
 use lib.ListN.{length}
 use lib.IntN.{pos}
 use lib.Ieee.{inFloat, binary64, ofInt}
+use mir.Syntax.{w64}
+use mir.Val.{toZ}
+use mir.Facts.{toZ-pos}
 use Rattle.rules.specs.Numbers.{wide}
 use Rattle.samples.proofs.Curve.{curve-ended, curve-full, inside, curve-between}
 use Rattle.samples.proofs.compute_set_value_curve_sample.Lts as lts
@@ -81,8 +85,15 @@ mul-phase-sum-of c = omega (arith, next (c .before))
 shared-slice-read-phase-sum-of : tie.Need-shared-slice-read-phase-sum-of
 shared-slice-read-phase-sum-of c = next (c .before .before) .0
 
+-- signed, it is the same number
+same : (w : tie.After-whole) → toZ w64 (w .whole .result) ≡ pos (w .whole .result)
+same w = toZ-pos w64 (lt-of-lt-of-le (next w .1) (lit≤ tt))
+
+cast-phase-sum-of : tie.Need-cast-phase-sum-of
+cast-phase-sum-of c = record { sfits = lt-of-lt-of-le (next (c .before .before) .1) (lit≤ tt) }
+
 int-to-float-phase-sum-of : tie.Need-int-to-float-phase-sum-of
-int-to-float-phase-sum-of c = let w = c .before .before .before in small (w .whole .result) (omega (arith, next w))
+int-to-float-phase-sum-of c = let w = c .before .before .before in rw (same w) (small (w .whole .result) (omega (arith, next w)))
 
 phase-sum-of-requires : tie.Need-phase-sum-of-requires
 phase-sum-of-requires c κs = search needs
@@ -95,7 +106,7 @@ returns-3 c =
     let s = e .before .before in
     let a = s .args in
     c .phase-sum-of .ensures
-    ∙ curve-between (a .values .now) (a .start-time) (a .duration) (a .time) (s .pre .0) (s .pre .1) (e .if1 .left) (w .before .if2 .left) (w .whole .result) _ _ _ (w .whole .ensures) refl refl refl
+    ∙ curve-between (a .values .now) (a .start-time) (a .duration) (a .time) (s .pre .0) (s .pre .1) (e .if1 .left) (w .before .if2 .left) (w .whole .result) _ _ _ (w .whole .ensures) refl refl (rw (same w) refl)
 
 pub compute-set-value-curve-sample-spec : {M : Type 1} → statement M
 compute-set-value-curve-sample-spec =
@@ -116,6 +127,7 @@ compute-set-value-curve-sample-spec =
     add-phase-sum-of
     mul-phase-sum-of
     shared-slice-read-phase-sum-of
+    cast-phase-sum-of
     int-to-float-phase-sum-of
     phase-sum-of-requires
     returns-3)

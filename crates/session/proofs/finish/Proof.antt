@@ -1,6 +1,5 @@
 -- `session::finish` meets its contract: its last answer lies in the buffer. Assumes nothing.
 use mathlib.Core.Path.{sym, subst}
-use Prim.Native.Nat.{zero-le}
 use native.Mathlib.Omega.{arith}
 use lib.Seq.{length-take-le}
 use Rattle.lines.specs.Lines.{LineIn}
@@ -20,7 +19,7 @@ last-line-requires c κs = search needs
 answer-next-requires : tie.Need-answer-next-requires
 answer-next-requires c κs =
     let g = c .before .before .before .before .before .before .before .before .before .pre in
-    (g .desk, subst (LineIn _) (sym (c .before .before .before .last-line .ensures)) (last-in _ _ (g .lines)), g .lent, zero-le)
+    (g .desk, subst (LineIn _) (sym (c .before .before .before .last-line .ensures)) (last-in _ _ (g .lines)), g .lent, g .lent .out-long)
 
 slice-reshare-prefix-write-all : tie.Need-slice-reshare-prefix-write-all
 slice-reshare-prefix-write-all c = search needs
@@ -28,7 +27,7 @@ slice-reshare-prefix-write-all c = search needs
 slice-aggregate-write-all : tie.Need-slice-aggregate-write-all
 slice-aggregate-write-all c =
     let r = c .before .before .before .before .before .before .before .answer-next in
-    sym (length-take-le (r .result .next) (r .last .1 .1 .1 .1 .1 .0) (omega (arith, r .ensures .1, r .kept .1 .1 .1 .1 .1 .0)))
+    sym (length-take-le (r .result .next) (r .last .1 .1 .1 .1 .1 .0) (omega (arith, r .ensures .room, r .kept .1 .1 .1 .1 .1 .0, c .before .before .before .before .before .before .before .before .before .before .before .before .before .before .before .before .before .pre .lent .out-long)))
 
 write-all-requires : tie.Need-write-all-requires
 write-all-requires c κs = search needs

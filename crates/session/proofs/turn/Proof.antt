@@ -3,7 +3,7 @@ use mathlib.Core.Path.{sym}
 use Prim.Native.Nat.{zero-le}
 use native.Mathlib.Omega.{arith}
 use lib.Seq.{length-take-le}
-use Rattle.session.proofs.Steps.{left-within}
+use Rattle.lines.proofs.Taking.{left-within}
 use borrow.Author.Needs.{needs}
 use Rattle.session.proofs.turn.Statement.{statement}
 use Rattle.session.proofs.turn.Tie as tie
@@ -21,19 +21,10 @@ slice-reshare-prefix-write-all : tie.Need-slice-reshare-prefix-write-all
 slice-reshare-prefix-write-all c = search needs
 
 slice-aggregate-write-all : tie.Need-slice-aggregate-write-all
-slice-aggregate-write-all c = let r = c .before .before .before .before .before .before .before .answer-lines in sym (length-take-le (r .result .at) (r .last .1 .1 .1 .1 .0) (r .ensures .at))
+slice-aggregate-write-all c = let r = c .before .before .before .before .before .before .before .before .before .answer-lines in sym (length-take-le (r .result .at) (r .last .1 .1 .1 .1 .0) (r .ensures .0 .at))
 
 write-all-requires : tie.Need-write-all-requires
 write-all-requires c κs = search needs
-
-make-room-requires : tie.Need-make-room-requires
-make-room-requires c κs = search needs
-
-read-more-requires : tie.Need-read-more-requires
-read-more-requires c κs = left-within _ _ (c .before .before .before .make-room .ensures) (c .before .before .before .before .before .before .before .before .before .before .before .before .before .answer-lines .ensures .lines) .inside
-
-add-t28 : tie.Need-add-t28
-add-t28 c = record { fits = omega (arith, c .before .before .before .read-more .ensures, c .before .before .before .before .before .before .before .make-room .kept .0, c .before .before .before .before .before .before .before .before .before .before .before .before .before .before .before .before .before .before .before .before .before .before .before .before .before .before .good .1 .0 .0) }
 
 same-length : tie.Need-same-length
 same-length c = search needs
@@ -48,12 +39,36 @@ same-length-4 : tie.Need-same-length-4
 same-length-4 c = search needs
 
 returns : tie.Need-returns
-returns c =
-    let r = c .before .before .before .before .before .before .before .before .before .before .before .before .before .before .before .before .before .answer-lines .ensures in
-    let w = left-within _ _ (c .before .before .before .before .before .before .before .make-room .ensures) (r .lines) in
+returns c = search needs
+
+make-room-requires : tie.Need-make-room-requires
+make-room-requires c κs = search needs
+
+read-more-requires : tie.Need-read-more-requires
+read-more-requires c κs = left-within _ _ (c .before .before .before .make-room .ensures) (c .before .before .before .before .before .before .before .before .before .before .before .before .before .answer-lines .ensures .0 .lines) .inside
+
+add-t30 : tie.Need-add-t30
+add-t30 c = record { fits = omega (arith, c .before .before .read-more .ensures, c .before .before .before .before .before .before .make-room .kept .0, c .before .before .before .before .before .before .before .before .before .before .before .before .before .before .before .before .before .before .before .before .before .before .before .before .before .good .1 .0 .0) }
+
+same-length-5 : tie.Need-same-length-5
+same-length-5 c = search needs
+
+same-length-6 : tie.Need-same-length-6
+same-length-6 c = search needs
+
+same-length-7 : tie.Need-same-length-7
+same-length-7 c = search needs
+
+same-length-8 : tie.Need-same-length-8
+same-length-8 c = search needs
+
+returns-2 : tie.Need-returns-2
+returns-2 c =
+    let r = c .before .before .before .before .before .before .before .before .before .before .before .before .before .before .before .before .answer-lines .ensures .0 in
+    let w = left-within _ _ (c .before .before .before .before .before .before .make-room .ensures) (r .lines) in
     record {
       desk = r .desk;
-      lines = record { ordered = omega (arith, w .ordered); inside = omega (arith, c .before .before .before .read-more .ensures, c .before .before .before .read-more .kept .0) };
+      lines = record { ordered = omega (arith, w .ordered); inside = omega (arith, c .before .before .read-more .ensures, c .before .before .read-more .kept .0) };
       at = zero-le;
       lent = r .lent;
     }
@@ -66,11 +81,16 @@ turn-spec =
     slice-reshare-prefix-write-all
     slice-aggregate-write-all
     write-all-requires
-    make-room-requires
-    read-more-requires
-    add-t28
     same-length
     same-length-2
     same-length-3
     same-length-4
-    returns)
+    returns
+    make-room-requires
+    read-more-requires
+    add-t30
+    same-length-5
+    same-length-6
+    same-length-7
+    same-length-8
+    returns-2)

@@ -1,98 +1,71 @@
--- `from_parts` meets its contract: with i events taken, the outcome is that of the first i. Assumes nothing.
-use mathlib.Core.Path.{_≡_, refl, sym, _∙_}
-use Prim.Native.Nat.{_≤_, _-_}
+-- `from_parts` meets its contract. Assumes nothing.
+use mathlib.Core.Path.{refl}
 use native.Mathlib.Omega.{arith}
-use lib.ListN.{length, length-map}
-use borrow.Author.Needs.{needs}
-use denote.Struct.Laws as LL
-use Rattle.rules.specs.Numbers.{mostEvents}
-use Rattle.timeline.proofs.AudioParamEventTimeline.Laws as TL
-use Rattle.timeline.proofs.AudioParamEventTimeline as T
 use Rattle.param.specs.declared.AudioParam.{AudioParam}
-use Rattle.param.specs.Param.{partsOf, Restores}
-use Rattle.param.proofs.Parts.{upTo, too-many, restores-not, restores-refused, restores-next, restores-all, slot-next}
+use Rattle.param.specs.Param.{partsOf}
+use Rattle.param.proofs.Parts.{too-many, restores-not, restores-all, restores-none}
+use borrow.Author.Needs.{needs}
 use Rattle.param.proofs.AudioParam.from_parts.Statement.{statement}
 use Rattle.param.proofs.AudioParam.from_parts.Tie as tie
 
-abbrev Inv-loop : tie.InvT-loop
-Inv-loop intrinsic timeline n r₀ i₀ r i = (i ≤ n) × ((parts : AudioParam) → parts .timeline ≡ timeline → Restores (upTo parts 0) r₀ → Restores (upTo parts i) r)
+abbrev parts : tie.Start → AudioParam
+parts c = let a = c .args in partsOf (a .bounds) (a .rate) (a .intrinsic) (a .timeline) (a .block) (a .last)
 
-abbrev μ-loop : tie.MeasureT-loop
-μ-loop intrinsic timeline n r₀ i₀ r i = n - i
-
-abbrev parts : tie.Start Inv-loop μ-loop → AudioParam
-parts c = partsOf (c .args .bounds) (c .args .rate) (c .args .intrinsic) (c .args .t4) (c .args .block) (c .args .last)
-
-so-far : (c : tie.At-loop Inv-loop μ-loop) → Restores (upTo (parts (c .before .before .before)) (c .loop .i)) (c .loop .r)
-so-far c = c .loop .inv .1 (parts (c .before .before .before)) refl (c .before .without-events .ensures)
-
--- an array of 64 has 64 elements
-slots : (c : tie.Start Inv-loop μ-loop) → length (c .args .t4 .slots) ≡ mostEvents
-slots c =
-    sym (length-map (c .args .t4 .slots) _) ∙ LL.owed T.the-type TL.the-laws (c .args .t4) _ (c .good .1 .1 .1 .0) .0 .1 .0 .1
-
-refused-requires : tie.Need-refused-requires Inv-loop μ-loop
+refused-requires : tie.Need-refused-requires
 refused-requires c κs = search needs
 
-returns : tie.Need-returns Inv-loop μ-loop
-returns c = restores-not (too-many (parts (c .before .before)) (c .before .if1 .taken)) (c .refused .ensures)
+returns : tie.Need-returns
+returns c = restores-not (too-many (parts (c .before .before .before)) (c .before .if1 .taken)) (c .refused .ensures)
 
-without-events-requires : tie.Need-without-events-requires Inv-loop μ-loop
-without-events-requires c κs = search needs
+take-requires : tie.Need-take-requires
+take-requires c κs = search needs
 
-loop-holds : tie.Need-loop-holds Inv-loop μ-loop
-loop-holds c = (omega arith, λ p e h. h)
+is-last-clear-requires : tie.Need-is-last-clear-requires
+is-last-clear-requires c κs = search needs
 
-enum-told : tie.Need-enum-told Inv-loop μ-loop
-enum-told c = search needs
+is-number-if-any-requires : tie.Need-is-number-if-any-requires
+is-number-if-any-requires c κs = search needs
 
-enum-told-2 : tie.Need-enum-told-2 Inv-loop μ-loop
-enum-told-2 c = search needs
+are-bounds-requires : tie.Need-are-bounds-requires
+are-bounds-requires c κs = search needs
 
-returns-2 : tie.Need-returns-2 Inv-loop μ-loop
-returns-2 c = restores-refused (parts (c .before .before .before .before .before .before)) (c .before .before .before .loop .i) (c .before .before .before .loop .r) (so-far (c .before .before .before)) (c .enum-told2 .given .1)
+refused-requires-2 : tie.Need-refused-requires-2
+refused-requires-2 c κs = search needs
 
-mul-s : tie.Need-mul-s Inv-loop μ-loop
-mul-s c = search needs
+returns-2 : tie.Need-returns-2
+returns-2 c =
+    restores-all
+    (parts (c .before .before .before .before .before .before .before .before))
+    (omega arith)
+    (c .before .before .before .before .before .take .ensures)
+    (c .before .before .are-bounds .ensures)
+    (c .before .before .before .before .is-last-clear .ensures)
+    (c .before .before .before .is-number-if-any .ensures)
+    (c .before .if2 .taken)
+    refl
 
-element-copy-out-s : tie.Need-element-copy-out-s Inv-loop μ-loop
-element-copy-out-s c = search needs
-
-with-event-requires : tie.Need-with-event-requires Inv-loop μ-loop
-with-event-requires c κs = so-far (c .before .before .before .before .before) .sound
-
-add-i : tie.Need-add-i Inv-loop μ-loop
-add-i c = search needs
-
-loop-less : tie.Need-loop-less Inv-loop μ-loop
-loop-less c = search needs
-
-loop-again : tie.Need-loop-again Inv-loop μ-loop
-loop-again c =
-    let here = c .before .before .before .before .before .before in
-    let start = here .before .before .before in
-    (omega arith, λ p e h. restores-next p (here .loop .i) (here .loop .r) (here .loop .inv .1 p e h) _ (c .before .before .before .enum-told .given .1) (rw e (slot-next (start .args .t4) (here .loop .i) (slots start) (omega arith) (omega arith))) (c .with-event .ensures))
-
-returns-3 : tie.Need-returns-3 Inv-loop μ-loop
-returns-3 c = restores-all (parts (c .before .before .before .before)) (c .before .loop .i) (c .before .loop .r) (so-far (c .before)) (omega arith) (omega arith)
+returns-3 : tie.Need-returns-3
+returns-3 c =
+    restores-none
+    (parts (c .before .before .before .before .before .before .before .before))
+    (omega arith)
+    (c .before .before .before .before .before .take .ensures)
+    (c .before .before .are-bounds .ensures)
+    (c .before .before .before .before .is-last-clear .ensures)
+    (c .before .before .before .is-number-if-any .ensures)
+    (c .before .if2 .left)
+    (c .refused2 .ensures)
 
 pub from-parts-spec : {M : Type 1} → statement M
 from-parts-spec =
     tie.close
     (tie.spec
-    Inv-loop
-    μ-loop
     refused-requires
     returns
-    without-events-requires
-    loop-holds
-    enum-told
-    enum-told-2
+    take-requires
+    is-last-clear-requires
+    is-number-if-any-requires
+    are-bounds-requires
+    refused-requires-2
     returns-2
-    mul-s
-    element-copy-out-s
-    with-event-requires
-    add-i
-    loop-less
-    loop-again
     returns-3)

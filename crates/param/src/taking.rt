@@ -1,0 +1,50 @@
+// Events from outside, taken as a queue.
+ghost use Prim.Native.Nat.{_≤_};
+ghost use Rattle.rules.specs.Numbers.{mostEvents};
+ghost use Rattle.param.specs.Takes.{Takes};
+use crate::AudioParam;
+use refusals::sound::is_clear;
+use timeline::AudioParamEventTimeline;
+use timeline::filed_under;
+use timeline::length_of;
+
+// Whether the calls could have left these events, and then the queue in which they wait.
+pub struct Taken {
+    pub sound: bool,
+    pub queue: AudioParamEventTimeline,
+}
+
+// The events of a timeline, whose slots behind its length do not count.
+pub fn take(q: AudioParamEventTimeline) -> Taken
+    requires { ⌜ q .len ≤ mostEvents ⌝ }
+    ensures { λ r. ⌜ Takes q r ⌝ }
+{
+    let empty = AudioParamEventTimeline::new();
+    let mut slots = empty.slots;
+    let len = q.len;
+    let mut used = 0usize;
+    // the time of the event before: at first none is before it
+    let mut before = f64::from_bits(0xfff0_0000_0000_0000);
+    let mut i = 0usize;
+    while i < len {
+        let s = q.slots[i];
+        let e = s.event;
+        let time = filed_under(e);
+        let size = length_of(e);
+        let fits = (before <= time) & (is_clear(e) & (size <= AudioParam::STORE - used));
+        if !fits {
+            return Taken {
+                sound: false,
+                queue: AudioParamEventTimeline { slots, len },
+            };
+        }
+        slots[i] = s;
+        used += size;
+        before = time;
+        i += 1;
+    }
+    Taken {
+        sound: true,
+        queue: AudioParamEventTimeline { slots, len },
+    }
+}

@@ -1,0 +1,88 @@
+/* One audio parameter, proved: its scheduling calls and its block renderer.
+ *
+ * The caller owns all memory: a state of 395 numbers and a curve store of 4,096 floats, both for one parameter. Neither is
+ * allocated, kept or freed here; a state can be copied, stored and compared like any array of numbers.
+ *
+ * Every function answers 0, or why it is refused: a number of document 01 (they stand below), or 100 where the
+ * state is none of a parameter: its length is not 395, or these calls could not have left it. Where a call is refused nothing
+ * changes; crackledray_make is the exception that its own comment names. No number that is passed is out of bounds for a
+ * function: each is answered or refused.
+ *
+ * Assumed, and not tested: an x86-64 program; floats rounded to nearest, ties to even, with subnormals on (MXCSR as a program
+ * starts with it: no flush to zero, no denormals are zero); each pointer is good for as many numbers as the length behind it
+ * says, and not null where that is 0; what is written (no const) overlaps nothing else that is passed.
+ */
+#ifndef CRACKLEDRAY_H
+#define CRACKLEDRAY_H
+
+#include <stdbool.h>
+#include <stddef.h>
+#include <stdint.h>
+
+#ifdef __cplusplus
+extern "C" {
+#endif
+
+enum {
+    CRACKLEDRAY_STATE = 395,  /* numbers of a state */
+    CRACKLEDRAY_STORE = 4096, /* floats of a curve store, and of all waiting curves */
+    CRACKLEDRAY_EVENTS = 64,  /* events that can wait */
+    CRACKLEDRAY_COUNT = 128   /* samples of a block, at most */
+};
+
+/* What a call answers. Where several apply, the lowest is given. */
+enum {
+    CRACKLEDRAY_ANSWERED = 0,
+    CRACKLEDRAY_BOUNDS = 1,        /* a bound or the default is not finite, or not min <= default <= max */
+    CRACKLEDRAY_NOT_FINITE = 2,    /* a value, time, time constant, duration or curve number is not finite */
+    CRACKLEDRAY_BEFORE_ZERO = 3,   /* a scheduled or cancel time is below 0 */
+    CRACKLEDRAY_NOT_ABOVE = 4,     /* a time constant below 0, or a duration not above 0 */
+    CRACKLEDRAY_ZERO_TARGET = 5,   /* an exponential ramp to 0 */
+    CRACKLEDRAY_SHORT_CURVE = 6,   /* a curve of fewer than 2 numbers */
+    CRACKLEDRAY_QUEUE_FULL = 7,    /* 64 events wait */
+    CRACKLEDRAY_STORE_FULL = 8,    /* the waiting curves and this one have more than 4,096 numbers */
+    CRACKLEDRAY_BAD_BLOCK = 9,     /* block time, sample period, count, or the lengths of input and output */
+    CRACKLEDRAY_OUT_OF_ORDER = 10, /* a block before the last answered one */
+    CRACKLEDRAY_BAD_STORE = 14,    /* the curve store has not 4,096 floats */
+    CRACKLEDRAY_BAD_STATE = 100    /* the state is none of a parameter (not document 01's) */
+};
+
+/* Makes a parameter; K-rate where k_rate, else A-rate. The state may hold anything before. Refused by 1 the state is that of an
+ * A-rate parameter with all numbers 0; by 100 it stays as it is. The curve store of a new parameter may hold anything. */
+uint32_t crackledray_make(uint64_t *state, size_t state_length, float min, float default_value, float max, bool k_rate);
+
+/* An immediate set: a step at time 0. */
+uint32_t crackledray_set(uint64_t *state, size_t state_length, float value);
+
+/* A step to the value at the time. */
+uint32_t crackledray_step(uint64_t *state, size_t state_length, float value, double time);
+
+/* A ramp that reaches the value at the time. */
+uint32_t crackledray_linear(uint64_t *state, size_t state_length, float value, double time);
+uint32_t crackledray_exponential(uint64_t *state, size_t state_length, float value, double time);
+
+/* From the time on, towards the value, with a time constant; 0 makes it a step. */
+uint32_t crackledray_target(uint64_t *state, size_t state_length, float value, double time, double constant);
+
+/* From the time on, over the duration, through the numbers, with straight lines between them. They are copied. */
+uint32_t crackledray_curve(uint64_t *state, size_t state_length, const float *values, size_t values_length, double time,
+                           double duration, float *store, size_t store_length);
+
+/* Removes every event at the time or later. */
+uint32_t crackledray_cancel(uint64_t *state, size_t state_length, double time, float *store, size_t store_length);
+
+/* The same, but what runs at the time is held there. */
+uint32_t crackledray_hold(uint64_t *state, size_t state_length, double time, float *store, size_t store_length);
+
+/* One block: count samples (1 to 128) from the time on, a sample period apart, into the first places of the output; the other
+ * places stay. The input is mixed in: count numbers, or none for silence. steps: events walked, at most 129. current: the value
+ * before the block. one: all samples are one value. Refused, these are 0, 0 and false, and by 100 they stay as they are. */
+uint32_t crackledray_block(uint64_t *state, size_t state_length, double time, double period, size_t count, const float *input,
+                           size_t input_length, float *output, size_t output_length, float *store, size_t store_length,
+                           size_t *steps, float *current, bool *one);
+
+#ifdef __cplusplus
+}
+#endif
+
+#endif

@@ -1,0 +1,163 @@
+//! The session language over the library: what `oracle/compare` can put in the port's place. Its lines are read by the oracle's own reader.
+use crackledray::raw;
+
+#[allow(dead_code)]
+#[path = "../../../oracle/src/oracle/session.rs"]
+mod session;
+use session::{curve_numbers, hex32, hex64, list32, Block, Call, Line};
+
+const LENT: usize = 8192;
+
+struct Desk {
+    state: [u64; raw::STATE],
+    store: Vec<f32>,
+    lent: usize,
+}
+
+fn single(word: u64) -> f32 {
+    f32::from_bits(word as u32)
+}
+
+fn said(number: u32) -> String {
+    match number {
+        0 => "ok".to_string(),
+        n => format!("refused {n}"),
+    }
+}
+
+impl Desk {
+    fn new() -> Self {
+        let mut desk = Desk { state: [0; raw::STATE], store: vec![0.0; LENT], lent: raw::STORE };
+        desk.make(0.0, 0.0, 0.0, true);
+        desk
+    }
+
+    fn make(&mut self, min: f32, default: f32, max: f32, a_rate: bool) -> u32 {
+        self.store.fill(0.0);
+        self.lent = raw::STORE;
+        unsafe {
+            raw::crackledray_make(self.state.as_mut_ptr(), raw::STATE, min, default, max, !a_rate)
+        }
+    }
+
+    fn answer(&mut self, call: &Call) -> String {
+        let (s, n) = (self.state.as_mut_ptr(), raw::STATE);
+        let (store, lent) = (self.store.as_mut_ptr(), self.lent);
+        said(unsafe {
+            match call {
+                Call::Make { min, default, max, a_rate } => {
+                    self.make(*min, *default, *max, *a_rate)
+                }
+                Call::Set(v) => raw::crackledray_set(s, n, *v),
+                Call::Step(v, t) => raw::crackledray_step(s, n, *v, *t),
+                Call::Linear(v, t) => raw::crackledray_linear(s, n, *v, *t),
+                Call::Exponential(v, t) => raw::crackledray_exponential(s, n, *v, *t),
+                Call::Target(v, t, c) => raw::crackledray_target(s, n, *v, *t, *c),
+                Call::Curve(t, d, vs) => {
+                    raw::crackledray_curve(s, n, vs.as_ptr(), vs.len(), *t, *d, store, lent)
+                }
+                Call::Cancel(t) => raw::crackledray_cancel(s, n, *t, store, lent),
+                Call::Hold(t) => raw::crackledray_hold(s, n, *t, store, lent),
+                Call::Block(block) => return self.block(block),
+                Call::State => return self.state(),
+                Call::Lend(length) => {
+                    self.lent = *length;
+                    0
+                }
+                Call::Poke(i, v) => {
+                    self.store[*i] = *v;
+                    0
+                }
+            }
+        })
+    }
+
+    fn block(&mut self, b: &Block) -> String {
+        let mark = f32::from_bits(0x4b00_0000);
+        let mut output = vec![mark; b.out];
+        let (mut steps, mut current, mut one) = (0, 0.0, false);
+        let number = unsafe {
+            raw::crackledray_block(
+                self.state.as_mut_ptr(),
+                raw::STATE,
+                b.time,
+                b.period,
+                b.count as usize,
+                b.input.as_ptr(),
+                b.input.len(),
+                output.as_mut_ptr(),
+                output.len(),
+                self.store.as_mut_ptr(),
+                self.lent,
+                &mut steps,
+                &mut current,
+                &mut one,
+            )
+        };
+        let count = if number == 0 { b.count as usize } else { 0 };
+        let clean = output[count..].iter().all(|v| v.to_bits() == mark.to_bits());
+        let rest = if clean { "clean" } else { "dirty" };
+        match number {
+            0 => format!(
+                "block {steps} {} {}{} {rest}",
+                hex32(current),
+                u8::from(one),
+                list32(&output[..count], " ")
+            ),
+            n => format!("refused {n} {rest}"),
+        }
+    }
+
+    fn state(&self) -> String {
+        let w = &self.state;
+        let rate = if w[3] == 0 { "a" } else { "k" };
+        let bounds = list32(&[single(w[0]), single(w[1]), single(w[2])], " ");
+        let time = |flag: u64, bits: u64| {
+            if flag == 0 {
+                "-".to_string()
+            } else {
+                hex64(f64::from_bits(bits))
+            }
+        };
+        let last = if w[7] == 0 {
+            "-".to_string()
+        } else {
+            format!("{}:{}", time(1, w[8]), hex32(single(w[9])))
+        };
+        let mut from = 0;
+        let mut events = String::new();
+        for e in w[11..].chunks(6).take(w[10] as usize) {
+            let (value, at, other) = (hex32(single(e[1])), time(1, e[2]), time(1, e[3]));
+            let hold = time(e[4], e[5]);
+            events += &match e[0] {
+                0 => format!(" step:{value}:{at}"),
+                1 => format!(" linear:{value}:{at}:{hold}"),
+                2 => format!(" exponential:{value}:{at}:{hold}"),
+                3 => format!(" target:{value}:{at}:{other}:{hold}"),
+                _ => {
+                    let to = from + e[1] as usize;
+                    let numbers = curve_numbers(&self.store[from..to]);
+                    from = to;
+                    format!(" curve:{at}:{other}:{hold}:{numbers}")
+                }
+            };
+        }
+        let zeros = self.store[from..raw::STORE].iter().all(|v| v.to_bits() == 0);
+        let behind = if zeros { "zeros" } else { "dirty" };
+        format!(
+            "state {rate}{bounds} {} {} {last} {}{events} {behind}",
+            hex32(single(w[4])),
+            time(w[5], w[6]),
+            w[10]
+        )
+    }
+}
+
+fn main() {
+    let mut desk = Desk::new();
+    session::serve(|line| match line {
+        Line::Blank => String::new(),
+        Line::Unread => "unread".to_string(),
+        Line::Call(call) => desk.answer(call),
+    });
+}

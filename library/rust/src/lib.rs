@@ -1,0 +1,246 @@
+//! One audio parameter, proved: its scheduling calls and its block renderer, named as in web-audio-api-rs.
+//!
+//! Assumed: x86-64 (what the archive links into), floats rounded to nearest, subnormals on.
+
+pub mod raw;
+
+use raw::{STATE, STORE};
+
+/// Whether a block has a value for each sample (A) or one for all (K).
+#[derive(Clone, Copy, Debug, PartialEq, Eq)]
+pub enum AutomationRate {
+    A,
+    K,
+}
+
+/// Why a call is refused, with document 01's numbers; the last is the library's own.
+#[derive(Clone, Copy, Debug, PartialEq, Eq)]
+#[repr(u32)]
+pub enum Error {
+    /// a bound or the default is not finite, or not min ≤ default ≤ max
+    Bounds = 1,
+    /// a value, time, time constant, duration or curve number is not finite
+    NotFinite = 2,
+    /// a scheduled or cancel time is below 0
+    BeforeZero = 3,
+    /// a time constant below 0, or a duration not above 0
+    NotAbove = 4,
+    /// an exponential ramp to 0
+    ZeroTarget = 5,
+    /// a curve of fewer than 2 numbers
+    ShortCurve = 6,
+    /// 64 events wait
+    QueueFull = 7,
+    /// the waiting curves and this one have more than 4,096 numbers
+    StoreFull = 8,
+    /// block time, sample period, count, or the lengths of input and output
+    BadBlock = 9,
+    /// a block before the last answered one
+    OutOfOrder = 10,
+    /// the curve store has not 4,096 numbers
+    BadStore = 14,
+    /// the state is none of a parameter
+    BadState = 100,
+}
+
+impl Error {
+    pub const ALL: [Error; 12] = [
+        Error::Bounds,
+        Error::NotFinite,
+        Error::BeforeZero,
+        Error::NotAbove,
+        Error::ZeroTarget,
+        Error::ShortCurve,
+        Error::QueueFull,
+        Error::StoreFull,
+        Error::BadBlock,
+        Error::OutOfOrder,
+        Error::BadStore,
+        Error::BadState,
+    ];
+
+    pub fn number(self) -> u32 {
+        self as u32
+    }
+}
+
+impl std::fmt::Display for Error {
+    fn fmt(&self, f: &mut std::fmt::Formatter) -> std::fmt::Result {
+        write!(f, "refused: {} ({:?})", self.number(), self)
+    }
+}
+
+impl std::error::Error for Error {}
+
+/// What an answered block says, beside its samples.
+#[derive(Clone, Copy, Debug, PartialEq)]
+pub struct Block {
+    /// events walked, at most 129
+    pub steps: usize,
+    /// the value before the block
+    pub current: f32,
+    /// all samples are one value
+    pub one: bool,
+}
+
+/// A parameter with its curve store. A refused call changes nothing.
+#[derive(Clone)]
+pub struct AudioParam {
+    state: [u64; STATE],
+    store: Box<[f32]>,
+}
+
+fn answer(number: u32) -> Result<(), Error> {
+    match Error::ALL.iter().find(|e| e.number() == number) {
+        Some(e) => Err(*e),
+        None => Ok(()),
+    }
+}
+
+impl AudioParam {
+    pub fn new(min: f32, default: f32, max: f32, rate: AutomationRate) -> Result<Self, Error> {
+        let mut p = AudioParam { state: [0; STATE], store: vec![0.0; STORE].into_boxed_slice() };
+        let k = rate == AutomationRate::K;
+        // SAFETY: here and below, each pointer and length are of one slice, and no two overlap.
+        let n = unsafe { raw::crackledray_make(p.state.as_mut_ptr(), STATE, min, default, max, k) };
+        answer(n).map(|_| p)
+    }
+
+    pub fn set_value(&mut self, value: f32) -> Result<(), Error> {
+        answer(unsafe { raw::crackledray_set(self.state.as_mut_ptr(), STATE, value) })
+    }
+
+    pub fn set_value_at_time(&mut self, value: f32, start_time: f64) -> Result<(), Error> {
+        answer(unsafe { raw::crackledray_step(self.state.as_mut_ptr(), STATE, value, start_time) })
+    }
+
+    pub fn linear_ramp_to_value_at_time(&mut self, value: f32, end_time: f64) -> Result<(), Error> {
+        answer(unsafe { raw::crackledray_linear(self.state.as_mut_ptr(), STATE, value, end_time) })
+    }
+
+    pub fn exponential_ramp_to_value_at_time(
+        &mut self,
+        value: f32,
+        end_time: f64,
+    ) -> Result<(), Error> {
+        answer(unsafe {
+            raw::crackledray_exponential(self.state.as_mut_ptr(), STATE, value, end_time)
+        })
+    }
+
+    pub fn set_target_at_time(
+        &mut self,
+        value: f32,
+        start_time: f64,
+        time_constant: f64,
+    ) -> Result<(), Error> {
+        answer(unsafe {
+            raw::crackledray_target(
+                self.state.as_mut_ptr(),
+                STATE,
+                value,
+                start_time,
+                time_constant,
+            )
+        })
+    }
+
+    pub fn set_value_curve_at_time(
+        &mut self,
+        values: &[f32],
+        start_time: f64,
+        duration: f64,
+    ) -> Result<(), Error> {
+        answer(unsafe {
+            raw::crackledray_curve(
+                self.state.as_mut_ptr(),
+                STATE,
+                values.as_ptr(),
+                values.len(),
+                start_time,
+                duration,
+                self.store.as_mut_ptr(),
+                self.store.len(),
+            )
+        })
+    }
+
+    pub fn cancel_scheduled_values(&mut self, cancel_time: f64) -> Result<(), Error> {
+        answer(unsafe {
+            raw::crackledray_cancel(
+                self.state.as_mut_ptr(),
+                STATE,
+                cancel_time,
+                self.store.as_mut_ptr(),
+                self.store.len(),
+            )
+        })
+    }
+
+    pub fn cancel_and_hold_at_time(&mut self, cancel_time: f64) -> Result<(), Error> {
+        answer(unsafe {
+            raw::crackledray_hold(
+                self.state.as_mut_ptr(),
+                STATE,
+                cancel_time,
+                self.store.as_mut_ptr(),
+                self.store.len(),
+            )
+        })
+    }
+
+    /// `count` samples from `block_time` on into the first places of the output, mixed with the input (empty: silence).
+    pub fn process(
+        &mut self,
+        block_time: f64,
+        period: f64,
+        count: usize,
+        input: &[f32],
+        output: &mut [f32],
+    ) -> Result<Block, Error> {
+        let mut block = Block { steps: 0, current: 0.0, one: false };
+        answer(unsafe {
+            raw::crackledray_block(
+                self.state.as_mut_ptr(),
+                STATE,
+                block_time,
+                period,
+                count,
+                input.as_ptr(),
+                input.len(),
+                output.as_mut_ptr(),
+                output.len(),
+                self.store.as_mut_ptr(),
+                self.store.len(),
+                &mut block.steps,
+                &mut block.current,
+                &mut block.one,
+            )
+        })
+        .map(|_| block)
+    }
+
+    pub fn min_value(&self) -> f32 {
+        f32::from_bits(self.state[0] as u32)
+    }
+
+    pub fn default_value(&self) -> f32 {
+        f32::from_bits(self.state[1] as u32)
+    }
+
+    pub fn max_value(&self) -> f32 {
+        f32::from_bits(self.state[2] as u32)
+    }
+
+    pub fn automation_rate(&self) -> AutomationRate {
+        match self.state[3] {
+            0 => AutomationRate::A,
+            _ => AutomationRate::K,
+        }
+    }
+
+    /// How many events wait.
+    pub fn waiting(&self) -> usize {
+        self.state[10] as usize
+    }
+}

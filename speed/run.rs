@@ -1,0 +1,428 @@
+//! Nanoseconds a block: the port by value, by tick and by its exported call, beside the Rust at default flags and at
+//! target-cpu=native, in one run, interleaved, the best of several rounds. speed/run builds it.
+
+use crackledray::raw;
+use std::hint::black_box;
+use std::time::Instant;
+
+const PERIOD: f64 = 1.0 / 48000.0;
+const KINDS: [&str; 9] =
+    ["constant", "linear", "exponential", "target", "curve", "steps", "ramps", "k-linear", "short"];
+const WAYS: [&str; 5] = ["rust", "native", "value", "tick", "exported"];
+/// How many parameters are made ready for a kind whose events are used up by one block.
+const READY: usize = 16;
+
+extern "C" {
+    fn speed_value(
+        state: *const u64,
+        states: usize,
+        time: f64,
+        period: f64,
+        count: usize,
+        advance: f64,
+        blocks: usize,
+        input: *const f32,
+        inputs: usize,
+        output: *mut f32,
+        outputs: usize,
+        store: *mut f32,
+        stores: usize,
+    ) -> usize;
+    fn speed_tick(
+        state: *const u64,
+        states: usize,
+        time: f64,
+        period: f64,
+        count: usize,
+        advance: f64,
+        blocks: usize,
+        input: *const f32,
+        inputs: usize,
+        output: *mut f32,
+        outputs: usize,
+        store: *mut f32,
+        stores: usize,
+    ) -> usize;
+    fn speed_value_again(
+        state: *const u64,
+        states: usize,
+        time: f64,
+        period: f64,
+        count: usize,
+        blocks: usize,
+        input: *const f32,
+        inputs: usize,
+        output: *mut f32,
+        outputs: usize,
+        store: *mut f32,
+        stores: usize,
+    ) -> usize;
+    fn speed_tick_again(
+        state: *const u64,
+        states: usize,
+        time: f64,
+        period: f64,
+        count: usize,
+        blocks: usize,
+        input: *const f32,
+        inputs: usize,
+        output: *mut f32,
+        outputs: usize,
+        store: *mut f32,
+        stores: usize,
+    ) -> usize;
+}
+
+/// A parameter that takes the calls of a schedule.
+trait Takes {
+    fn step(&mut self, value: f32, time: f64);
+    fn linear(&mut self, value: f32, time: f64);
+    fn exponential(&mut self, value: f32, time: f64);
+    fn target(&mut self, value: f32, time: f64, constant: f64);
+    fn curve(&mut self, values: &[f32], time: f64, duration: f64);
+}
+
+macro_rules! takes {
+    ($t:ty) => {
+        impl Takes for $t {
+            fn step(&mut self, value: f32, time: f64) {
+                self.step(value, time)
+            }
+            fn linear(&mut self, value: f32, time: f64) {
+                self.linear(value, time)
+            }
+            fn exponential(&mut self, value: f32, time: f64) {
+                self.exponential(value, time)
+            }
+            fn target(&mut self, value: f32, time: f64, constant: f64) {
+                self.target(value, time, constant)
+            }
+            fn curve(&mut self, values: &[f32], time: f64, duration: f64) {
+                self.curve(values, time, duration)
+            }
+        }
+    };
+}
+takes!(original_default::Original);
+takes!(original_native::Original);
+
+/// The port's parameter as its caller keeps it.
+#[derive(Clone)]
+struct Port {
+    state: Vec<u64>,
+    store: Vec<f32>,
+    output: Vec<f32>,
+}
+
+impl Port {
+    fn new(k_rate: bool) -> Self {
+        let mut p = Port {
+            state: vec![0; raw::STATE],
+            store: vec![0.0; raw::STORE],
+            output: vec![0.0; 128],
+        };
+        let n = unsafe {
+            raw::crackledray_make(p.state.as_mut_ptr(), raw::STATE, -1000.0, 0.5, 1000.0, k_rate)
+        };
+        assert_eq!(n, 0);
+        p
+    }
+
+    /// Blocks by the exported call: of 128 samples the last block's stay in the output.
+    #[inline(never)]
+    fn blocks(&mut self, time: f64, count: usize, advance: f64, blocks: usize) {
+        let (mut time, mut steps, mut current, mut one) = (time, 0, 0.0, false);
+        let silence = [0.0f32; 1];
+        for _ in 0..blocks {
+            let n = unsafe {
+                raw::crackledray_block(
+                    self.state.as_mut_ptr(),
+                    raw::STATE,
+                    time,
+                    PERIOD,
+                    count,
+                    silence.as_ptr(),
+                    0,
+                    self.output.as_mut_ptr(),
+                    128,
+                    self.store.as_mut_ptr(),
+                    raw::STORE,
+                    &mut steps,
+                    &mut current,
+                    &mut one,
+                )
+            };
+            assert_eq!(n, 0);
+            time += advance;
+        }
+    }
+}
+
+impl Takes for Port {
+    fn step(&mut self, value: f32, time: f64) {
+        assert_eq!(0, unsafe {
+            raw::crackledray_step(self.state.as_mut_ptr(), raw::STATE, value, time)
+        });
+    }
+    fn linear(&mut self, value: f32, time: f64) {
+        assert_eq!(0, unsafe {
+            raw::crackledray_linear(self.state.as_mut_ptr(), raw::STATE, value, time)
+        });
+    }
+    fn exponential(&mut self, value: f32, time: f64) {
+        assert_eq!(0, unsafe {
+            raw::crackledray_exponential(self.state.as_mut_ptr(), raw::STATE, value, time)
+        });
+    }
+    fn target(&mut self, value: f32, time: f64, constant: f64) {
+        assert_eq!(0, unsafe {
+            raw::crackledray_target(self.state.as_mut_ptr(), raw::STATE, value, time, constant)
+        });
+    }
+    fn curve(&mut self, values: &[f32], time: f64, duration: f64) {
+        let store = self.store.as_mut_ptr();
+        let n = unsafe {
+            raw::crackledray_curve(
+                self.state.as_mut_ptr(),
+                raw::STATE,
+                values.as_ptr(),
+                values.len(),
+                time,
+                duration,
+                store,
+                raw::STORE,
+            )
+        };
+        assert_eq!(n, 0);
+    }
+}
+
+/// The events of a kind. Those that go on last for an hour, so that no run comes to their end.
+fn schedule(kind: &str, p: &mut impl Takes) {
+    let hour = 3600.0;
+    match kind {
+        "constant" => {}
+        "linear" | "k-linear" | "short" => {
+            p.step(1.0, 0.0);
+            p.linear(2.0, hour);
+        }
+        "exponential" => {
+            p.step(1.0, 0.0);
+            p.exponential(2.0, hour);
+        }
+        "target" => {
+            p.step(1.0, 0.0);
+            p.target(2.0, 0.0, hour);
+        }
+        "curve" => {
+            let numbers: Vec<f32> = (0..1024).map(|i| (i * 37 % 101) as f32).collect();
+            p.curve(&numbers, 0.0, hour);
+        }
+        "steps" => (0..64).for_each(|i| p.step(i as f32, (2 * i) as f64 * PERIOD)),
+        "ramps" => (0..64).for_each(|i| p.linear((i % 5) as f32, (2 * i + 1) as f64 * PERIOD)),
+        _ => unreachable!(),
+    }
+}
+
+struct Bench {
+    kind: &'static str,
+    count: usize,
+    /// its events are used up by one block
+    once: bool,
+    blocks: usize,
+}
+
+impl Bench {
+    fn of(kind: &'static str, blocks: usize) -> Self {
+        let once = kind == "steps" || kind == "ramps";
+        let count = if kind == "short" { 64 } else { 128 };
+        Bench { kind, count, once, blocks: if once { READY } else { blocks } }
+    }
+
+    fn port(&self) -> Port {
+        let mut p = Port::new(self.kind == "k-linear");
+        schedule(self.kind, &mut p);
+        p
+    }
+
+    fn advance(&self) -> f64 {
+        self.count as f64 * PERIOD
+    }
+
+    /// Nanoseconds a block by one way, and the samples of the last block.
+    fn way(&self, way: &str) -> (f64, Vec<f32>) {
+        let a_rate = self.kind != "k-linear";
+        macro_rules! original {
+            ($t:ty) => {{
+                let ready = || {
+                    let mut p = <$t>::new(-1000.0, 0.5, 1000.0, a_rate);
+                    schedule(self.kind, &mut p);
+                    p
+                };
+                self.play(
+                    ready,
+                    |p, n| p.blocks(0.0, PERIOD, self.count, self.advance(), n),
+                    |p| p.samples(self.count),
+                )
+            }};
+        }
+        let samples = |p: &Port| p.output[..self.count].to_vec();
+        match way {
+            "rust" => original!(original_default::Original),
+            "native" => original!(original_native::Original),
+            "exported" => self.play(
+                || self.port(),
+                |p, n| p.blocks(0.0, self.count, self.advance(), n),
+                samples,
+            ),
+            "value" => self.inside(speed_value, speed_value_again),
+            _ => self.inside(speed_tick, speed_tick_again),
+        }
+    }
+
+    /// Parameters are made ready outside of the time that is taken.
+    fn play<P>(
+        &self,
+        ready: impl Fn() -> P,
+        blocks: impl Fn(&mut P, usize),
+        samples: impl Fn(&P) -> Vec<f32>,
+    ) -> (f64, Vec<f32>) {
+        let mut all: Vec<P> = (0..if self.once { READY } else { 1 }).map(|_| ready()).collect();
+        let each = if self.once { 1 } else { self.blocks };
+        let began = Instant::now();
+        for p in all.iter_mut() {
+            blocks(black_box(p), each);
+        }
+        let took = began.elapsed().as_nanos() as f64;
+        (took / self.blocks as f64, samples(&all[0]))
+    }
+
+    /// Blocks in a loop of the port's own: the state is read once, before the first.
+    fn inside(
+        &self,
+        on: unsafe extern "C" fn(
+            *const u64,
+            usize,
+            f64,
+            f64,
+            usize,
+            f64,
+            usize,
+            *const f32,
+            usize,
+            *mut f32,
+            usize,
+            *mut f32,
+            usize,
+        ) -> usize,
+        again: unsafe extern "C" fn(
+            *const u64,
+            usize,
+            f64,
+            f64,
+            usize,
+            usize,
+            *const f32,
+            usize,
+            *mut f32,
+            usize,
+            *mut f32,
+            usize,
+        ) -> usize,
+    ) -> (f64, Vec<f32>) {
+        let mut p = self.port();
+        let silence = [0.0f32; 1];
+        let (state, input) = (p.state.as_ptr(), silence.as_ptr());
+        let (output, store) = (p.output.as_mut_ptr(), p.store.as_mut_ptr());
+        let began = Instant::now();
+        let steps = unsafe {
+            if self.once {
+                again(
+                    state,
+                    raw::STATE,
+                    0.0,
+                    PERIOD,
+                    self.count,
+                    self.blocks * 16,
+                    input,
+                    0,
+                    output,
+                    128,
+                    store,
+                    raw::STORE,
+                )
+            } else {
+                on(
+                    state,
+                    raw::STATE,
+                    0.0,
+                    PERIOD,
+                    self.count,
+                    self.advance(),
+                    self.blocks,
+                    input,
+                    0,
+                    output,
+                    128,
+                    store,
+                    raw::STORE,
+                )
+            }
+        };
+        let took = began.elapsed().as_nanos() as f64;
+        assert!(steps > 0);
+        let blocks = if self.once { self.blocks * 16 } else { self.blocks };
+        (took / blocks as f64, p.output[..self.count].to_vec())
+    }
+}
+
+/// Whether two samples are the same but for what exp and powf round otherwise.
+fn close(a: f32, b: f32) -> bool {
+    (a - b).abs() <= 1e-5 * a.abs().max(b.abs()).max(1.0)
+}
+
+fn main() {
+    let rounds: usize =
+        std::env::args().nth(1).map_or(15, |w| w.parse().expect("a number of rounds"));
+    let blocks = 4000;
+    println!("Nanoseconds a block of 128 samples (short: 64), sample period 1/48000 s, silence; best of {rounds} rounds, interleaved.");
+    println!("Machine: {}. Nobody clears a buffer between blocks: the output is written over, in the port and in the Rust;", std::env::consts::ARCH);
+    println!("the Rust clears its own list of values at each block, and the port writes the curve store's numbers and zeros.");
+    println!("rust: the original at default flags; native: with target-cpu=native; value: process; tick; exported: crackledray_block.");
+    println!();
+    println!(
+        "{:12} {:>9} {:>9} {:>9} {:>9} {:>9}   value/rust  tick/rust  exported/rust  value/native",
+        "kind", "rust", "native", "value", "tick", "exported"
+    );
+    let mut rows = Vec::new();
+    for kind in KINDS {
+        let bench = Bench::of(kind, blocks);
+        let mut best = [f64::INFINITY; WAYS.len()];
+        let rust = bench.way("rust").1;
+        for _ in 0..rounds {
+            for (i, way) in WAYS.iter().enumerate() {
+                let (ns, samples) = bench.way(way);
+                assert!(
+                    rust.iter().zip(&samples).all(|(a, b)| close(*a, *b)),
+                    "{kind}: {way} plays other samples: {rust:?} {samples:?}"
+                );
+                best[i] = best[i].min(ns);
+            }
+        }
+        let [r, n, v, t, e] = best;
+        println!(
+            "{kind:12} {r:9.1} {n:9.1} {v:9.1} {t:9.1} {e:9.1}   {:10.2} {:10.2} {:14.2} {:13.2}",
+            v / r,
+            t / r,
+            e / r,
+            v / n
+        );
+        rows.push((kind, [("value", v / r), ("tick", t / r), ("exported", e / r)]));
+    }
+    println!();
+    for (kind, ways) in rows {
+        for (way, ratio) in ways {
+            println!("ratio {kind} {way} {ratio:.2}");
+        }
+    }
+}
