@@ -1,6 +1,6 @@
 -- Bit patterns and NaN, for every format; and what a float's bits give back. Assumes nothing.
 use mathlib.Core.Path.{_≡_, refl, sym, ap, _∙_, subst}
-use mathlib.Core.Bool.{Bool, true, false, not}
+use mathlib.Core.Bool.{true, false, not}
 use Prim.Native.Nat.{ℕ, _*_, _%_, _^_, _≤_, _<_}
 use native.Mathlib.Nat.{mod-eq-of-lt}
 use lib.Dec.{T}
@@ -8,7 +8,7 @@ use borrow.Author.Tests.{lt-ltb, le-ltb}
 use lib.Ieee.{Float, nan, inf, fin, Format, binary32, binary64, fits, ones, hid, top, ofBits, toBits, isNan, nanBits, ne, eq}
 use lib.Ieee.Bits.{nanBits-is, nanBits-above, ofBits-toBits, toBits-lt}
 use lib.Ieee.Compare.{differs-from-itself}
-use Rattle.coding.specs.Coding.{singleIn, doubleIn, SingleBits, DoubleBits}
+use Rattle.coding.specs.Coding.{SingleBits, DoubleBits}
 
 is-nan : (x : Float) → isNan x ≡ true → x ≡ nan
 unfolding isNan

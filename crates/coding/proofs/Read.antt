@@ -6,13 +6,9 @@ use Prim.Native.Nat.{ℕ, _≤_}
 use native.Mathlib.Omega.{arith}
 use lib.Dec.{leb, eqb}
 use lib.ListN.{length, getD}
-use lib.Ieee.{Float}
 use borrow.Author.Tests.{leb-true, le-leb, eq-eqb, ne-eqb}
 use Rattle.rules.specs.declared.Bounds.{Bounds}
-use Rattle.rules.specs.declared.AutomationRate.{AutomationRate}
 use Rattle.rules.specs.declared.AutomationRate.the-variants as Rate
-use Rattle.rules.specs.declared.MaybeTime.{MaybeTime}
-use Rattle.rules.specs.declared.LastEvent.{LastEvent}
 use Rattle.rules.specs.declared.Event.{Event}
 use Rattle.rules.specs.declared.Verdict.the-variants as Verdict
 use Rattle.rules.specs.Numbers.{mostEvents}
@@ -25,8 +21,8 @@ use Rattle.timeline.specs.declared.AudioParamEventTimeline.{AudioParamEventTime
 use Rattle.param.specs.declared.AudioParam.{AudioParam}
 use Rattle.param.specs.declared.Outcome.{Outcome}
 use Rattle.param.specs.Param.{paramOf, structOf, SoundParam, Makes, unmade, partsOf, isWhole, Restores}
-use Rattle.param.proofs.Calls.{whole, counted}
-use Rattle.coding.specs.Coding.{stateLength, paramIn, eventsIn, isState, stateOf, Queues, Decodes, Encodes}
+use Rattle.param.proofs.Calls.{whole}
+use Rattle.coding.specs.Coding.{stateLength, paramIn, isState, stateOf, Queues, Decodes, Encodes}
 
 -- ---- refused
 

@@ -5,14 +5,14 @@ use Prim.Native.Nat.{ℕ, zero, suc, _+_, _*_, _≤_, _<_}
 use native.Mathlib.Nat.{add-zero, zero-add}
 use native.Mathlib.Numerals.{add-one}
 use native.Mathlib.Omega.{arith}
-use lib.ListN.{length, getD, set, take, drop, List·getD-append, length-append}
+use lib.ListN.{length, getD, set, take, List·getD-append, length-append}
 use lib.Seq.{sets-eq, getD-append-add, getD-take}
-use lib.Ieee.{Float, binary32, binary64, toBits}
+use lib.Ieee.{Float}
 use Rattle.rules.specs.declared.MaybeTime.{MaybeTime}
 use Rattle.rules.specs.declared.MaybeTime.the-variants as MaybeTime
 use Rattle.rules.specs.declared.Event.{Event}
 use Rattle.rules.specs.declared.Event.the-variants as Event
-use Rattle.coding.specs.Coding.{eventWords, placeOf, singleIn, doubleIn, timeIn, eventOf, eventAt, eventsIn, flagOf, bitsOf, sixWords, wordsOf, wordsFor, writtenAt, SingleBits, DoubleBits, TimeBits, PutsEvent}
+use Rattle.coding.specs.Coding.{eventWords, placeOf, timeIn, eventOf, eventAt, eventsIn, flagOf, bitsOf, wordsOf, wordsFor, writtenAt, SingleBits, DoubleBits, TimeBits, PutsEvent}
 
 -- ---- one event
 

@@ -1,10 +1,10 @@
 -- A parameter written over a state, event by event, and read again. Assumes nothing.
 use mathlib.Core.Path.{_≡_, refl, sym, ap, _∙_}
 use mathlib.Core.List.{List, [], _∷_, _++_, append-assoc, append-nil}
-use Prim.Native.Nat.{ℕ, suc, _+_, _*_, _≤_, _<_}
+use Prim.Native.Nat.{ℕ, _+_, _*_, _≤_}
 use native.Mathlib.Omega.{arith}
 use lib.ListN.{length, getD, set, take, drop, take-append-drop, length-append, length-drop}
-use lib.Seq.{sets, sets-eq, length-sets, take-at, drop-at, take-all, drop-drop, drop-append-add, length-take-le}
+use lib.Seq.{sets, sets-eq, length-sets, take-at, take-all, drop-drop, drop-append-add, length-take-le}
 use lib.Ieee.{Float}
 use Rattle.rules.specs.declared.Bounds.{Bounds}
 use Rattle.rules.specs.declared.MaybeTime.{MaybeTime}
@@ -12,13 +12,12 @@ use Rattle.rules.specs.declared.LastEvent.{LastEvent}
 use Rattle.rules.specs.declared.AutomationRate.{AutomationRate}
 use Rattle.rules.specs.declared.AutomationRate.the-variants as Rate
 use Rattle.rules.specs.declared.Event.{Event}
-use Rattle.rules.specs.Numbers.{mostEvents}
 use Rattle.rules.specs.Block.{Param}
 use Rattle.timeline.specs.declared.AudioParamEvent.{AudioParamEvent}
 use Rattle.timeline.specs.declared.AudioParamEventTimeline.{AudioParamEventTimeline}
 use Rattle.timeline.specs.Timeline.{made}
 use Rattle.timeline.proofs.Laws.{Filled, filled-made, waits-of}
-use Rattle.coding.specs.Coding.{headWords, stateLength, placeOf, rateIn, rateWord, eventAt, eventsIn, paramIn, wordsOf, wordsFor, headOf, stateOf, writtenAt, flagOf, bitsOf, lastFlag, lastTime, lastValue, SingleBits, TimeBits, PutsEvent, PutsLast, PutsHead, Queues}
+use Rattle.coding.specs.Coding.{headWords, stateLength, placeOf, rateIn, rateWord, eventAt, eventsIn, paramIn, wordsOf, wordsFor, headOf, stateOf, flagOf, lastFlag, lastTime, lastValue, SingleBits, TimeBits, PutsEvent, PutsLast, PutsHead, Queues}
 use Rattle.coding.proofs.Words.{six, event-behind, events-front, events-more, words-more, words-length}
 
 -- ---- the queue of a state

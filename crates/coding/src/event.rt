@@ -3,7 +3,7 @@ ghost use mathlib.Core.Path.{_≡_};
 ghost use mathlib.Core.List.{_∷_, []};
 ghost use Prim.Native.Nat.{_+_, _≤_};
 ghost use lib.ListN.{length};
-ghost use Rattle.coding.specs.Coding.{timeIn, eventOf, eventAt, flagOf, sixWords, writtenAt, TimeBits, PutsEvent};
+ghost use Rattle.coding.specs.Coding.{timeIn, eventOf, eventAt, flagOf, writtenAt, TimeBits, PutsEvent};
 use crate::bits::double_bits;
 use crate::bits::double_in;
 use crate::bits::single_bits;

@@ -1,7 +1,6 @@
 // The state that a caller keeps, an array of plain numbers: a parameter read from it, and written to it.
 ghost use mathlib.Core.Path.{_≡_};
 ghost use lib.ListN.{length};
-ghost use lib.Seq.{sets};
 ghost use Rattle.param.specs.Param.{paramOf, SoundParam, unmade};
 ghost use Rattle.coding.specs.Coding.{stateLength, lastIn, rateIn, rateWord, PutsLast, PutsHead, Queues, Decodes, Encodes};
 use bits::double_bits;

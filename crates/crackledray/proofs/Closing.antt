@@ -1,6 +1,6 @@
 -- What a state gives, the call on that, and what is written: the exported call, whatever the call is. Assumes nothing.
 use mathlib.Core.Path.{_≡_, refl, sym, ap, _∙_}
-use mathlib.Core.Bool.{Bool, true, false, cond}
+use mathlib.Core.Bool.{Bool, true, false}
 use mathlib.Core.List.{List}
 use Prim.Native.Nat.{ℕ, _≤_}
 use native.Mathlib.Omega.{arith}
@@ -14,7 +14,6 @@ use Rattle.rules.specs.declared.Refusal.{Refusal}
 use Rattle.rules.specs.declared.Verdict.{Verdict}
 use Rattle.rules.specs.declared.Verdict.the-variants as Verdict
 use Rattle.rules.specs.Numbers.{mostEvents}
-use Rattle.rules.specs.Refusals.{lowest, makingRows}
 use Rattle.rules.specs.Block.{Param, made, Command, Called, called, Call, Answer, answered}
 use Rattle.laws.proofs.Tests.{clash, both}
 use Rattle.param.specs.declared.AudioParam.{AudioParam}
@@ -25,10 +24,10 @@ use Rattle.param.specs.Processed.{Processes}
 use Rattle.param.proofs.Calls.{struct-back}
 use Rattle.param.proofs.Settled.{refused-same}
 use Rattle.param.proofs.Blocks.{refused-keeps}
-use Rattle.coding.specs.Coding.{stateLength, paramIn, isState, wordsFor, stateOf, Decodes, Encodes}
+use Rattle.coding.specs.Coding.{stateLength, paramIn, isState, stateOf, Decodes, Encodes}
 use Rattle.coding.proofs.Words.{words-length}
 use Rattle.coding.proofs.Read.{encoded-accepted}
-use Rattle.crackledray.specs.Exported.{badState, numberAs, stateAfter, Told, told, Played, played, Begins, Tells, Plays, Closes}
+use Rattle.crackledray.specs.Exported.{badState, numberAs, stateAfter, told, Played, played, Begins, Tells, Plays, Closes}
 
 -- ---- the state of a parameter
 

@@ -1,7 +1,7 @@
 -- The parameter as code holds it, and what each call ensures: one relation for a kind of call, by document 01's rules.
 use mathlib.Core.Path.{_≡_}
 use mathlib.Core.Bool.{Bool, cond, _&&_}
-use mathlib.Core.List.{List, [], _∷_, _++_}
+use mathlib.Core.List.{List, []}
 use Prim.Native.Nat.{_<_}
 use lib.Dec.{leb}
 use lib.ListN.{length}
@@ -17,7 +17,7 @@ use Rattle.rules.specs.declared.Verdict.{Verdict}
 use Rattle.rules.specs.declared.Verdict.the-variants as Verdict
 use Rattle.rules.specs.Numbers.{plusZero, mostEvents}
 use Rattle.rules.specs.Refusals.{lowest, makingRows}
-use Rattle.rules.specs.Block.{Param, fresh, made, withQueue, Command, Called, called}
+use Rattle.rules.specs.Block.{Param, fresh, made, Command, Called, called}
 use Rattle.laws.specs.Sound.{Sound, isSound}
 use Rattle.timeline.specs.declared.AudioParamEventTimeline.{AudioParamEventTimeline}
 use Rattle.timeline.specs.Timeline.{made as queueOf, waiting, Neat}

@@ -4,7 +4,6 @@ use Prim.Native.Nat.{_-_}
 use native.Mathlib.Omega.{arith}
 use lib.ListN.{length}
 use borrow.Author.Needs.{needs}
-use Rattle.param.specs.Param.{SoundParam}
 use Rattle.speed_c.proofs.speed_tick_again.Statement.{statement}
 use Rattle.speed_c.proofs.speed_tick_again.Tie as tie
 

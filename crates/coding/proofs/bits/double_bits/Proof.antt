@@ -1,6 +1,5 @@
 -- `double_bits` meets its contract: the one pattern of a NaN, and of any other float its own. Assumes nothing.
 use mathlib.Core.Path.{refl}
-use native.Mathlib.Omega.{arith}
 use lib.Ieee.{binary64, toBits}
 use Rattle.coding.proofs.Patterns.{differs, differs-not, double-bits}
 use Rattle.coding.proofs.bits.double_bits.Statement.{statement}
