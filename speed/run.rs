@@ -11,6 +11,8 @@ const KINDS: [&str; 9] =
 const WAYS: [&str; 5] = ["rust", "native", "value", "tick", "exported"];
 /// How many parameters are made ready for a kind whose events are used up by one block.
 const READY: usize = 16;
+/// Words of 64 bits in a parameter (`AudioParam`, 3,144 bytes).
+const PARAMETER: usize = 393;
 
 extern "C" {
     fn speed_value(
@@ -381,6 +383,28 @@ fn close(a: f32, b: f32) -> bool {
     (a - b).abs() <= 1e-5 * a.abs().max(b.abs()).max(1.0)
 }
 
+/// Nanoseconds that a thing takes alone, many times over.
+fn alone(mut thing: impl FnMut()) -> f64 {
+    let times = 20_000;
+    let began = Instant::now();
+    for _ in 0..times {
+        thing();
+    }
+    began.elapsed().as_nanos() as f64 / times as f64
+}
+
+/// What no by-value block can do without: zeros behind the curves' numbers, and copies of the parameter.
+fn floors(rounds: usize) -> (f64, f64) {
+    let mut store = [1.0f32; raw::STORE];
+    let (from, mut to) = ([1u64; PARAMETER], [0u64; PARAMETER]);
+    let mut best = (f64::INFINITY, f64::INFINITY);
+    for _ in 0..rounds {
+        best.0 = best.0.min(alone(|| black_box(&mut store).fill(0.0)));
+        best.1 = best.1.min(alone(|| black_box(&mut to).copy_from_slice(black_box(&from))));
+    }
+    best
+}
+
 fn main() {
     let rounds: usize =
         std::env::args().nth(1).map_or(15, |w| w.parse().expect("a number of rounds"));
@@ -419,6 +443,9 @@ fn main() {
         );
         rows.push((kind, [("value", v / r), ("tick", t / r), ("exported", e / r)]));
     }
+    let (zeros, copy) = floors(rounds);
+    println!();
+    println!("alone: zeros over the whole curve store {zeros:.1} ns; one copy of the parameter {copy:.1} ns");
     println!();
     for (kind, ways) in rows {
         for (way, ratio) in ways {

@@ -48,7 +48,7 @@ fn write(part: &mut [f32], at: usize, values: &[f32])
 }
 
 // What stands behind the numbers in use becomes 0.
-fn zero_behind(part: &mut [f32], used: usize)
+pub fn zero_behind(part: &mut [f32], used: usize)
     requires { ⌜ used ≤ length (now part) ⌝ }
     ensures { λ _. ⌜ now (part .exit) ≡ take used (now (part .entry)) ++ replicate (length (now (part .entry)) - used) plusZero ⌝ }
 {
@@ -130,16 +130,12 @@ pub fn hold(q: AudioParamEventTimeline, c: f64, part: &mut [f32]) -> AudioParamE
     q.hold(c)
 }
 
-// The first n events are finished. Most blocks finish none: then the queue and its numbers stay as they are.
+// The first n events are finished.
 pub fn consume(q: AudioParamEventTimeline, n: usize, part: &mut [f32]) -> AudioParamEventTimeline
     requires { ⌜ Neat q × (lengthsOf (waiting q) ≤ length (now part)) ⌝ }
     ensures { λ r. ⌜ Leaves r (now (part .entry)) (now (part .exit)) (drop n (attached (waiting q) (now (part .entry)))) ⌝ }
 {
     let used = q.lengths();
-    if n == 0 {
-        zero_behind(part, used);
-        return q;
-    }
     let from = q.offset_of(n);
     let left = used - from;
     move_down(part, from, 0, left);

@@ -27,7 +27,7 @@ use Rattle.laws.proofs.Answers.{given, answer-is, refused-block}
 use Rattle.timeline.specs.declared.AudioParamEventTimeline.{AudioParamEventTimeline}
 use Rattle.timeline.specs.Timeline.{Neat, made, waiting, firstOf}
 use Rattle.timeline.proofs.Laws.{waits-of, neat-of, count}
-use Rattle.curves.specs.Curves.{Leaves}
+use Rattle.curves.specs.Curves.{packedIn, Leaves}
 use Rattle.curves.proofs.Calls.{packed-whole, leaves-replaced}
 use Rattle.automation.specs.declared.Walked.{Walked}
 use Rattle.automation.specs.Walks.{waitingAs}
@@ -35,8 +35,9 @@ use Rattle.automation.specs.Walked.{withHead, Walks}
 use Rattle.block.specs.Asked.{Given as FilledFor, Fitting, written}
 use Rattle.param.specs.declared.AudioParam.{AudioParam}
 use Rattle.param.specs.declared.Processed.{Processed}
+use Rattle.param.specs.declared.process.Played.{Played}
 use Rattle.param.specs.Param.{paramOf, structOf, partsOf, SoundParam}
-use Rattle.param.specs.Processed.{Playable, afterwards, played, Plays, Processes}
+use Rattle.param.specs.Processed.{unplayed, afterwards, Playable, played, Plays, Processes}
 use Rattle.param.proofs.Calls.{whole, struct-sound, head-attached}
 
 -- ---- the queue behind a walk
@@ -64,24 +65,28 @@ unfolding valuesBefore
 before-few count Rate.A v = omega arith
 before-few count Rate.K v = refl
 
-module _ (p : AudioParam) (f : BlockInfos) (input output part : List Float) {q : AudioParamEventTimeline} {one : Bool} {r : Processed} {out left : List Float} where
+module _ (p : AudioParam) (f : BlockInfos) (input output part : List Float) {one : Bool} {out : List Float} where
   -- none of them reaches into it
-  pub rests : Leaves q part left (drop 0 (attached (paramOf p .queue) part)) → out ≡ written (p .bounds) f input (replicate (f .count) (p .intrinsic)) output
-      → one ≡ saysOne (p .rate) true input → r ≡ afterwards p f q (p .intrinsic) (p .last) 1 one → Plays p f true input output part r out left
-  unfolding renderedAs
-  rests l o e g = record { gives = g ∙ rw (l .queue, e); samples = o; packs = l .part }
+  pub rests : out ≡ written (p .bounds) f input (replicate (f .count) (p .intrinsic)) output → one ≡ saysOne (p .rate) true input
+      → Plays p f true input output part (record { intrinsic = p .intrinsic; last = p .last; at = 0; head = Head.Empty; steps = 1; one = one }) out
+  unfolding renderedAs withHead
+  rests o e = record { queue = refl; intrinsic = refl; last = refl; steps = refl; one = e; samples = o }
 
   -- they are walked
   module _ {b c : List Float} {done : Walked} (w : Walks f (walkFrom (p .intrinsic) (p .last) (valuesBefore (f .rate) (p .intrinsic)) 0) (paramOf p .queue) part b done c) where
-    pub walks : Leaves q part left (withHead (done .head) (drop (done .at) (attached (paramOf p .queue) part)))
-        → out ≡ written (p .bounds) f input (take (done .walk .filled) c) output → one ≡ saysOne (p .rate) false input
-        → r ≡ afterwards p f q (done .walk .intrinsic) (done .walk .last) (done .walk .steps) one → Plays p f false input output part r out left
+    pub walks : out ≡ written (p .bounds) f input (take (done .walk .filled) c) output → one ≡ saysOne (p .rate) false input
+        → Plays p f false input output part
+        (record { intrinsic = done .walk .intrinsic; last = done .walk .last; at = done .at; head = done .head; steps = done .walk .steps; one = one })
+        out
     unfolding renderedAs
-    walks l o e g =
+    walks o e =
         record {
-          gives = g ∙ rw (l .queue, w .queue, e, ← w .walk);
+          queue = w .queue;
+          intrinsic = ap (λ (x : Rules.Walk). x .intrinsic) (w .walk);
+          last = ap (λ (x : Rules.Walk). x .last) (w .walk);
+          steps = ap (λ (x : Rules.Walk). x .steps) (w .walk);
+          one = e;
           samples = o ∙ rw (← w .walk);
-          packs = l .part ∙ rw (w .queue);
         }
 
 -- a walk fills the block
@@ -108,8 +113,8 @@ module _ (p : AudioParam) (store : List Float) (c : Call) (s : SoundParam p) whe
       }
 
   pub refuses : {v : Verdict} {why : Refusal} → v ≡ verdictOf (paramOf p) store c → v ≡ Verdict.Refused why
-      → Processes p store c (record { verdict = v; param = p; steps = 0; current = plusZero; one = false }) (c .output) store
-  refuses {v} {why} e h = processes _ (refused-block (paramOf p) store c why (sym e ∙ h)) h (whole p s) refl refl refl refl refl
+      → {r : Processed} → r ≡ unplayed p v → Processes p store c r (c .output) store
+  refuses {v} {why} e h is = rw is (processes _ (refused-block (paramOf p) store c why (sym e ∙ h)) h (whole p s) refl refl refl refl refl)
 
   module _ {v : Verdict} (e : v ≡ verdictOf (paramOf p) store c) (h : v ≡ Verdict.Answered) where
     abbrev infos : BlockInfos
@@ -138,22 +143,25 @@ module _ (p : AudioParam) (store : List Float) (c : Call) (s : SoundParam p) whe
             room = omega arith;
           })
 
-      pub plays : {r : Processed} {out left : List Float} → Plays p f (restsFor f (firstOf (paramOf p .queue))) (c .input) (c .output) store r out left
-          → Processes p store c r out left
+      pub plays : {l : Played} {q : AudioParamEventTimeline} {r : Processed} {out left : List Float}
+          → Plays p f (restsFor f (firstOf (paramOf p .queue))) (c .input) (c .output) store l out
+          → Leaves q store left (withHead (l .head) (drop (l .at) (attached (paramOf p .queue) store))) → r ≡ afterwards p f q l → Processes p store c r out left
       unfolding answerOf outputOf written infosOf rendered
-      plays {r} {out} {left} g =
+      plays {l} {q} {r} {out} {left} g leaves given =
           let ws = attached (paramOf p .queue) store in
           let t = restsFor infos (firstOf (paramOf p .queue)) in
           let here : t ≡ restsFor infos (headOf ws) = ap (restsFor infos) (sym (head-attached (paramOf p .queue) store)) in
           let done : played p infos t store ≡ rendered infos (p .intrinsic) (p .last) ws = rw here in
-          let g' : Plays p infos t (c .input) (c .output) store r out left = rw is at g in
+          let g' : Plays p infos t (c .input) (c .output) store l out = rw is at g in
+          let is-given : r ≡ afterwards p infos q l = rw is at given in
+          let queue : q ≡ made (eventsOf (played p infos t store .queue)) = leaves .queue ∙ ap (λ (xs : List Waiting). made (eventsOf xs)) (g' .queue) in
           processes
           (answerOf (paramOf p) ws c (rendered infos (p .intrinsic) (p .last) ws))
           (answer-is (paramOf p) store c fine)
-          (ap (λ (x : Processed). x .verdict) (g' .gives))
-          (rw (← done) (ap (λ (x : Processed). x .param) (g' .gives)))
-          (rw (← done) (ap (λ (x : Processed). x .steps) (g' .gives)))
-          (ap (λ (x : Processed). x .current) (g' .gives))
-          (rw (← here) (ap (λ (x : Processed). x .one) (g' .gives)))
+          (ap (λ (x : Processed). x .verdict) is-given)
+          (rw (← done) (ap (λ (x : Processed). x .param) is-given ∙ rw (queue, g' .intrinsic, g' .last)))
+          (rw (← done) (ap (λ (x : Processed). x .steps) is-given ∙ g' .steps))
+          (ap (λ (x : Processed). x .current) is-given)
+          (rw (← here) (ap (λ (x : Processed). x .one) is-given ∙ g' .one))
           (rw (← done, g' .samples))
-          (rw (← done) (g' .packs ∙ packed-whole store _ (asked-for .lent)))
+          (rw (← done) (leaves .part ∙ ap (packedIn (length store)) (g' .queue) ∙ packed-whole store _ (asked-for .lent)))

@@ -1,62 +1,65 @@
 -- What a block ensures, by document 01's rules.
 use mathlib.Core.Path.{_≡_}
-use mathlib.Core.Bool.{Bool}
+use mathlib.Core.Bool.{Bool, false}
 use mathlib.Core.List.{List}
-use Prim.Native.Nat.{ℕ, _≤_}
-use lib.ListN.{length}
+use Prim.Native.Nat.{_≤_}
+use lib.ListN.{length, drop}
 use lib.Ieee.{Float}
 use Rattle.rules.specs.declared.BlockInfos.{BlockInfos}
-use Rattle.rules.specs.declared.LastEvent.{LastEvent}
 use Rattle.rules.specs.declared.MaybeTime.the-variants as MaybeTime
+use Rattle.rules.specs.declared.Verdict.{Verdict}
 use Rattle.rules.specs.declared.Verdict.the-variants as Verdict
 use Rattle.rules.specs.Numbers.{plusZero, mostCount}
-use Rattle.rules.specs.Queue.{eventsOf, lengthsOf, attached}
+use Rattle.rules.specs.Queue.{lengthsOf, attached}
 use Rattle.rules.specs.Mix.{mixed}
 use Rattle.rules.specs.Walk.{Walked}
 use Rattle.rules.specs.Block.{Call, renderedAs, saysOne, answered}
 use Rattle.timeline.specs.declared.AudioParamEventTimeline.{AudioParamEventTimeline}
-use Rattle.timeline.specs.Timeline.{made as queueOf}
-use Rattle.curves.specs.Curves.{packedIn}
+use Rattle.automation.specs.Walked.{withHead}
 use Rattle.block.specs.Asked.{Fitting, written}
 use Rattle.param.specs.declared.AudioParam.{AudioParam}
 use Rattle.param.specs.declared.Processed.{Processed}
+use Rattle.param.specs.declared.process.Played.{Played}
 use Rattle.param.specs.Param.{paramOf, structOf, partsOf, SoundParam}
 
--- ---- a block that is answered, in the part of the store that is the parameter's
+-- ---- what a block gives back
 
--- what it leans on
+-- one that is refused: the parameter as it was
+abbrev pub unplayed : AudioParam → Verdict → Processed
+unplayed p v = record { verdict = v; param = p; steps = 0; current = plusZero; one = false }
+
+-- one that is answered, by the queue and by what else its events leave
+abbrev pub afterwards : AudioParam → BlockInfos → AudioParamEventTimeline → Played → Processed
+afterwards p f q l =
+    record {
+      verdict = Verdict.Answered;
+      param = partsOf (p .bounds) (p .rate) (l .intrinsic) q (MaybeTime.At (f .time)) (l .last);
+      steps = l .steps;
+      current = mixed (p .bounds) plusZero (p .intrinsic);
+      one = l .one;
+    }
+
+-- ---- what its events do, with their numbers in the part of the store that is the parameter's
+
+-- what a block that is answered leans on
 pub record Playable (p : AudioParam) (f : BlockInfos) (input output part : List Float) : Type 0 where
   pub param : SoundParam p
   pub fits : Fitting f input output
   pub few : f .count ≤ mostCount
   pub room : lengthsOf (paramOf p .queue) ≤ length part
 
--- what it gives back, by what its events leave
-abbrev pub afterwards : AudioParam → BlockInfos → AudioParamEventTimeline → Float → LastEvent → ℕ → Bool → Processed
-afterwards p f q v l n one =
-    record {
-      verdict = Verdict.Answered;
-      param = partsOf (p .bounds) (p .rate) v q (MaybeTime.At (f .time)) l;
-      steps = n;
-      current = mixed (p .bounds) plusZero (p .intrinsic);
-      one = one;
-    }
-
--- what its events do, one-valued or not
+-- one-valued or not
 abbrev pub played : AudioParam → BlockInfos → Bool → List Float → Walked
 played p f rests part = renderedAs rests f (p .intrinsic) (p .last) (attached (paramOf p .queue) part)
 
-pub record Plays (p : AudioParam) (f : BlockInfos) (rests : Bool) (input output part : List Float) (r : Processed) (out left : List Float) : Type 0 where
-  pub gives :
-      r
-      ≡ afterwards p f
-      (queueOf (eventsOf (played p f rests part .queue)))
-      (played p f rests part .walk .intrinsic)
-      (played p f rests part .walk .last)
-      (played p f rests part .walk .steps)
-      (saysOne (p .rate) rests input)
+-- what they leave: their queue is what waits behind those finished, its first event as it has become
+pub record Plays (p : AudioParam) (f : BlockInfos) (rests : Bool) (input output part : List Float) (r : Played) (out : List Float) : Type 0 where
+  pub queue : withHead (r .head) (drop (r .at) (attached (paramOf p .queue) part)) ≡ played p f rests part .queue
+  pub intrinsic : r .intrinsic ≡ played p f rests part .walk .intrinsic
+  pub last : r .last ≡ played p f rests part .walk .last
+  pub steps : r .steps ≡ played p f rests part .walk .steps
+  pub one : r .one ≡ saysOne (p .rate) rests input
   pub samples : out ≡ written (p .bounds) f input (played p f rests part .walk .values) output
-  pub packs : left ≡ packedIn (length part) (played p f rests part .queue)
 
 -- ---- the block
 

@@ -1,16 +1,18 @@
 // The block: refused, of one value, or walked.
 ghost use mathlib.Core.Path.{_≡_};
 ghost use mathlib.Core.Bool.{true, false};
+ghost use mathlib.Core.List.{List};
 ghost use Prim.Native.Nat.{ℕ, _≤_};
 ghost use lib.ListN.{length, drop};
-ghost use Rattle.rules.specs.Queue.{lengthsOf, attached};
+ghost use lib.Ieee.{Float};
+ghost use Rattle.rules.specs.Queue.{Waiting, lengthsOf, attached};
 ghost use Rattle.rules.specs.Block.{restsFor};
 ghost use Rattle.timeline.specs.Timeline.{Neat, waiting, firstOf};
 ghost use Rattle.curves.specs.Curves.{Leaves};
 ghost use Rattle.automation.specs.Walked.{withHead};
-ghost use Rattle.block.specs.Asked.{asked};
+ghost use Rattle.block.specs.Asked.{asked, Fitting};
 ghost use Rattle.param.specs.Param.{paramOf, SoundParam};
-ghost use Rattle.param.specs.Processed.{Playable, afterwards, Plays, Processes};
+ghost use Rattle.param.specs.Processed.{unplayed, afterwards, Playable, Plays, Processes};
 use crate::AudioParam;
 use crate::Processed;
 use rules::BlockInfos;
@@ -20,7 +22,29 @@ use rules::MaybeTime;
 use rules::Verdict;
 use timeline::AudioParamEventTimeline;
 
-// What a walk leaves of the queue: the events before `at` are finished, and the one there is what it has become.
+// What the events of a block leave, and what the block says of them.
+pub struct Played {
+    pub intrinsic: f32,
+    pub last: LastEvent,
+    // how many are finished, and what the one behind them has become
+    pub at: usize,
+    pub head: Head,
+    pub steps: usize,
+    pub one: bool,
+}
+
+// The queue, whose first event is what it has become.
+fn with_head(q: AudioParamEventTimeline, head: Head) -> AudioParamEventTimeline
+    requires { ⌜ Neat q ⌝ }
+    ensures { λ r. ⌜ ((before after : List Float) (ws : List Waiting) → Leaves q before after ws → Leaves r before after (withHead head ws)) ⌝ }
+{
+    match head {
+        Head::Empty => q,
+        Head::Event(e) => q.replace_peek(e),
+    }
+}
+
+// What a walk leaves of the queue: the events before `at` are finished, and the one there is what it has become. Most blocks finish none: then no number moves.
 fn left(
     q: AudioParamEventTimeline,
     at: usize,
@@ -30,32 +54,45 @@ fn left(
     requires { ⌜ Neat q × (lengthsOf (waiting q) ≤ length (now part)) ⌝ }
     ensures { λ r. ⌜ Leaves r (now (part .entry)) (now (part .exit)) (withHead head (drop at (attached (waiting q) (now (part .entry))))) ⌝ }
 {
-    let q = curves::consume(q, at, part);
-    match head {
-        Head::Empty => q,
-        Head::Event(e) => q.replace_peek(e),
+    if at == 0 {
+        let used = q.lengths();
+        curves::zero_behind(part, used);
+        return with_head(q, head);
     }
+    let rest = curves::consume(q, at, part);
+    with_head(rest, head)
 }
 
 impl AudioParam {
+    // A refused block: nothing changes.
+    fn refused_block(self, verdict: Verdict) -> Processed
+        ensures { λ r. ⌜ r ≡ unplayed self verdict ⌝ }
+    {
+        Processed {
+            verdict,
+            param: self,
+            steps: 0,
+            current: 0.0,
+            one: false,
+        }
+    }
+
     // What an answered block gives back, by what its events left.
     fn after(
         self,
         infos: BlockInfos,
         timeline: AudioParamEventTimeline,
-        intrinsic: f32,
-        last: LastEvent,
-        steps: usize,
-        one: bool,
+        played: Played,
     ) -> Processed
-        ensures { λ r. ⌜ r ≡ afterwards self infos timeline intrinsic last steps one ⌝ }
+        ensures { λ r. ⌜ r ≡ afterwards self infos timeline played ⌝ }
     {
         let bounds = self.bounds;
         let rate = self.rate;
+        let last = played.last;
         let param = AudioParam {
             bounds,
             rate,
-            intrinsic,
+            intrinsic: played.intrinsic,
             timeline,
             block: MaybeTime::At(infos.time),
             last,
@@ -63,79 +100,63 @@ impl AudioParam {
         Processed {
             verdict: Verdict::Answered,
             param,
-            steps,
+            steps: played.steps,
             current: mix::mixed_value(bounds, 0.0, self.intrinsic),
-            one,
+            one: played.one,
         }
     }
 
     // A one-valued block: the intrinsic value, one step.
-    fn rest(
-        self,
-        infos: BlockInfos,
-        input: &[f32],
-        output: &mut [f32],
-        part: &mut [f32],
-    ) -> Processed
-        requires { ⌜ Playable self infos (now input) (now output) (now part) ⌝ }
-        ensures { λ r. ⌜ Plays self infos true (now (input .entry)) (now (output .entry)) (now (part .entry)) r (now (output .exit)) (now (part .exit)) ⌝ }
+    fn rest(self, infos: BlockInfos, input: &[f32], output: &mut [f32]) -> Played
+        requires { ⌜ Fitting infos (now input) (now output) ⌝ }
+        ensures { λ r. ⌜ ((part : List Float) → Plays self infos true (now (input .entry)) (now (output .entry)) part r (now (output .exit))) ⌝ }
     {
         block::mix_value(self.bounds, infos, self.intrinsic, input, output);
-        let q = self.timeline;
-        let timeline = curves::consume(q, 0, part);
         let rate = self.rate;
-        let one = block::says_one(rate, true, input.len());
         let last = self.last;
-        self.after(infos, timeline, self.intrinsic, last, 1, one)
+        Played {
+            intrinsic: self.intrinsic,
+            last,
+            at: 0,
+            head: Head::Empty,
+            steps: 1,
+            one: block::says_one(rate, true, input.len()),
+        }
     }
 
     // A block into which heads reach: they are taken in turn.
-    fn walk(
-        self,
-        infos: BlockInfos,
-        input: &[f32],
-        output: &mut [f32],
-        part: &mut [f32],
-    ) -> Processed
+    fn walk(self, infos: BlockInfos, input: &[f32], output: &mut [f32], part: &[f32]) -> Played
         requires { ⌜ Playable self infos (now input) (now output) (now part) ⌝ }
-        ensures { λ r. ⌜ Plays self infos false (now (input .entry)) (now (output .entry)) (now (part .entry)) r (now (output .exit)) (now (part .exit)) ⌝ }
+        ensures { λ r. ⌜ Plays self infos false (now (input .entry)) (now (output .entry)) (now (part .entry)) r (now (output .exit)) ⌝ }
     {
         let q = self.timeline;
         let last = self.last;
         let mut buffer = [0.0f32; AudioParam::COUNT];
-        let done = automation::compute_buffer(
-            infos,
-            self.intrinsic,
-            last,
-            &mut buffer,
-            q,
-            &part[..],
-        );
+        let done = automation::compute_buffer(infos, self.intrinsic, last, &mut buffer, q, part);
         let walk = done.walk;
         let filled = walk.filled;
         block::mix_values(self.bounds, infos, &buffer[..filled], input, output);
-        let head = done.head;
-        let timeline = left(q, done.at, head, part);
         let rate = self.rate;
-        let one = block::says_one(rate, false, input.len());
         let last = walk.last;
-        self.after(infos, timeline, walk.intrinsic, last, walk.steps, one)
+        let head = done.head;
+        Played {
+            intrinsic: walk.intrinsic,
+            last,
+            at: done.at,
+            head,
+            steps: walk.steps,
+            one: block::says_one(rate, false, input.len()),
+        }
     }
 
-    // An answered block, in the part of the store that is the parameter's.
-    fn render(
-        self,
-        infos: BlockInfos,
-        input: &[f32],
-        output: &mut [f32],
-        part: &mut [f32],
-    ) -> Processed
+    // An answered block's samples, and what its events leave.
+    fn play(self, infos: BlockInfos, input: &[f32], output: &mut [f32], part: &[f32]) -> Played
         requires { ⌜ Playable self infos (now input) (now output) (now part) ⌝ }
-        ensures { λ r. ⌜ Plays self infos (restsFor infos (firstOf (paramOf self .queue))) (now (input .entry)) (now (output .entry)) (now (part .entry)) r (now (output .exit)) (now (part .exit)) ⌝ }
+        ensures { λ r. ⌜ Plays self infos (restsFor infos (firstOf (paramOf self .queue))) (now (input .entry)) (now (output .entry)) (now (part .entry)) r (now (output .exit)) ⌝ }
     {
         let q = self.timeline;
         if block::rests_for(infos, q.peek()) {
-            self.rest(infos, input, output, part)
+            self.rest(infos, input, output)
         } else {
             self.walk(infos, input, output, part)
         }
@@ -166,16 +187,14 @@ impl AudioParam {
             store.len() == AudioParam::STORE,
         );
         let Verdict::Answered = verdict else {
-            return Processed {
-                verdict,
-                param: self,
-                steps: 0,
-                current: 0.0,
-                one: false,
-            };
+            return self.refused_block(verdict);
         };
         let rate = self.rate;
         let infos = block::infos_of(rate, block_time, period, count);
-        self.render(infos, input, output, store)
+        let played = self.play(infos, input, output, &store[..]);
+        let q = self.timeline;
+        let head = played.head;
+        let timeline = left(q, played.at, head, store);
+        self.after(infos, timeline, played)
     }
 }

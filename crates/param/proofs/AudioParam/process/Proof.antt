@@ -7,6 +7,7 @@ use denote.Ref.{now}
 use Rattle.rules.specs.Block.{Call, verdictOf}
 use Rattle.block.specs.Asked.{asked}
 use Rattle.param.specs.Param.{paramOf}
+use Rattle.param.specs.Processed.{Playable}
 use Rattle.param.proofs.Plays.{few, playable, refuses, plays}
 use borrow.Author.Needs.{needs}
 use Rattle.param.proofs.AudioParam.process.Statement.{statement}
@@ -14,7 +15,10 @@ use Rattle.param.proofs.AudioParam.process.Tie as tie
 use Rattle.param.proofs.AudioParam.process.Reads as reads
 use Rattle.param.proofs.AudioParam.process.Lts as lts
 use Rattle.block.proofs.infos_of.Reads as infos-of-reads
-use Rattle.param.proofs.AudioParam.render.Reads as render-reads
+use Rattle.param.proofs.AudioParam.after.Reads as after-reads
+use Rattle.param.proofs.AudioParam.play.Reads as play-reads
+use Rattle.param.proofs.AudioParam.refused_block.Reads as refused-block-reads
+use Rattle.param.proofs.process.left.Reads as left-reads
 use Rattle.refusals.proofs.block.verdict.Reads as verdict-reads
 
 -- what is asked
@@ -32,54 +36,76 @@ verdict : (c : tie.After-verdict)
 unfolding verdictOf
 verdict c = c .verdict .ensures _ _ _ refl refl refl
 
--- src/process.rt:158:13
+-- src/process.rt:186:13
 verdict-requires : tie.Need-verdict-requires
 verdict-requires c κs = search needs
 
 enum-told : tie.Need-enum-told
 enum-told c = search needs
 
--- src/process.rt:169:13
+-- src/process.rt:197:13
 enum-told-2 : tie.Need-enum-told-2
 enum-told-2 c = search needs
 
--- src/process.rt:169:13
-returns : tie.Need-returns
-unfolding ofBits
-returns c =
-    let start = c .before .before .before .before .before .before in
-    refuses (start .args .self) (store start) (call start) (start .pre) (verdict (c .before .before)) (c .enum-told2 .given .1)
+-- src/process.rt:197:13
+refused-block-requires : tie.Need-refused-block-requires
+refused-block-requires c κs = search needs
 
--- src/process.rt:178:13
+-- src/process.rt:197:13
+returns : tie.Need-returns
+returns c =
+    let told = c .before in
+    let start = told .before .before .before .before .before .before in
+    refuses (start .args .self) (store start) (call start) (start .pre) (verdict (told .before .before)) (told .enum-told2 .given .1) (c .refused-block .ensures)
+
+-- src/process.rt:200:13
 infos-of-requires : tie.Need-infos-of-requires
 infos-of-requires c κs =
     let start = c .before .before .before .before .before .before in
     omega (arith, few (start .args .self) (store start) (call start) (start .pre) (verdict (c .before .before)) (c .enum-told .given .1))
 
--- src/process.rt:179:9
-render-requires : tie.Need-render-requires
-render-requires c κs =
-    let infos = c .before .before in
-    let told = infos .before in
+-- what an answered block leans on
+fits : (c : tie.After-infos-of)
+    → let start = c .before .before .before .before .before .before .before in
+    Playable (start .args .self) (c .infos-of .result) (now (start .args .input)) (now (start .args .output)) (store start)
+fits c =
+    let told = c .before in
     let start = told .before .before .before .before .before .before in
-    playable (start .args .self) (store start) (call start) (start .pre) (verdict (told .before .before)) (told .enum-told .given .1) (infos .infos-of .ensures _ _)
+    playable (start .args .self) (store start) (call start) (start .pre) (verdict (told .before .before)) (told .enum-told .given .1) (c .infos-of .ensures _ _)
 
--- src/process.rt:145:5
+-- src/process.rt:201:13
+play-requires : tie.Need-play-requires
+play-requires c κs = fits (c .before .before)
+
+-- src/process.rt:204:13
+left-requires : tie.Need-left-requires
+left-requires c κs =
+    let infos = c .before .before .before .before .before .before .before in
+    let start = infos .before .before .before .before .before .before .before in
+    (start .pre .neat, fits infos .room)
+
+-- src/process.rt:205:9
+after-requires : tie.Need-after-requires
+after-requires c κs = search needs
+
+-- src/process.rt:173:5
 same-length : tie.Need-same-length
 same-length c = search needs
 
--- src/process.rt:145:5
+-- src/process.rt:173:5
 same-length-2 : tie.Need-same-length-2
 same-length-2 c = search needs
 
--- src/process.rt:145:5
+-- src/process.rt:173:5
 returns-2 : tie.Need-returns-2
 returns-2 c =
-    let done = c .before .before .before .before in
+    let leaves = c .before .before .before in
+    let done = leaves .before .before .before .before .before in
     let infos = done .before .before .before in
     let told = infos .before in
     let start = told .before .before .before .before .before .before in
-    plays (start .args .self) (store start) (call start) (start .pre) (verdict (told .before .before)) (told .enum-told .given .1) (infos .infos-of .ensures _ _) (done .render .ensures)
+    plays (start .args .self) (store start) (call start) (start .pre) (verdict (told .before .before)) (told .enum-told .given .1) (infos .infos-of .ensures _ _)
+    (done .play .ensures) (leaves .left .ensures) (c .after .ensures)
 
 pub process-spec : {M : Type 1} → statement M
 process-spec =
@@ -88,9 +114,12 @@ process-spec =
     verdict-requires
     enum-told
     enum-told-2
+    refused-block-requires
     returns
     infos-of-requires
-    render-requires
+    play-requires
+    left-requires
+    after-requires
     same-length
     same-length-2
     returns-2)
