@@ -141,6 +141,9 @@ fn speed() {
     compare("curve of 17", "(goal 1.0)", &Curve(values(17)), &ramps);
     compare("curve of 2", "(goal 1.0)", &Curve(values(2)), &ramps);
     compare("target", "(goal 1.5, in the end 1.0)", &Target, &ramps);
+    // every second sum lies in the middle between two samples
+    compare("target, ties", "(goal 1.5, in the end 1.0)", &Target, &[ramp(3600.0, 1.0, 2.0, 0.3)]);
+    compare("target, late", "(goal 1.5, in the end 1.0)", &Target, &[ramp(0.01, 0.1, 0.8, 0.1), ramp(0.01, 1.0, 0.0, 0.1), ramp(0.1, 440.0, 880.0, 0.6)]);
     compare("exponential", "(goal 1.5, in the end 1.0)", &Exponential, &grows);
 }
 

@@ -31,6 +31,10 @@ use Rattle.automation.specs.Walks.{walkIs, waitingAs, turnAs, Ready, Tur
 pub ready-room : {f : BlockInfos} {w : Walk} {b : List Float} → Ready f w b → (t : Float) {n : ℕ} → n ≡ endPlace f t → Room (w .filled) n b
 ready-room {f} r t e = record { filled = r .filled; upto = omega (arith, end-most f t, r .room); most = r .most }
 
+-- a body leans on the places filled and on the count of events consumed, and on nothing else of a walk
+pub ready-as : {f : BlockInfos} {w : Walk} {b : List Float} → Ready f w b → {u : Walk} → u .filled ≡ w .filled → u .finished ≡ w .finished → Ready f u b
+ready-as r e h = record { filled = rw e (r .filled); room = r .room; most = r .most; finished = rw h (r .finished) }
+
 pub filled-at : {f : BlockInfos} {place m : ℕ} {sample : Float → Float} {k : ℕ} {b : List Float} {n : ℕ} {c : List Float} → place ≡ m → Filled f place sample k b n c → Filled f m sample k b n c
 filled-at e g = rw e at g
 
@@ -103,49 +107,44 @@ module _ {f : BlockInfos} {b numbers : List Float} {e : Event} {turn : Rules.Tur
 
 -- ---- targets
 
--- A target's body behind its fill: `ended` says where it ends, if it does in this block.
-pub record Targeted (f : BlockInfos) (b : List Float) (e : Event) (turn : Rules.Turn) (target : Float) (ended : MaybeTime) (sample : Float → Float) (end : Float) (n : ℕ) (u : Walk)
-    (c : List Float) : Type 0 where
-  pub before : Walk
-  pub turn-is : turn ≡ targetRun f (walkIs before b) (waitingAs e []) target sample ended
+-- A target's run behind its fill, from the walk w in the buffer b on: `ended` says where it ends, if it does in this block; the walk is u, the buffer c.
+pub record Targeted (f : BlockInfos) (w : Walk) (b : List Float) (ended : MaybeTime) (sample : Float → Float) (end : Float) (u : Walk) (c : List Float) : Type 0 where
+  pub n : ℕ
   pub end-is : end ≡ holdOr ended (f .next)
-  pub filled : Filled f (endPlace f end) sample (before .filled) b n c
-  pub walk-is : u ≡ withFilled n before
-  pub few : before .finished < 2 ^ 32
+  pub filled : Filled f (endPlace f end) sample (w .filled) b n c
+  pub walk-is : u ≡ withFilled n w
 
-module _ {f : BlockInfos} {b : List Float} {e : Event} {turn : Rules.Turn} {target : Float} {ended : MaybeTime} {sample : Float → Float} {end : Float} {n : ℕ} {u : Walk} {c : List Float}
-    (s : Targeted f b e turn target ended sample end n u c) where
-  pub target-few : u .finished < 2 ^ 32
-  target-few = rw (s .walk-is) (s .few)
+module _ {f : BlockInfos} {w : Walk} {b : List Float} {ended : MaybeTime} {sample : Float → Float} {end : Float} {u : Walk} {c : List Float}
+    (s : Targeted f w b ended sample end u c) {r : Float} (value : r ≡ sample end) where
+  pub target-ends : {k : Float} → ended ≡ MaybeTime.At k → (e : Event) (target : Float)
+      → Turns b [] (targetRun f (walkIs w b) (alone e) target sample ended) (wentOnWith (consumedWith end r u) e) c
+  unfolding turnAs targetRun fill withValues Rules.consumed holdOr
+  target-ends {k} m e target =
+      let z : end ≡ k = rw m at (s .end-is) in
+      rw (s .walk-is)
+      (record { turn = rw (m, ← z, s .filled .values, value, add-one); filled = s .filled .small; whole = s .filled .whole })
 
-  module _ {r : Float} (value : r ≡ sample end) where
-    pub target-ends : {k : Float} → ended ≡ MaybeTime.At k → Turns b [] turn (wentOnWith (consumedWith end r u) e) c
-    unfolding turnAs targetRun fill withValues Rules.consumed holdOr
-    target-ends {k} m =
-        let z : end ≡ k = rw m at (s .end-is) in
-        rw (s .turn-is, s .walk-is)
-        (record { turn = rw (m, ← z, s .filled .values, value, add-one); filled = s .filled .small; whole = s .filled .whole })
+  -- where it does not end in the block
+  module _ (m : ended ≡ MaybeTime.Missing) where
+    at-next : end ≡ f .next
+    unfolding holdOr
+    at-next = rw m at (s .end-is)
 
-    -- where it does not end in the block
-    module _ (m : ended ≡ MaybeTime.Missing) where
-      at-next : end ≡ f .next
-      unfolding holdOr
-      at-next = rw m at (s .end-is)
+    value-next : r ≡ sample (f .next)
+    value-next = value ∙ ap sample at-next
 
-      value-next : r ≡ sample (f .next)
-      value-next = value ∙ ap sample at-next
+    filled-next : Filled f (endPlace f (f .next)) sample (w .filled) b (s .n) c
+    filled-next = rw at-next at (s .filled)
 
-      filled-next : Filled f (endPlace f (f .next)) sample (s .before .filled) b n c
-      filled-next = rw at-next at (s .filled)
-
-      pub target-leaves : {t : Turn} {d : List Float} → Turns c [] (targetLeft f (walkIs u c) (alone e) target r) t d → Turns b [] turn t d
-      unfolding targetRun fill withValues
-      target-leaves t =
-          record {
-            turn = t .turn ∙ sym (s .turn-is ∙ rw (m, ← value-next, ← filled-next .values, s .walk-is));
-            filled = t .filled;
-            whole = t .whole ∙ filled-next .whole;
-          }
+    pub target-leaves : (e : Event) (target : Float) {t : Turn} {d : List Float} → Turns c [] (targetLeft f (walkIs u c) (alone e) target r) t d
+        → Turns b [] (targetRun f (walkIs w b) (alone e) target sample ended) t d
+    unfolding targetRun fill withValues
+    target-leaves e target t =
+        record {
+          turn = t .turn ∙ sym (rw (m, ← value-next, ← filled-next .values, s .walk-is));
+          filled = t .filled;
+          whole = t .whole ∙ filled-next .whole;
+        }
 
 -- v is the value at the next block
 module _ (f : BlockInfos) (w : Walk) (b : List Float) (e : Event) (target v : Float) where

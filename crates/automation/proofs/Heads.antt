@@ -38,7 +38,7 @@ use Rattle.automation.specs.declared.Turn.{Turn}
 use Rattle.automation.specs.declared.Go.{Go}
 use Rattle.automation.specs.declared.Go.the-variants as Go
 use Rattle.automation.specs.Walks.{walkIs, waitingAs, turnAs, withFilled, countedOnce, Ready, Turns}
-use Rattle.automation.specs.Walked.{Numbered, Begins, Ends, Walkable, withHead, Walks}
+use Rattle.automation.specs.Walked.{numbersAt, Numbered, Begins, Ends, Walkable, withHead, Walks}
 
 -- ---- a queue taken apart at a place
 
@@ -149,6 +149,28 @@ head-counts f w v x xs e =
     (rw e at
     (turn-carries f Any _ _ _ _ tt (counts-carry f (w .steps) (w .finished) (w .turned)) x (headOf xs) w (any-timed (x .event)) (head-timed Any xs (all-any xs)) (omega arith)))
 
+-- ---- a head, taken
+
+counted-is : (w : Walk) (b : List Float) → walkIs (countedOnce w) b ≡ counted (walkIs w b)
+unfolding counted
+counted-is w b = rw add-one
+
+-- its numbers, as code takes them: k of them from the offset on
+abbrev lent : List Float → ℕ → ℕ → List Float
+lent store offset k = take (offset + k - offset) (drop offset store)
+
+module _ (store : List Float) (offset : ℕ) (e : Event) {k : ℕ} (size : k ≡ lengthOf e) where
+  lent-is : lent store offset k ≡ numbersAt store offset e
+  lent-is = let z : offset + k - offset ≡ lengthOf e = omega arith in rw z
+
+  pub lent-numbered : Numbered e (numbersAt store offset e) → Numbered e (lent store offset k)
+  lent-numbered n = rw lent-is n
+
+  pub takes-head : (f : BlockInfos) (w : Walk) (b : List Float) (n : Head) {u : Walk} {r : Turn} {c : List Float} → u ≡ countedOnce w → Turns b (lent store offset k) (turnOf f (walkIs u b) (waitingAs e (lent store offset k)) n e) r c
+      → Turns b (numbersAt store offset e) (turn f (walkIs w b) (waitingAs e (numbersAt store offset e)) n) r c
+  unfolding turn
+  takes-head f w b n taken g = rw (← counted-is w b) (rw (lent-is, taken) at g)
+
 -- ---- the loop
 
 -- Before a head: as many heads are finished as `at` says, and where the next one's numbers begin is known. The walk w, in the buffer b, goes on as the whole
@@ -180,11 +202,6 @@ begins g e =
       goes-on = refl;
     }
 
--- a head, taken
-counted-is : (w : Walk) (b : List Float) → walkIs (countedOnce w) b ≡ counted (walkIs w b)
-unfolding counted
-counted-is w b = rw add-one
-
 module _ {f : BlockInfos} {es : List Event} {store : List Float} {w₀ : Rules.Walk} {b₀ : List Float} {w : Walk} {b : List Float} {head : Head} {at offset : ℕ}
     (g : Going f es store w₀ b₀ w b head at offset) where
   abbrev ws : List Waiting
@@ -209,7 +226,7 @@ module _ {f : BlockInfos} {es : List Event} {store : List Float} {w₀ : Rules.W
 
   module _ {e : Event} (is : head ≡ Head.Event e) where
     abbrev numbers : List Float
-    numbers = take (lengthOf e) (drop offset store)
+    numbers = numbersAt store offset e
 
     abbrev rest : List Waiting
     rest = drop (at + 1) ws
@@ -224,7 +241,7 @@ module _ {f : BlockInfos} {es : List Event} {store : List Float} {w₀ : Rules.W
     unfolding lengthsOf
     past-is = omega (arith, g .offset-is, lengths-split at es, lengths-split (at + 1) es, ap lengthsOf here)
 
-    past-most : offset + lengthOf e ≤ lengthsOf es
+    pub past-most : offset + lengthOf e ≤ lengthsOf es
     past-most = omega (arith, past-is, lengths-split (at + 1) es)
 
     waits-here : drop at ws ≡ waitingAs e numbers ∷ rest
@@ -234,7 +251,7 @@ module _ {f : BlockInfos} {es : List Event} {store : List Float} {w₀ : Rules.W
         ∙ rw (here, ← g .offset-is, drop-drop (lengthOf e) offset store, past-is)
         (ap (λ (l : List Waiting). waitingAs e numbers ∷ l) (attached-drop (at + 1) es store))
 
-    numbered : SoundQueue es → lengthsOf es ≤ length store → Numbered e numbers
+    pub numbered : SoundQueue es → lengthsOf es ≤ length store → Numbered e numbers
     unfolding areClear
     numbered s l =
         record {
@@ -243,61 +260,42 @@ module _ {f : BlockInfos} {es : List Event} {store : List Float} {w₀ : Rules.W
           clear = both (isClear e) _ (rw here at (clear-drop at es (s .clear))) .0;
         }
 
-    -- the body's turn is the rules'
-    turn-is : {n : Head} → n ≡ firstOf (drop (at + 1) es)
-        → turnOf f (walkIs (countedOnce w) b) (waitingAs e numbers) n e ≡ turn f (walkIs w b) (waitingAs e numbers) (headOf rest)
-    unfolding turn
-    turn-is {n} h =
-        let k : headOf rest ≡ n = ap headOf (sym (attached-drop (at + 1) es store)) ∙ head-attached (drop (at + 1) es) _ ∙ sym h in
-        rw (k, counted-is w b)
+    -- what is behind it is the rules' next head
+    behind-is : {n : Head} → n ≡ firstOf (drop (at + 1) es) → n ≡ headOf rest
+    behind-is h = h ∙ sym (head-attached (drop (at + 1) es) _) ∙ ap headOf (attached-drop (at + 1) es store)
 
-    -- the head's numbers, as code takes them: k of them from the offset on
-    module _ {k : ℕ} (size : k ≡ lengthOf e) where
-      abbrev lent : List Float
-      lent = take (offset + k - offset) (drop offset store)
+    module _ {n : Head} (behind : n ≡ firstOf (drop (at + 1) es)) {r : Turn} {c : List Float} (answer : Turns b numbers (turn f (walkIs w b) (waitingAs e numbers) n) r c) where
+      turned-as : turnAs (r .go) (r .walk) c (r .head) numbers ≡ turn f (walkIs w b) (waitingAs e numbers) (headOf rest)
+      turned-as = answer .turn ∙ ap (turn f (walkIs w b) (waitingAs e numbers)) (behind-is behind)
 
-      lent-is : lent ≡ numbers
-      lent-is = let z : offset + k - offset ≡ lengthOf e = omega arith in rw z
+      pub head-stops : r .go ≡ Go.Stop → {d : Walked} {c' : List Float} → Ends f (r .walk) c at (Head.Event (r .head)) d c' → Walks f w₀ es store b₀ d c'
+      unfolding turnAs ended withHead
+      head-stops s {d} {c'} h =
+          let y : walked f w₀ ws ≡ ended f (walkIs (r .walk) c) (waitingAs (r .head) numbers ∷ rest) =
+          sym (g .goes-on) ∙ ap (walked f (walkIs w b)) waits-here ∙ walk-stops f (walkIs w b) (waitingAs e numbers) rest _ _ (sym (rw s at turned-as)) in
+          record {
+            walk = rw y (h .walk);
+            queue = rw (y, h .left, h .place, waits-here);
+            filled = h .filled;
+            whole = h .whole ∙ answer .whole ∙ g .whole;
+          }
 
-      pub past-few : offset + k ≤ lengthsOf es
-      past-few = omega (arith, past-most)
-
-      pub lent-numbered : SoundQueue es → lengthsOf es ≤ length store → Numbered e lent
-      lent-numbered s l = rw lent-is (numbered s l)
-
-      module _ {n : Head} (behind : n ≡ firstOf (drop (at + 1) es)) {u : Walk} (taken : u ≡ countedOnce w) {r : Turn} {c : List Float}
-          (answer : Turns b lent (turnOf f (walkIs u b) (waitingAs e lent) n e) r c) where
-        turned-as : turnAs (r .go) (r .walk) c (r .head) numbers ≡ turn f (walkIs w b) (waitingAs e numbers) (headOf rest)
-        turned-as = (rw (lent-is, taken) at (answer .turn)) ∙ turn-is behind
-
-        pub head-stops : r .go ≡ Go.Stop → {d : Walked} {c' : List Float} → Ends f (r .walk) c at (Head.Event (r .head)) d c' → Walks f w₀ es store b₀ d c'
-        unfolding turnAs ended withHead
-        head-stops s {d} {c'} h =
-            let y : walked f w₀ ws ≡ ended f (walkIs (r .walk) c) (waitingAs (r .head) numbers ∷ rest) =
-            sym (g .goes-on) ∙ ap (walked f (walkIs w b)) waits-here ∙ walk-stops f (walkIs w b) (waitingAs e numbers) rest _ _ (sym (rw s at turned-as)) in
-            record {
-              walk = rw y (h .walk);
-              queue = rw (y, h .left, h .place, waits-here);
-              filled = h .filled;
-              whole = h .whole ∙ answer .whole ∙ g .whole;
-            }
-
-        pub head-goes : r .go ≡ Go.On → Going f es store w₀ b₀ (r .walk) c n (at + 1) (offset + k)
-        unfolding turnAs
-        head-goes o =
-            let q : turn f (walkIs w b) (waitingAs e numbers) (headOf rest) ≡ on (walkIs (r .walk) c) = sym (rw o at turned-as) in
-            let m = head-counts f (walkIs w b) (walkIs (r .walk) c) (waitingAs e numbers) rest q in
-            record {
-              offset-is = rw size past-is;
-              head-is = behind;
-              filled = answer .filled;
-              whole = answer .whole ∙ g .whole;
-              few = omega (arith, inside);
-              steps = omega (arith, m .0, g .steps);
-              finished = omega (arith, m .1, g .finished);
-              turned = omega (arith, m .2, g .turned);
-              goes-on = sym (walk-goes-on f (walkIs w b) (waitingAs e numbers) rest _ q) ∙ ap (walked f (walkIs w b)) (sym waits-here) ∙ g .goes-on;
-            }
+      pub head-goes : r .go ≡ Go.On → {k : ℕ} → k ≡ lengthOf e → Going f es store w₀ b₀ (r .walk) c n (at + 1) (offset + k)
+      unfolding turnAs
+      head-goes o size =
+          let q : turn f (walkIs w b) (waitingAs e numbers) (headOf rest) ≡ on (walkIs (r .walk) c) = sym (rw o at turned-as) in
+          let m = head-counts f (walkIs w b) (walkIs (r .walk) c) (waitingAs e numbers) rest q in
+          record {
+            offset-is = rw size past-is;
+            head-is = behind;
+            filled = answer .filled;
+            whole = answer .whole ∙ g .whole;
+            few = omega (arith, inside);
+            steps = omega (arith, m .0, g .steps);
+            finished = omega (arith, m .1, g .finished);
+            turned = omega (arith, m .2, g .turned);
+            goes-on = sym (walk-goes-on f (walkIs w b) (waitingAs e numbers) rest _ q) ∙ ap (walked f (walkIs w b)) (sym waits-here) ∙ g .goes-on;
+          }
 
 -- ---- what the heads' callees ask, with b the buffer as it was lent
 
@@ -311,18 +309,17 @@ module _ {f : BlockInfos} {q : AudioParamEventTimeline} {b store : List Float} (
   pub few-steps : w .steps < 2 ^ 31
   few-steps = omega (arith, g .steps, g .few, p .sound .few)
 
-  pub ready : length b₀ ≡ length b → {u : Walk} → u ≡ countedOnce w → Ready f u c × (u .steps < 2 ^ 32) × (u .turned < 2 ^ 32)
-  ready same e =
-      rw e (
-        record {
-          filled = g .filled;
-          room = omega (arith, g .whole, p .room);
-          most = omega (arith, g .whole, p .most);
-          finished = omega (arith, g .finished, g .few, p .sound .few);
-        },
-        omega (arith, few-steps),
-        omega (arith, g .turned, g .few, p .sound .few),
-      )
+  pub few-turned : w .turned < 2 ^ 32
+  few-turned = omega (arith, g .turned, g .few, p .sound .few)
+
+  pub ready : length b₀ ≡ length b → Ready f w c
+  ready same =
+      record {
+        filled = g .filled;
+        room = omega (arith, g .whole, p .room);
+        most = omega (arith, g .whole, p .most);
+        finished = omega (arith, g .finished, g .few, p .sound .few);
+      }
 
 -- the walk begins as the rules' does
 pub walks : {f : BlockInfos} {v : Float} {l : LastEvent} {b : List Float} {w : Walk} {b₀ : List Float} → Begins f v l b w b₀ → {es : List Event} {store : List Float}

@@ -3,7 +3,7 @@ use mathlib.Core.Path.{_≡_}
 use mathlib.Core.Bool.{true}
 use mathlib.Core.List.{List, [], _∷_}
 use Prim.Native.Nat.{ℕ, _≤_, _<_}
-use lib.ListN.{length, drop}
+use lib.ListN.{length, take, drop}
 use lib.Ieee.{Float}
 use Rattle.rules.specs.declared.Event.{Event}
 use Rattle.rules.specs.declared.Head.{Head}
@@ -21,6 +21,10 @@ use Rattle.timeline.specs.Timeline.{Neat, waiting}
 use Rattle.automation.specs.declared.Walk.{Walk}
 use Rattle.automation.specs.declared.Walked.{Walked}
 use Rattle.automation.specs.Walks.{walkIs, waitingAs}
+
+-- the numbers of an event that begin at a place of the store
+abbrev pub numbersAt : List Float → ℕ → Event → List Float
+numbersAt store at e = take (lengthOf e) (drop at store)
 
 -- an event with its own numbers, which fit in a store
 pub record Numbered (e : Event) (numbers : List Float) : Type 0 where

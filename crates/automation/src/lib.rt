@@ -1,16 +1,18 @@
 // The walk over a block's heads: the five bodies, named as in the Rust, and the loop that takes one head after the other.
 ghost use mathlib.Core.Path.{_≡_};
 ghost use mathlib.Core.List.{[]};
-ghost use Prim.Native.Nat.{ℕ, _≤_, _<_, _^_};
+ghost use Prim.Native.Nat.{ℕ, _+_, _≤_, _<_, _^_};
 ghost use lib.ListN.{length};
-ghost use Rattle.rules.specs.Queue.{alone};
-ghost use Rattle.rules.specs.Samples.{isRatio};
-ghost use Rattle.rules.specs.Walk.{stepTime, lastOr, holdOr, endByNext, endByHold, snaps as snapsTo, targetLeft, stepTurn, linearTurn, exponentialTurn, targetTurn, curveTurn, turnOf};
+ghost use lib.Ieee.{binary64, add, sub};
+ghost use Rattle.rules.specs.Queue.{alone, lengthOf};
+ghost use Rattle.rules.specs.Samples.{isRatio, ratioLog, targetSample, curveSample, lastNumber};
+ghost use Rattle.rules.specs.Walk.{stepTime, lastOr, holdOr, endByNext, endByHold, snaps as snapsTo, fromStart, spanTurn, targetLeft, targetRun, stepTurn, linearTurn, exponentialTurn, targetTurn, curveTurn, turnOf, turn};
 ghost use Rattle.rules.specs.Block.{walkFrom, valuesBefore};
+ghost use Rattle.samples.specs.At.{exponentialAt};
 ghost use Rattle.fills.specs.Filled.{Room};
 ghost use Rattle.timeline.specs.Timeline.{waiting};
 ghost use Rattle.automation.specs.Walks.{walkIs, waitingAs, Ready, Turns, withFilled, withIntrinsic, withLast, consumedWith, countedOnce, turnedToStep, stoppedWith, wentOnWith};
-ghost use Rattle.automation.specs.Walked.{Numbered, Begins, Ends, Walkable, Walks};
+ghost use Rattle.automation.specs.Walked.{numbersAt, Numbered, Begins, Ends, Walkable, Walks};
 use rules::AutomationRate;
 use rules::BlockInfos;
 use rules::Event;
@@ -276,6 +278,46 @@ pub fn compute_linear_ramp_automation(
     Turn::consume(w, end_time, at_end, head)
 }
 
+// An exponential ramp that has a ratio: it goes on or ends as ramps do.
+fn exponential_span(
+    infos: BlockInfos,
+    walk: Walk,
+    buffer: &mut [f32],
+    from: Finished,
+    value: f32,
+    time: f64,
+    hold: MaybeTime,
+    ratio: f32,
+) -> Turn
+    requires { ⌜ Ready infos walk (now buffer) ⌝ }
+    ensures { λ r. ⌜ Turns (now (buffer .entry)) [] (spanTurn infos (walkIs walk (now (buffer .entry))) (alone (Event.Exponential value time hold)) time value hold (exponentialAt (from .time) (sub binary64 time (from .time)) (from .value) (ratioLog ratio))) r (now (buffer .exit)) ⌝ }
+{
+    let duration = time - from.time;
+    let log = samples::ratio_log(ratio);
+    let end_time = hold_or(hold, time);
+    let end_index = samples::end_place_of(infos, end_time);
+    let filled = fills::fill_exponential_ramp(
+        infos,
+        buffer,
+        walk.filled,
+        end_index,
+        from,
+        duration,
+        log,
+    );
+    let w = walk.with_filled(filled);
+    let head = Event::Exponential { value, time, hold };
+    if end_time >= infos.next {
+        let at_next = fills::exponential_value(from, duration, log, infos.next);
+        return Turn::stop(w.with_intrinsic(at_next), head);
+    }
+    let MaybeTime::At(_) = hold else {
+        return Turn::consume(w, end_time, value, head);
+    };
+    let at_end = fills::exponential_value(from, duration, log, end_time);
+    Turn::consume(w, end_time, at_end, head)
+}
+
 pub fn compute_exponential_ramp_automation(
     infos: BlockInfos,
     walk: Walk,
@@ -288,36 +330,14 @@ pub fn compute_exponential_ramp_automation(
     ensures { λ r. ⌜ Turns (now (buffer .entry)) [] (exponentialTurn infos (walkIs walk (now (buffer .entry))) (alone (Event.Exponential value time hold)) value time hold) r (now (buffer .exit)) ⌝ }
 {
     let last_event = start_of(infos, walk);
-    let duration = time - last_event.time;
-    let end_time = hold_or(hold, time);
-    let ratio = value / last_event.value;
     let w = walk.with_last(last_event);
+    let ratio = value / last_event.value;
     // no ramp goes there: the event becomes a step, which is the walk's next head
     if !is_ratio(ratio) {
+        let end_time = hold_or(hold, time);
         return compute_set_value_automation(infos, w.turned_to_step(), buffer, value, end_time);
     }
-    let log = samples::ratio_log(ratio);
-    let end_index = samples::end_place_of(infos, end_time);
-    let filled = fills::fill_exponential_ramp(
-        infos,
-        buffer,
-        walk.filled,
-        end_index,
-        last_event,
-        duration,
-        log,
-    );
-    let w = w.with_filled(filled);
-    let head = Event::Exponential { value, time, hold };
-    if end_time >= infos.next {
-        let at_next = fills::exponential_value(last_event, duration, log, infos.next);
-        return Turn::stop(w.with_intrinsic(at_next), head);
-    }
-    let MaybeTime::At(_) = hold else {
-        return Turn::consume(w, end_time, value, head);
-    };
-    let at_end = fills::exponential_value(last_event, duration, log, end_time);
-    Turn::consume(w, end_time, at_end, head)
+    exponential_span(infos, w, buffer, last_event, value, time, hold, ratio)
 }
 
 // A target that does not end in the block, with its value at the next one: where that is near the target it becomes a step there.
@@ -341,6 +361,44 @@ fn target_left(
         time: infos.next,
     };
     Turn::stop(walk.with_intrinsic(target), step)
+}
+
+// A target that has begun, from `from` on; `ended` is where it ends, if it does in the block.
+fn target_run(
+    infos: BlockInfos,
+    walk: Walk,
+    buffer: &mut [f32],
+    head: Event,
+    from: f32,
+    value: f32,
+    time: f64,
+    constant: f64,
+    ended: MaybeTime,
+) -> Turn
+    requires { ⌜ Ready infos walk (now buffer) ⌝ }
+    ensures { λ r. ⌜ Turns (now (buffer .entry)) [] (targetRun infos (walkIs walk (now (buffer .entry))) (alone head) value (fromStart time (walk .intrinsic) (targetSample from value time constant)) ended) r (now (buffer .exit)) ⌝ }
+{
+    let end_time = hold_or(ended, infos.next);
+    let end_index = samples::end_place_of(infos, end_time);
+    let intrinsic = walk.intrinsic;
+    let filled = fills::fill_target(
+        infos,
+        buffer,
+        walk.filled,
+        end_index,
+        time,
+        intrinsic,
+        from,
+        value,
+        constant,
+    );
+    let w = walk.with_filled(filled);
+    let diff = from - value;
+    let at_end = fills::target_value(time, intrinsic, constant, value, diff, end_time);
+    let MaybeTime::At(_) = ended else {
+        return target_left(infos, w, buffer, head, value, at_end);
+    };
+    Turn::consume(w, end_time, at_end, head)
 }
 
 // `next` is the event behind the head.
@@ -369,53 +427,24 @@ pub fn compute_set_target_automation(
         return Turn::stop(w, head);
     }
     let ended = end_by_hold(infos, hold, end_by_next(infos, time, next));
-    let end_time = hold_or(ended, infos.next);
-    let end_index = samples::end_place_of(infos, end_time);
-    let intrinsic = walk.intrinsic;
-    let start_value = last_event.value;
-    let diff = start_value - value;
-    let filled = fills::fill_target(
-        infos,
-        buffer,
-        walk.filled,
-        end_index,
-        time,
-        intrinsic,
-        start_value,
-        value,
-        constant,
-    );
-    let w = w.with_filled(filled);
-    let at_end = fills::target_value(time, intrinsic, constant, value, diff, end_time);
-    let MaybeTime::At(_) = ended else {
-        return target_left(infos, w, buffer, head, value, at_end);
-    };
-    Turn::consume(w, end_time, at_end, head)
+    let from = last_event.value;
+    target_run(infos, w, buffer, head, from, value, time, constant, ended)
 }
 
-// `values` are the curve's own numbers.
-pub fn compute_set_value_curve_automation(
+// A curve that has begun: it goes on or ends as ramps do.
+fn curve_span(
     infos: BlockInfos,
     walk: Walk,
     buffer: &mut [f32],
+    head: Event,
     start: f64,
     duration: f64,
     hold: MaybeTime,
     values: &[f32],
 ) -> Turn
     requires { ⌜ Ready infos walk (now buffer) × (2 ≤ length (now values)) × (length (now values) ≤ 4096) ⌝ }
-    ensures { λ r. ⌜ Turns (now (buffer .entry)) (now (values .entry)) (curveTurn infos (walkIs walk (now (buffer .entry))) (waitingAs (Event.Curve start duration (length (now (values .entry))) hold) (now (values .entry))) start duration hold) r (now (buffer .exit)) ⌝ }
+    ensures { λ r. ⌜ Turns (now (buffer .entry)) (now (values .entry)) (spanTurn infos (walkIs walk (now (buffer .entry))) (waitingAs head (now (values .entry))) (add binary64 start duration) (lastNumber (now (values .entry))) hold (fromStart start (walk .intrinsic) (curveSample (now (values .entry)) start duration))) r (now (buffer .exit)) ⌝ }
 {
-    let len = values.len();
-    let head = Event::Curve {
-        start,
-        duration,
-        len,
-        hold,
-    };
-    if start > infos.next {
-        return Turn::stop(walk, head);
-    }
     let end_time = hold_or(hold, start + duration);
     let end_index = samples::end_place_of(infos, end_time);
     let intrinsic = walk.intrinsic;
@@ -435,10 +464,35 @@ pub fn compute_set_value_curve_automation(
         return Turn::stop(w.with_intrinsic(at_next), head);
     }
     let MaybeTime::At(_) = hold else {
-        return Turn::consume(w, end_time, values[len - 1], head);
+        return Turn::consume(w, end_time, values[values.len() - 1], head);
     };
     let at_end = fills::curve_value(start, intrinsic, duration, values, end_time);
     Turn::consume(w, end_time, at_end, head)
+}
+
+// `values` are the curve's own numbers.
+pub fn compute_set_value_curve_automation(
+    infos: BlockInfos,
+    walk: Walk,
+    buffer: &mut [f32],
+    start: f64,
+    duration: f64,
+    hold: MaybeTime,
+    values: &[f32],
+) -> Turn
+    requires { ⌜ Ready infos walk (now buffer) × (2 ≤ length (now values)) × (length (now values) ≤ 4096) ⌝ }
+    ensures { λ r. ⌜ Turns (now (buffer .entry)) (now (values .entry)) (curveTurn infos (walkIs walk (now (buffer .entry))) (waitingAs (Event.Curve start duration (length (now (values .entry))) hold) (now (values .entry))) start duration hold) r (now (buffer .exit)) ⌝ }
+{
+    let head = Event::Curve {
+        start,
+        duration,
+        len: values.len(),
+        hold,
+    };
+    if start > infos.next {
+        return Turn::stop(walk, head);
+    }
+    curve_span(infos, walk, buffer, head, start, duration, hold, values)
 }
 
 // ---- the walk
@@ -478,6 +532,24 @@ fn compute_event(
             ..
         } => compute_set_value_curve_automation(infos, walk, buffer, start, duration, hold, values),
     }
+}
+
+// A head, taken: one step, with the event behind it and its own numbers of the store, which begin at `offset`.
+fn take_head(
+    infos: BlockInfos,
+    walk: Walk,
+    buffer: &mut [f32],
+    event: Event,
+    next: Head,
+    store: &[f32],
+    offset: usize,
+) -> Turn
+    requires { ⌜ Ready infos walk (now buffer) × (walk .steps < 2 ^ 31) × (walk .turned < 2 ^ 32) × (offset + lengthOf event ≤ length (now store)) × Numbered event (numbersAt (now store) offset event) ⌝ }
+    ensures { λ r. ⌜ Turns (now (buffer .entry)) (numbersAt (now (store .entry)) offset event) (turn infos (walkIs walk (now (buffer .entry))) (waitingAs event (numbersAt (now (store .entry)) offset event)) next) r (now (buffer .exit)) ⌝ }
+{
+    let past = offset + timeline::length_of(event);
+    let values = &store[offset..past];
+    compute_event(infos, walk.counted(), buffer, event, next, values)
 }
 
 // A walk before its first head: at K-rate the block's one value is the intrinsic one.
@@ -535,26 +607,23 @@ pub fn compute_buffer(
     requires { ⌜ Walkable infos timeline (now buffer) (now store) ⌝ }
     ensures { λ r. ⌜ Walks infos (walkFrom intrinsic last (valuesBefore (infos .rate) intrinsic) 0) (waiting timeline) (now (store .entry)) (now (buffer .entry)) r (now (buffer .exit)) ⌝ }
 {
-    let len = timeline.len;
     let mut walk = begin(infos, intrinsic, last, buffer);
     let mut head = timeline.peek();
     let mut at = 0usize;
     let mut offset = 0usize;
     loop {
-        walk = walk.counted();
         let Head::Event(event) = head else {
-            return end(infos, walk, buffer, at, Head::Empty);
+            return end(infos, walk.counted(), buffer, at, Head::Empty);
         };
         // from the slot itself: a call with the whole queue would copy it for each head
         let behind = at + 1;
         let mut next = Head::Empty;
-        if behind < len {
+        if behind < timeline.len {
             let slot = timeline.slots[behind];
             let waits = slot.event;
             next = Head::Event(waits);
         }
-        let past = offset + timeline::length_of(event);
-        let turn = compute_event(infos, walk, buffer, event, next, &store[offset..past]);
+        let turn = take_head(infos, walk, buffer, event, next, store, offset);
         walk = turn.walk;
         let go = turn.go;
         if let Go::Stop = go {
@@ -562,7 +631,7 @@ pub fn compute_buffer(
             return end(infos, walk, buffer, at, Head::Event(left));
         }
         at = behind;
-        offset = past;
+        offset = offset + timeline::length_of(event);
         head = next;
     }
 }

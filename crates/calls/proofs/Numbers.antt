@@ -20,7 +20,9 @@ use Rattle.calls.specs.declared.Call.{Call}
 use Rattle.calls.specs.declared.Call.the-variants as Call
 use Rattle.calls.specs.declared.NextNumbers.{NextNumbers}
 use Rattle.calls.specs.declared.NextNumbers.the-variants as NextNumbers
-use Rattle.calls.specs.Language.{withTaken, andMore, singles, numbersAt, Said, plain, heard, Heard}
+use Rattle.calls.specs.declared.NextCounted.{NextCounted}
+use Rattle.calls.specs.declared.NextCounted.the-variants as NextCounted
+use Rattle.calls.specs.Language.{withTaken, withCount, andMore, singles, counted, numbersAt, countedAt, Said, plain, heard, Heard}
 use Rattle.calls.proofs.Fields.{is-taken, not-taken, single-is, single-not}
 
 -- numbers that were read before some others
@@ -94,6 +96,30 @@ module _ {B : Type 0} (s : List ℕ) (at n : ℕ) (xs : List Float) {r : NextNum
   pub numbers-not : r ≡ NextNumbers.Unread → withTaken (singles n (wordsFrom s at)) then ≡ none
   unfolding numbersAt
   numbers-not g = not-taken then (sym e ∙ ap (numbersAt s xs) g)
+
+-- ---- numbers behind their count
+
+module _ {B : Type 0} (then : ℕ → List Float → List Word → Option B) where
+  numbers-then : (n : ℕ) (o : Option (List Float × List Word)) → withTaken o (then n) ≡ withTaken {A = ℕ × List Float} (withTaken o (λ xs ws. some ((n, xs), ws))) (λ p. then (p .0) (p .1))
+  unfolding withTaken
+  numbers-then n none = refl
+  numbers-then n (some p) = refl
+
+  count-then : (o : Option (ℕ × List Word))
+      → withTaken o (λ n ws. withTaken (singles n ws) (then n)) ≡ withTaken {A = ℕ × List Float} (withTaken o (λ n ws. withTaken (singles n ws) (λ xs ws. some ((n, xs), ws)))) (λ p. then (p .0) (p .1))
+  unfolding withTaken
+  count-then none = refl
+  count-then (some p) = numbers-then (p .0) (singles (p .0) (p .1))
+
+  module _ (s : List ℕ) (at most : ℕ) (ns : List Float) {r : NextCounted} (e : countedAt s ns r ≡ counted most (wordsFrom s at)) where
+    pub counted-is : {n next : ℕ} → r ≡ NextCounted.Is n next
+        → withCount most (wordsFrom s at) (λ n ws. withTaken (singles n ws) (then n)) ≡ then n (take n ns) (wordsFrom s next)
+    unfolding counted countedAt withCount
+    counted-is g = count-then (taken (countIn most) (wordsFrom s at)) ∙ is-taken (λ p. then (p .0) (p .1)) (sym e ∙ ap (countedAt s ns) g)
+
+    pub counted-not : r ≡ NextCounted.Unread → withCount most (wordsFrom s at) (λ n ws. withTaken (singles n ws) (then n)) ≡ none
+    unfolding counted countedAt withCount
+    counted-not g = count-then (taken (countIn most) (wordsFrom s at)) ∙ not-taken (λ p. then (p .0) (p .1)) (sym e ∙ ap (countedAt s ns) g)
 
 -- as many numbers as were said
 pub within : (s : List ℕ) (at most : ℕ) {r : NextCount} {n next : ℕ} → countAt s r ≡ taken (countIn most) (wordsFrom s at) → r ≡ NextCount.Is n next → n ≤ most

@@ -21,6 +21,8 @@ use Rattle.calls.specs.declared.NextRate.{NextRate}
 use Rattle.calls.specs.declared.NextRate.the-variants as NextRate
 use Rattle.calls.specs.declared.NextNumbers.{NextNumbers}
 use Rattle.calls.specs.declared.NextNumbers.the-variants as NextNumbers
+use Rattle.calls.specs.declared.NextCounted.{NextCounted}
+use Rattle.calls.specs.declared.NextCounted.the-variants as NextCounted
 
 -- ---- fields: each is taken off the words, and what is behind it goes on with the rest
 
@@ -57,6 +59,10 @@ andMore x (some p) = some (x ∷ p .0, p .1)
 unfoldable pub singles : ℕ → List Word → Option (List Float × List Word)
 singles zero ws = some ([], ws)
 singles (suc n) ws = withSingle ws (λ x ws. andMore x (singles n ws))
+
+-- `N V1 .. VN`, N from 0 to `most`: how many values, and the values
+unfoldable pub counted : ℕ → List Word → Option ((ℕ × List Float) × List Word)
+counted most ws = withCount most ws (λ n ws. withTaken (singles n ws) (λ xs ws. some ((n, xs), ws)))
 
 -- ---- the calls, by the words behind the first
 
@@ -179,3 +185,8 @@ rateAt s NextRate.Unread = none
 unfoldable pub numbersAt : List ℕ → List Float → NextNumbers → Option (List Float × List Word)
 numbersAt s xs (NextNumbers.At next) = some (xs, wordsFrom s next)
 numbersAt s xs NextNumbers.Unread = none
+
+-- those in front of the slice
+unfoldable pub countedAt : List ℕ → List Float → NextCounted → Option ((ℕ × List Float) × List Word)
+countedAt s numbers (NextCounted.Is n next) = some ((n, take n numbers), wordsFrom s next)
+countedAt s numbers NextCounted.Unread = none

@@ -3,7 +3,7 @@ ghost use mathlib.Core.Path.{_≡_};
 ghost use Prim.Native.Nat.{ℕ, _≤_};
 ghost use lib.ListN.{length, take};
 ghost use Rattle.text.specs.Words.{wordsFrom, taken};
-ghost use Rattle.calls.specs.Language.{heard, Heard, rateIn, rateAt, numbersAt, singles, makeOf, setOf, timed, targetOf, curveOf, cancelling, blockOf, lendOf, pokeOf, stateOf, found, scheduling, callOf};
+ghost use Rattle.calls.specs.Language.{heard, Heard, rateIn, rateAt, numbersAt, countedAt, singles, counted, makeOf, setOf, timed, targetOf, curveOf, cancelling, blockOf, lendOf, pokeOf, stateOf, found, scheduling, callOf};
 use rules::AutomationRate;
 use rules::Bounds;
 use text::words::NextCount;
@@ -83,6 +83,12 @@ pub enum NextNumbers {
     Unread,
 }
 
+// How many numbers were said, and where the words behind them begin.
+pub enum NextCounted {
+    Is { len: usize, next: usize },
+    Unread,
+}
+
 // What is scheduled by a value and a time, and what is called with a time alone.
 pub enum Timed {
     Step,
@@ -134,6 +140,21 @@ fn next_numbers(line: &[u8], at: usize, count: usize, numbers: &mut [f32]) -> Ne
         i += 1;
     }
     NextNumbers::At(from)
+}
+
+// How many numbers follow, and those, into the front of the slice.
+fn next_counted(line: &[u8], at: usize, most: u64, numbers: &mut [f32]) -> NextCounted
+    requires { ⌜ most ≤ length (now numbers) ⌝ }
+    ensures { λ r. ⌜ countedAt (now (line .entry)) (now (numbers .exit)) r ≡ counted most (wordsFrom (now (line .entry)) at) ⌝ }
+{
+    let NextCount::Is { value, next } = next_count(line, at, most) else {
+        return NextCounted::Unread;
+    };
+    let len = value as usize;
+    let NextNumbers::At(next) = next_numbers(line, next, len, numbers) else {
+        return NextCounted::Unread;
+    };
+    NextCounted::Is { len, next }
 }
 
 fn read_make(line: &[u8], at: usize) -> Call
@@ -297,11 +318,7 @@ fn read_curve(line: &[u8], at: usize, numbers: &mut [f32]) -> Call
     else {
         return Call::Unread;
     };
-    let NextCount::Is { value: len, next } = next_count(line, next, 5000) else {
-        return Call::Unread;
-    };
-    let len = len as usize;
-    let NextNumbers::At(next) = next_numbers(line, next, len, numbers) else {
+    let NextCounted::Is { len, next } = next_counted(line, next, 5000, numbers) else {
         return Call::Unread;
     };
     if over(line, next) {
@@ -339,11 +356,7 @@ fn read_block(line: &[u8], at: usize, numbers: &mut [f32]) -> Call
     else {
         return Call::Unread;
     };
-    let NextCount::Is { value: input, next } = next_count(line, next, 4096) else {
-        return Call::Unread;
-    };
-    let input = input as usize;
-    let NextNumbers::At(next) = next_numbers(line, next, input, numbers) else {
+    let NextCounted::Is { len: input, next } = next_counted(line, next, 4096, numbers) else {
         return Call::Unread;
     };
     if over(line, next) {

@@ -12,7 +12,7 @@ use Rattle.rules.specs.declared.MaybeTime.{MaybeTime}
 use Rattle.rules.specs.declared.MaybeTime.the-variants as MaybeTime
 use Rattle.rules.specs.declared.Event.{Event}
 use Rattle.rules.specs.declared.Event.the-variants as Event
-use Rattle.coding.specs.Coding.{eventWords, placeOf, timeIn, eventOf, eventAt, eventsIn, flagOf, bitsOf, wordsOf, wordsFor, writtenAt, SingleBits, DoubleBits, TimeBits, PutsEvent}
+use Rattle.coding.specs.Coding.{eventWords, placeOf, timeIn, eventOf, eventAt, eventsIn, flagOf, bitsOf, wordsOf, wordsFor, writtenAt, SingleBits, DoubleBits, TimeBits, PutsWords, PutsEvent}
 
 -- ---- one event
 
@@ -25,32 +25,32 @@ six (Event.Target v t c h) = refl
 six (Event.Curve s d n h) = refl
 
 module _ {s after : List ℕ} {at : ℕ} where
+  pub puts-words : {kind word other : ℕ} (time : Float) (hold : MaybeTime) {a f b : ℕ} → after ≡ writtenAt s at (kind ∷ word ∷ a ∷ other ∷ f ∷ b ∷ []) → DoubleBits time a
+      → f ≡ flagOf hold → TimeBits hold b → PutsWords s at kind word time other hold after
+  puts-words time hold w a f b = record { is = w ∙ rw (a .is, f, b .is); time-back = a .back; hold-back = b .back }
+
   puts : (e : Event) {ws : List ℕ} → after ≡ writtenAt s at ws → ws ≡ wordsOf e → eventAt (wordsOf e) 0 ≡ e → PutsEvent s at e after
   puts e a w b = record { is = a ∙ ap (writtenAt s at) w; back = b }
 
-  pub puts-step : (v t : Float) {a b : ℕ} → after ≡ writtenAt s at (0 ∷ a ∷ b ∷ 0 ∷ 0 ∷ 0 ∷ []) → SingleBits v a → DoubleBits t b → PutsEvent s at (Event.Step v t) after
-  unfolding wordsOf eventOf flagOf bitsOf
-  puts-step v t g a b = puts (Event.Step v t) g (rw (a .is, b .is)) (rw (a .back, b .back))
-
-  pub puts-linear : (v t : Float) (h : MaybeTime) {a b f g : ℕ} → after ≡ writtenAt s at (1 ∷ a ∷ b ∷ 0 ∷ f ∷ g ∷ []) → SingleBits v a → DoubleBits t b → f ≡ flagOf h
-      → TimeBits h g → PutsEvent s at (Event.Linear v t h) after
+  pub puts-step : {v t : Float} {a : ℕ} → PutsWords s at 0 a t 0 MaybeTime.Missing after → SingleBits v a → PutsEvent s at (Event.Step v t) after
   unfolding wordsOf eventOf
-  puts-linear v t h w a b f g = puts (Event.Linear v t h) w (rw (a .is, b .is, f, g .is)) (rw (a .back, b .back, g .back))
+  puts-step {v} {t} p a = puts (Event.Step v t) (p .is) (rw (a .is)) (rw (a .back, p .time-back))
 
-  pub puts-exponential : (v t : Float) (h : MaybeTime) {a b f g : ℕ} → after ≡ writtenAt s at (2 ∷ a ∷ b ∷ 0 ∷ f ∷ g ∷ []) → SingleBits v a → DoubleBits t b → f ≡ flagOf h
-      → TimeBits h g → PutsEvent s at (Event.Exponential v t h) after
+  pub puts-linear : {v t : Float} {h : MaybeTime} {a : ℕ} → PutsWords s at 1 a t 0 h after → SingleBits v a → PutsEvent s at (Event.Linear v t h) after
   unfolding wordsOf eventOf
-  puts-exponential v t h w a b f g = puts (Event.Exponential v t h) w (rw (a .is, b .is, f, g .is)) (rw (a .back, b .back, g .back))
+  puts-linear {v} {t} {h} p a = puts (Event.Linear v t h) (p .is) (rw (a .is)) (rw (a .back, p .time-back, p .hold-back))
 
-  pub puts-target : (v t c : Float) (h : MaybeTime) {a b o f g : ℕ} → after ≡ writtenAt s at (3 ∷ a ∷ b ∷ o ∷ f ∷ g ∷ []) → SingleBits v a → DoubleBits t b → DoubleBits c o
-      → f ≡ flagOf h → TimeBits h g → PutsEvent s at (Event.Target v t c h) after
+  pub puts-exponential : {v t : Float} {h : MaybeTime} {a : ℕ} → PutsWords s at 2 a t 0 h after → SingleBits v a → PutsEvent s at (Event.Exponential v t h) after
   unfolding wordsOf eventOf
-  puts-target v t c h w a b o f g = puts (Event.Target v t c h) w (rw (a .is, b .is, o .is, f, g .is)) (rw (a .back, b .back, o .back, g .back))
+  puts-exponential {v} {t} {h} p a = puts (Event.Exponential v t h) (p .is) (rw (a .is)) (rw (a .back, p .time-back, p .hold-back))
 
-  pub puts-curve : (x d : Float) (n : ℕ) (h : MaybeTime) {b o f g : ℕ} → after ≡ writtenAt s at (4 ∷ n ∷ b ∷ o ∷ f ∷ g ∷ []) → DoubleBits x b → DoubleBits d o → f ≡ flagOf h
-      → TimeBits h g → PutsEvent s at (Event.Curve x d n h) after
+  pub puts-target : {v t c : Float} {h : MaybeTime} {a o : ℕ} → PutsWords s at 3 a t o h after → SingleBits v a → DoubleBits c o → PutsEvent s at (Event.Target v t c h) after
   unfolding wordsOf eventOf
-  puts-curve x d n h w b o f g = puts (Event.Curve x d n h) w (rw (b .is, o .is, f, g .is)) (rw (b .back, o .back, g .back))
+  puts-target {v} {t} {c} {h} p a o = puts (Event.Target v t c h) (p .is) (rw (a .is, o .is)) (rw (a .back, p .time-back, o .back, p .hold-back))
+
+  pub puts-curve : {x d : Float} {n : ℕ} {h : MaybeTime} {o : ℕ} → PutsWords s at 4 n x o h after → DoubleBits d o → PutsEvent s at (Event.Curve x d n h) after
+  unfolding wordsOf eventOf
+  puts-curve {x} {d} {n} {h} p o = puts (Event.Curve x d n h) (p .is) (rw (o .is)) (rw (p .time-back, o .back, p .hold-back))
 
 -- six stores, one behind the other
 pub puts-six : (s : List ℕ) (at a b c d e f : ℕ) → at + 6 ≤ length s

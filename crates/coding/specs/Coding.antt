@@ -163,6 +163,12 @@ pub record TimeBits (t : MaybeTime) (n : ℕ) : Type 0 where
   pub is : n ≡ bitsOf t
   pub back : timeIn (flagOf t) (bitsOf t) ≡ t
 
+-- six numbers of an event are written, and its time and its hold time are given back
+pub record PutsWords (s : List ℕ) (at kind word : ℕ) (time : Float) (other : ℕ) (hold : MaybeTime) (after : List ℕ) : Type 0 where
+  pub is : after ≡ writtenAt s at (sixWords kind word (toBits binary64 time) other hold)
+  pub time-back : doubleIn (toBits binary64 time) ≡ time
+  pub hold-back : timeIn (flagOf hold) (bitsOf hold) ≡ hold
+
 -- an event's six numbers are written, and give it back
 pub record PutsEvent (s : List ℕ) (at : ℕ) (e : Event) (after : List ℕ) : Type 0 where
   pub is : after ≡ writtenAt s at (wordsOf e)

@@ -1,9 +1,8 @@
 // One waiting event as six numbers of the state.
 ghost use mathlib.Core.Path.{_≡_};
-ghost use mathlib.Core.List.{_∷_, []};
 ghost use Prim.Native.Nat.{_+_, _≤_};
 ghost use lib.ListN.{length};
-ghost use Rattle.coding.specs.Coding.{timeIn, eventOf, eventAt, flagOf, writtenAt, TimeBits, PutsEvent};
+ghost use Rattle.coding.specs.Coding.{timeIn, eventOf, eventAt, flagOf, TimeBits, PutsWords, PutsEvent};
 use crate::bits::double_bits;
 use crate::bits::double_in;
 use crate::bits::single_bits;
@@ -79,22 +78,24 @@ pub fn event_at(state: &[u64], at: usize) -> Event
     event_of(state[at], state[at + 1], state[at + 2], state[at + 3], hold)
 }
 
-// Six numbers at a place.
+// The six numbers of an event, from a place on: its kind, a number of its own, its time, another number, and its hold time.
 fn put_words(
     state: &mut [u64],
     at: usize,
     kind: u64,
-    value: u64,
-    time: u64,
+    word: u64,
+    time: f64,
     other: u64,
-    flag: u64,
-    hold: u64,
+    hold: MaybeTime,
 )
     requires { ⌜ at + 6 ≤ length (now state) ⌝ }
-    ensures { λ _. ⌜ now (state .exit) ≡ writtenAt (now (state .entry)) at (kind ∷ value ∷ time ∷ other ∷ flag ∷ hold ∷ []) ⌝ }
+    ensures { λ _. ⌜ PutsWords (now (state .entry)) at kind word time other hold (now (state .exit)) ⌝ }
 {
+    let time = double_bits(time);
+    let flag = flag_of(hold);
+    let hold = time_bits(hold);
     state[at] = kind;
-    state[at + 1] = value;
+    state[at + 1] = word;
     state[at + 2] = time;
     state[at + 3] = other;
     state[at + 4] = flag;
@@ -108,33 +109,14 @@ pub fn put_event(state: &mut [u64], at: usize, e: Event)
 {
     match e {
         Event::Step { value, time } => {
-            put_words(state, at, 0, single_bits(value), double_bits(time), 0, 0, 0)
+            let hold = MaybeTime::Missing;
+            put_words(state, at, 0, single_bits(value), time, 0, hold)
         }
         Event::Linear { value, time, hold } => {
-            let flag = flag_of(hold);
-            put_words(
-                state,
-                at,
-                1,
-                single_bits(value),
-                double_bits(time),
-                0,
-                flag,
-                time_bits(hold),
-            )
+            put_words(state, at, 1, single_bits(value), time, 0, hold)
         }
         Event::Exponential { value, time, hold } => {
-            let flag = flag_of(hold);
-            put_words(
-                state,
-                at,
-                2,
-                single_bits(value),
-                double_bits(time),
-                0,
-                flag,
-                time_bits(hold),
-            )
+            put_words(state, at, 2, single_bits(value), time, 0, hold)
         }
         Event::Target {
             value,
@@ -142,18 +124,8 @@ pub fn put_event(state: &mut [u64], at: usize, e: Event)
             constant,
             hold,
         } => {
-            let flag = flag_of(hold);
             let other = double_bits(constant);
-            put_words(
-                state,
-                at,
-                3,
-                single_bits(value),
-                double_bits(time),
-                other,
-                flag,
-                time_bits(hold),
-            )
+            put_words(state, at, 3, single_bits(value), time, other, hold)
         }
         Event::Curve {
             start,
@@ -161,18 +133,8 @@ pub fn put_event(state: &mut [u64], at: usize, e: Event)
             len,
             hold,
         } => {
-            let flag = flag_of(hold);
             let other = double_bits(duration);
-            put_words(
-                state,
-                at,
-                4,
-                len as u64,
-                double_bits(start),
-                other,
-                flag,
-                time_bits(hold),
-            )
+            put_words(state, at, 4, len as u64, start, other, hold)
         }
     }
 }

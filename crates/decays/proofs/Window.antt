@@ -16,7 +16,9 @@ use Rattle.rules.specs.Kernels.{parts, falling}
 use Rattle.rules.specs.Samples.{decayOf}
 use Rattle.rounding_laws.proofs.Closest.{near-lt}
 use Rattle.rounding_laws.proofs.At.{pack-at, no-nan}
-use Rattle.rounding_laws.proofs.Cut.{plain-law}
+use Rattle.rounding_laws.specs.Cut.{evenCut}
+use Rattle.rounding_laws.proofs.Cut.{plain-law, even-sum-law, even-nan}
+use Rattle.decays.specs.Told.{Told}
 
 -- a multiple rounds to itself
 closest-exact : (n m : ℕ) → 0 < m → closest (n * m) m ≡ n
@@ -56,20 +58,63 @@ module _ (r w : ℕ) (low : 2 ^ 31 ≤ r) (high : r < 2 ^ 32) (few : w ≤ 124) 
       let e : k * 2 ^ 52 + q * 2 ^ 29 ≡ (k * 2 ^ 23 + q) * 2 ^ 29 = omega arith in
       ap (ofBits binary64) (e ∙ sym (c .0)) ∙ plain-law false r (2 ^ (32 + w)) bits (pow-pos (32 + w)) (sym reads) (ranges .0) (ranges .1) (λ z. absurd (omega (arith, c .1)))
 
+  abbrev even : ℕ
+  even = evenCut bits
+
+  -- and r itself, which may be a midpoint
+  rounds-even : ofBits binary64 even ≡ round binary32 false r (2 ^ (32 + w))
+  rounds-even =
+      even-sum-law false r (2 ^ (32 + w)) bits (pow-pos (32 + w)) (sym reads) (ranges .0) (ranges .1)
+      (λ k l d. let i = fit k l in (
+        r * 2 ^ (1042 - w - k),
+        ap (λ (x : ℕ). r * 2 ^ x) (i .0) ∙ ap (λ (x : ℕ). r * x) (pow-add 2 (1042 - w - k) (32 + w + k)) ∙ sym (mul-assoc r (2 ^ (1042 - w - k)) (2 ^ (32 + w + k)))
+            ∙ ap (λ (x : ℕ). r * 2 ^ (1042 - w - k) * x) (pow-add 2 (32 + w) k),
+      ))
+    where
+      fit : (k : ℕ) → suc k ≤ bits % 2 ^ 63 / 2 ^ 52 → (1074 ≡ 1042 - w - k + (32 + w + k)) × (k ≤ 1021 - w)
+      fit k l = let f : bits % 2 ^ 63 / 2 ^ 52 ≡ 1022 - w = omega arith in (omega arith, omega arith)
+
+  even-nan-at : T (not (nanBits binary64 even))
+  even-nan-at = even-nan bits (omega arith) (ranges .0) (ranges .1)
+
+  even-at : ((1022 - w) * 2 ^ 52 ≤ even) × (even ≤ 1023 * 2 ^ 52)
+  even-at = go (1021 - w) (1022 - w) (bits / 2 ^ 29 % 2) (omega arith) (omega arith) (omega arith)
+    where
+      go : (k j p : ℕ) → k ≤ 1021 → j ≡ k + 1 → p < 2 → (j * 2 ^ 52 ≤ k * 2 ^ 52 + r * 2 ^ 21 + 268435455 + p - (k * 2 ^ 52 + r * 2 ^ 21 + 268435455 + p) % 2 ^ 29) × (k * 2 ^ 52 + r * 2 ^ 21 + 268435455 + p - (k * 2 ^ 52 + r * 2 ^ 21 + 268435455 + p) % 2 ^ 29 ≤ 1023 * 2 ^ 52)
+      go k j p h i g = (omega arith, omega arith)
+
 -- from an estimate e: r or up to 20 more
 rounds-near : (r e w : ℕ) → r ≤ e → e ≤ r + 20 → (e + 107) % 256 ≤ 234 → 2147483668 ≤ e → e < 4294967296 → w ≤ 124
     → ofBits binary64 ((1021 - w) * 2 ^ 52 + (e + 107) / 256 * 2 ^ 29) ≡ round binary32 false r (2 ^ (32 + w))
 rounds-near r e w a b c d f g = rounds r w (omega arith) (omega arith) g ((e + 107) / 256) (omega arith) (omega arith)
 
--- the factor after p steps
-pub steps-near : (p e : ℕ) → falling (p % parts) ≤ e → e ≤ falling (p % parts) + 20 → (e + 107) % 256 ≤ 234 → 2147483668 ≤ e → e < 4294967296 → p / parts ≤ 124
-    → ofBits binary64 ((1021 - p / parts) * 2 ^ 52 + (e + 107) / 256 * 2 ^ 29) ≡ narrowed (decayOf p)
-unfolding decayOf narrowed
-steps-near p e a b c d f g =
-    let i : suc (31 + p / parts) ≡ 32 + p / parts = omega arith in
-    rw (mul-one (falling (p % parts)), i) (rounds-near (falling (p % parts)) e (p / parts) a b c d f g)
-
-pub near-nan : (e w : ℕ) → e < 4294967296 → w ≤ 124 → T (not (nanBits binary64 ((1021 - w) * 2 ^ 52 + (e + 107) / 256 * 2 ^ 29)))
+near-nan : (e w : ℕ) → e < 4294967296 → w ≤ 124 → T (not (nanBits binary64 ((1021 - w) * 2 ^ 52 + (e + 107) / 256 * 2 ^ 29)))
 near-nan e w h g =
     let n = (1021 - w) * 2 ^ 52 + (e + 107) / 256 * 2 ^ 29 in
     subst (λ (n : ℕ). T (not (nanBits binary64 n))) (zero-add n) (no-nan binary64 false n (omega arith))
+
+-- the factor after p steps
+pub steps-near : (p e : ℕ) → falling (p % parts) ≤ e → e ≤ falling (p % parts) + 20 → (e + 107) % 256 ≤ 234 → 2147483668 ≤ e → e < 4294967296 → p / parts ≤ 124
+    → Told (p / parts) ((1021 - p / parts) * 2 ^ 52 + (e + 107) / 256 * 2 ^ 29) (narrowed (decayOf p))
+unfolding decayOf narrowed
+steps-near p e a b c d f g =
+    let i : suc (31 + p / parts) ≡ 32 + p / parts = omega arith in
+    record {
+      holds = (rw (mul-one (falling (p % parts)), i) (rounds-near (falling (p % parts)) e (p / parts) a b c d f g), near-nan e (p / parts) f g);
+      low = omega arith;
+      high = omega arith;
+    }
+
+-- and by its falling power
+pub steps-even : (p d : ℕ) → d ≡ falling (p % parts) → 2147483648 ≤ d → d < 4294967296 → p / parts ≤ 124 → Told (p / parts) (evenCut ((1021 - p / parts) * 2 ^ 52 + d * 2 ^ 21)) (narrowed (decayOf p))
+unfolding decayOf narrowed
+steps-even p d i l h g =
+    let o : suc (31 + p / parts) ≡ 32 + p / parts = omega arith in
+    record {
+      holds = (rw (mul-one (falling (p % parts)), o, ← i) (rounds-even d (p / parts) l h g), even-nan-at d (p / parts) l h g);
+      low = even-at d (p / parts) l h g .0;
+      high = even-at d (p / parts) l h g .1;
+    }
+
+pub told-more : (w few n : ℕ) (y : Float) → w ≤ few → Told w n y → Told few n y
+told-more w few n y h t = record { holds = t .holds; low = omega (arith, t .low); high = t .high }

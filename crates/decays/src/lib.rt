@@ -1,14 +1,16 @@
 // Target and exponential samples by a table: where both ends of its estimate of the falling power round alike, so does the falling power between them.
 ghost use mathlib.Core.Path.{_≡_};
 ghost use mathlib.Core.Logic.{_⊎_};
-ghost use Prim.Native.Nat.{_*_, _^_, _≤_, _<_};
+ghost use Prim.Native.Nat.{_*_, _/_, _^_, _≤_, _<_};
 ghost use lib.Dec.{T};
 ghost use lib.Ieee.{binary32, binary64, fits, mul};
 ghost use lib.Ieee.Scale.{finite};
 ghost use Rattle.rules.specs.Numbers.{narrowed, fused};
-ghost use Rattle.rules.specs.Samples.{decay, factorOf};
+ghost use Rattle.rules.specs.Samples.{decayOf, decay, factorOf};
 ghost use Rattle.powers.specs.Estimates.{estimates};
-ghost use Rattle.decays.specs.Cell.{Cell};
+ghost use Rattle.phases.specs.Patterns.{Holds};
+ghost use Rattle.decays.specs.Cell.{Cell, Grown};
+ghost use Rattle.decays.specs.Told.{Told};
 
 // The factor of a target at y.
 fn decay_by(table: &[u32; 768], y: f64) -> f32
@@ -23,44 +25,59 @@ fn decay_by(table: &[u32; 768], y: f64) -> f32
     rounding::norm32(false, d, 331 - p / 16777216)
 }
 
-fn faded_slow(table: &[u32; 768], a: f64, y: f64, c: f64) -> f32
-    requires { ⌜ now table ≡ estimates ⌝ }
-    requires { ⌜ T (fits binary32 a) × T (fits binary32 c) × T (finite a) × T (finite c) ⌝ }
-    ensures { λ r. ⌜ r ≡ fused binary32 a (decay y) c ⌝ }
+// The pattern of a target's factor after p steps, or 0 where the falling power has not 32 digits.
+fn decay_exact(table: &[u32; 768], p: u64) -> u64
+    requires { ⌜ (now table ≡ estimates) × (p < 125 * 2 ^ 24) ⌝ }
+    ensures { λ r. ⌜ (r ≡ 0) ⊎ Told (p / 2 ^ 24) r (narrowed (decayOf p)) ⌝ }
 {
-    rounding::fused_wide(a, decay_by(table, y) as f64, c)
+    let d = powers::falling_by(table, p % 16777216);
+    if d >= 2147483648 {
+        if d < 4294967296 {
+            let n = (1021 - p / 16777216) * 0x10_0000_0000_0000 + d * 0x20_0000;
+            let r = n + 0xfff_ffff + n / 0x2000_0000 % 2;
+            return r - r % 0x2000_0000;
+        }
+    }
+    0
 }
 
-// A target's sample: to c, from a more. The factor is an `f32` of 24 digits, so the estimate tells it unless one of the last 20 places up to it holds a midpoint of two.
-pub fn faded_by(table: &[u32; 768], a: f64, y: f64, c: f64) -> f32
-    requires { ⌜ now table ≡ estimates ⌝ }
-    requires { ⌜ T (fits binary32 a) × T (fits binary32 c) × T (finite a) × T (finite c) ⌝ }
-    ensures { λ r. ⌜ r ≡ fused binary32 a (decay y) c ⌝ }
+// The pattern of a target's factor at y, or 0 where it is below 2^-(few + 1) or not found at once. The factor is an `f32` of 24 digits, so the estimate tells it unless one of the last 20 places up to it holds a midpoint of two.
+pub fn decay_near(table: &[u32; 768], y: f64, few: u64) -> u64
+    requires { ⌜ (now table ≡ estimates) × (few ≤ 124) ⌝ }
+    ensures { λ r. ⌜ (r ≡ 0) ⊎ Told few r (decay y) ⌝ }
 {
     if y >= 160.0 {
-        return faded_slow(table, a, y, c);
+        return 0;
     }
-    let h = phases::lifted(y * 16777216.0);
-    if h >= 8589934592 {
-        if h < 10687086592 {
-            let p = h - 8589934592;
+    let b = phases::raised(y * 16777216.0);
+    if b != 0 {
+        let p = (b - 0x4218_0000_0000_0000) / 0x4_0000;
+        let w = p / 16777216;
+        if w <= few {
             let e = powers::falling_near(table, p % 16777216);
             let u = e + 107;
             if u % 256 <= 234 {
                 if e >= 2147483668 {
                     if e < 4294967296 {
-                        let w = p / 16777216;
-                        let f = (1021 - w) * 0x10_0000_0000_0000 + u / 256 * 0x2000_0000;
-                        let s = phases::cut_sum(a, f64::from_bits(f), c);
-                        if s != 0 {
-                            return f64::from_bits(s) as f32;
-                        }
+                        return (1021 - w) * 0x10_0000_0000_0000 + u / 256 * 0x2000_0000;
                     }
                 }
             }
+            return decay_exact(table, p);
         }
     }
-    faded_slow(table, a, y, c)
+    0
+}
+
+// A target's factor at y, where n is its pattern, or 0 where that is not known.
+pub fn decay_told(table: &[u32; 768], y: f64, n: u64) -> f64
+    requires { ⌜ (now table ≡ estimates) × ((n ≡ 0) ⊎ Holds n (decay y)) ⌝ }
+    ensures { λ r. ⌜ r ≡ decay y ⌝ }
+{
+    if n != 0 {
+        return f64::from_bits(n);
+    }
+    decay_by(table, y) as f64
 }
 
 // The pattern of `from` times what n is the pattern of, rounded to an `f32`, or 0 where a product with what lies up to 20 * 2^21 below n may round otherwise.
@@ -105,10 +122,10 @@ fn grown_slow(table: &[u32; 768], from: f64, x: f64) -> f32
     rounding::narrow(from * samples::factor(x))
 }
 
-// An exponential sample, the start value times the factor for x = L * phase, narrowed.
-pub fn grown_by(table: &[u32; 768], from: f64, x: f64) -> f32
-    requires { ⌜ (now table ≡ estimates) × T (finite from) ⌝ }
-    ensures { λ r. ⌜ r ≡ narrowed (mul binary64 from (factorOf x)) ⌝ }
+// The pattern of an estimate of an exponential's factor for x = L * phase, from above, or 0 where there is none.
+pub fn grown_near(table: &[u32; 768], x: f64) -> u64
+    requires { ⌜ now table ≡ estimates ⌝ }
+    ensures { λ r. ⌜ (r ≡ 0) ⊎ Grown x r ⌝ }
 {
     let h = phases::lifted(x);
     if h >= 3573547008 {
@@ -117,14 +134,24 @@ pub fn grown_by(table: &[u32; 768], from: f64, x: f64) -> f32
                 let e = powers::falling_near(table, 16777216 - h % 16777216);
                 if e >= 2147483668 {
                     if e < 4294967296 {
-                        let f = (h / 16777216 + 510) * 0x10_0000_0000_0000 + e * 0x20_0000;
-                        let s = cell_of(from, f);
-                        if s != 0 {
-                            return f64::from_bits(s) as f32;
-                        }
+                        return (h / 16777216 + 510) * 0x10_0000_0000_0000 + e * 0x20_0000;
                     }
                 }
             }
+        }
+    }
+    0
+}
+
+// An exponential sample, the start value times the factor for x, narrowed; n is the estimate's pattern, or 0.
+pub fn grown_by(table: &[u32; 768], from: f64, x: f64, n: u64) -> f32
+    requires { ⌜ (now table ≡ estimates) × T (finite from) × ((n ≡ 0) ⊎ Grown x n) ⌝ }
+    ensures { λ r. ⌜ r ≡ narrowed (mul binary64 from (factorOf x)) ⌝ }
+{
+    if n != 0 {
+        let s = cell_of(from, n);
+        if s != 0 {
+            return f64::from_bits(s) as f32;
         }
     }
     grown_slow(table, from, x)

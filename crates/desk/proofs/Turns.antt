@@ -1,11 +1,14 @@
 -- From what the parameter's calls ensure to what a session's calls ensure. Assumes nothing.
 use mathlib.Core.Path.{_≡_, refl, sym, ap, _∙_, subst}
+use mathlib.Core.Bool.{true, false}
 use mathlib.Core.List.{List, [], _∷_, _++_}
 use Prim.Native.Nat.{ℕ, zero, suc, _+_, _≤_, _<_}
 use native.Mathlib.Numerals.{add-one}
 use native.Mathlib.Omega.{arith}
 use lib.ListN.{length, take, drop, set, replicate, take-append-drop}
 use lib.Count.{trailingZeros}
+use types.Run.{OneOf, miss}
+use denote.Enum.Declared.{tagOf}
 use lib.Ieee.{Float, binary32, ofBits, ofFields, odd, lt, eq, le}
 use Rattle.rules.specs.declared.Bounds.{Bounds}
 use Rattle.rules.specs.declared.AutomationRate.{AutomationRate}
@@ -21,13 +24,15 @@ use Rattle.text.specs.Put.{Put}
 use Rattle.text.proofs.Writing.{put-same, put-then}
 use Rattle.answers.specs.Answers.{verdictText}
 use Rattle.calls.specs.declared.Call.{Call}
+use Rattle.calls.specs.declared.Call.the-variants as Call
+use Rattle.calls.proofs.Call.{the-type}
 use Rattle.param.specs.declared.AudioParam.{AudioParam}
 use Rattle.param.specs.declared.Outcome.{Outcome}
 use Rattle.param.specs.Param.{paramOf, structOf, nothingMade, SoundParam, Makes, Answers}
 use Rattle.param.proofs.Calls.{whole}
 use Rattle.desk.specs.declared.Desk.{Desk}
 use Rattle.desk.specs.declared.Answered.{Answered}
-use Rattle.desk.specs.Desk.{Table, Turn, deskOf, tableOf, SoundDesk, Spoken, making, asked, answerOf, withNewline, InRange}
+use Rattle.desk.specs.Desk.{Table, Turn, deskOf, tableOf, SoundDesk, Spoken, making, asked, answerOf, withNewline, InRange, isScheduling}
 
 -- ---- a call that is not lent the store
 
@@ -157,6 +162,33 @@ by-call numbers {d} {s} {l} {at} {r} {s′} {l′} e spoken = subst (λ (x : Cal
 
 pub ranged : {call this : Call} → call ≡ this → InRange call → InRange this
 ranged e h = subst InRange e h
+
+-- ---- the calls that change the waiting events
+
+-- their places among the calls, and those of the others, as a `match` tells them
+abbrev theirs : List ℕ
+theirs = 3 ∷ 4 ∷ 5 ∷ 6 ∷ 7 ∷ 8 ∷ 9 ∷ 10 ∷ []
+
+abbrev others : List ℕ
+others = 0 ∷ 1 ∷ 2 ∷ 11 ∷ 12 ∷ 13 ∷ 14 ∷ []
+
+pub scheduling-by : (call : Call) → (OneOf theirs (tagOf the-type call) → isScheduling call ≡ true) × (OneOf others (tagOf the-type call) → isScheduling call ≡ false)
+unfolding isScheduling
+scheduling-by Call.Nothing = (λ h. absurd (miss theirs 0 tt h), λ h. refl)
+scheduling-by Call.Unread = (λ h. absurd (miss theirs 1 tt h), λ h. refl)
+scheduling-by (Call.Make b rate) = (λ h. absurd (miss theirs 2 tt h), λ h. refl)
+scheduling-by (Call.Set v) = (λ h. refl, λ h. absurd (miss others 3 tt h))
+scheduling-by (Call.Step v t) = (λ h. refl, λ h. absurd (miss others 4 tt h))
+scheduling-by (Call.Linear v t) = (λ h. refl, λ h. absurd (miss others 5 tt h))
+scheduling-by (Call.Exponential v t) = (λ h. refl, λ h. absurd (miss others 6 tt h))
+scheduling-by (Call.Target v t c) = (λ h. refl, λ h. absurd (miss others 7 tt h))
+scheduling-by (Call.Curve t d n) = (λ h. refl, λ h. absurd (miss others 8 tt h))
+scheduling-by (Call.Cancel t) = (λ h. refl, λ h. absurd (miss others 9 tt h))
+scheduling-by (Call.Hold t) = (λ h. refl, λ h. absurd (miss others 10 tt h))
+scheduling-by (Call.Block t p n o i) = (λ h. absurd (miss theirs 11 tt h), λ h. refl)
+scheduling-by (Call.Lend n) = (λ h. absurd (miss theirs 12 tt h), λ h. refl)
+scheduling-by (Call.Poke i v) = (λ h. absurd (miss theirs 13 tt h), λ h. refl)
+scheduling-by Call.State = (λ h. absurd (miss theirs 14 tt h), λ h. refl)
 
 -- ---- its newline
 

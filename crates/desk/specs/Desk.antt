@@ -1,6 +1,6 @@
 -- What the calls of a session do, and what is answered: the page's table over document 01's rules.
 use mathlib.Core.Path.{_≡_}
-use mathlib.Core.Bool.{Bool}
+use mathlib.Core.Bool.{Bool, true, false}
 use mathlib.Core.List.{List, [], _∷_, _++_}
 use mathlib.Core.Option.{Option, none, some}
 use Prim.Native.Nat.{ℕ, zero, suc, _+_, _*_, _≤_, _<_}
@@ -189,6 +189,24 @@ InRange (Call.Block t p n o i) = (o ≤ 4096) × (i ≤ 4096)
 InRange (Call.Lend n) = n ≤ 8192
 InRange (Call.Poke i v) = i < 8192
 InRange Call.State = Unit
+
+-- whether a call is one of those that change the waiting events
+unfoldable pub isScheduling : Call → Bool
+isScheduling Call.Nothing = false
+isScheduling Call.Unread = false
+isScheduling (Call.Make b rate) = false
+isScheduling (Call.Set v) = true
+isScheduling (Call.Step v t) = true
+isScheduling (Call.Linear v t) = true
+isScheduling (Call.Exponential v t) = true
+isScheduling (Call.Target v t c) = true
+isScheduling (Call.Curve t d n) = true
+isScheduling (Call.Cancel t) = true
+isScheduling (Call.Hold t) = true
+isScheduling (Call.Block t p n o i) = false
+isScheduling (Call.Lend n) = false
+isScheduling (Call.Poke i v) = false
+isScheduling Call.State = false
 
 -- the event at place i, as it is printed, and the room that it takes
 unfoldable pub firstText : List Event → List Float → List ℕ

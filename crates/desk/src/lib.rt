@@ -1,5 +1,6 @@
 // The calls of a session, made on one parameter and its store, and their answers.
 ghost use mathlib.Core.Path.{_≡_};
+ghost use mathlib.Core.Bool.{true};
 ghost use mathlib.Core.List.{List};
 ghost use Prim.Native.Nat.{ℕ, _+_, _*_, _≤_, _<_};
 ghost use lib.ListN.{length, take, drop, replicate};
@@ -10,7 +11,7 @@ ghost use Rattle.rules.specs.Block.{set, step, linear, exponential, target, cur
 ghost use Rattle.text.specs.Put.{Put};
 ghost use Rattle.answers.specs.Answers.{verdictText};
 ghost use Rattle.param.specs.Param.{SoundParam, paramOf};
-ghost use Rattle.desk.specs.Desk.{SoundDesk, InRange, deskOf, Spoken, unread, making, asked, lending, poking, blockLine, playing, marks, stating, answerOf, withNewline, lineTurn, widthAt, waitingAt, queueText, unmadeDesk};
+ghost use Rattle.desk.specs.Desk.{SoundDesk, InRange, isScheduling, deskOf, Spoken, unread, making, asked, lending, poking, blockLine, playing, marks, stating, answerOf, withNewline, lineTurn, widthAt, waitingAt, queueText, unmadeDesk};
 use answers::is_clean;
 use answers::is_zeros;
 use answers::put_block;
@@ -346,8 +347,8 @@ fn state(desk: Desk, store: &[f32], out: &mut [u8], at: usize) -> Answered
     Answered { desk, next }
 }
 
-// One call, whose numbers are in front of `numbers`.
-fn answer(
+// A call that changes the waiting events; the numbers of a curve are in front of `numbers`.
+fn answer_scheduling(
     desk: Desk,
     call: Call,
     numbers: &[f32],
@@ -355,13 +356,10 @@ fn answer(
     out: &mut [u8],
     at: usize,
 ) -> Answered
-    requires { ⌜ SoundDesk desk × InRange call × (5000 ≤ length (now numbers)) × (length (now store) ≡ 8192) × (at + 42000 ≤ length (now out)) ⌝ }
+    requires { ⌜ SoundDesk desk × InRange call × (isScheduling call ≡ true) × (5000 ≤ length (now numbers)) × (length (now store) ≡ 8192) × (at + 42000 ≤ length (now out)) ⌝ }
     ensures { λ r. ⌜ Spoken 41999 (answerOf call (now (numbers .entry))) desk (now (store .entry)) (now (out .entry)) at r (now (store .exit)) (now (out .exit)) ⌝ }
 {
     match call {
-        Call::Nothing => Answered { desk, next: at },
-        Call::Unread => word(desk, out, at, b"unread"),
-        Call::Make { bounds, rate } => make(bounds, rate, store, out, at),
         Call::Set { value } => set(desk, value, out, at),
         Call::Step { value, time } => step(desk, value, time, out, at),
         Call::Linear { value, time } => linear(desk, value, time, out, at),
@@ -378,6 +376,27 @@ fn answer(
         } => curve(desk, start, duration, &numbers[..len], store, out, at),
         Call::Cancel { time } => cancel(desk, time, store, out, at),
         Call::Hold { time } => hold(desk, time, store, out, at),
+        // no other call comes here
+        _ => Answered { desk, next: at },
+    }
+}
+
+// One call, whose numbers are in front of `numbers`.
+fn answer(
+    desk: Desk,
+    call: Call,
+    numbers: &[f32],
+    store: &mut [f32],
+    out: &mut [u8],
+    at: usize,
+) -> Answered
+    requires { ⌜ SoundDesk desk × InRange call × (5000 ≤ length (now numbers)) × (length (now store) ≡ 8192) × (at + 42000 ≤ length (now out)) ⌝ }
+    ensures { λ r. ⌜ Spoken 41999 (answerOf call (now (numbers .entry))) desk (now (store .entry)) (now (out .entry)) at r (now (store .exit)) (now (out .exit)) ⌝ }
+{
+    match call {
+        Call::Nothing => Answered { desk, next: at },
+        Call::Unread => word(desk, out, at, b"unread"),
+        Call::Make { bounds, rate } => make(bounds, rate, store, out, at),
         Call::Block {
             time,
             period,
@@ -398,6 +417,7 @@ fn answer(
         Call::Lend { len } => lend(desk, len, out, at),
         Call::Poke { place, value } => poke(desk, place, value, store, out, at),
         Call::State => state(desk, &store[..], out, at),
+        _ => answer_scheduling(desk, call, numbers, store, out, at),
     }
 }
 

@@ -1,13 +1,13 @@
 // What fast paths share: floors and sums seen in the patterns of `f64` values, and with them the sum of a linear or a curve's sample.
 ghost use mathlib.Core.Path.{_≡_};
 ghost use mathlib.Core.Logic.{_⊎_};
-ghost use Prim.Native.Nat.{_+_, _^_, _≤_, _<_};
+ghost use Prim.Native.Nat.{_+_, _*_, _^_, _≤_, _<_};
 ghost use lib.Dec.{T};
 ghost use lib.Ieee.{binary32, fits};
 ghost use lib.Ieee.Scale.{finite};
 ghost use Rattle.rules.specs.Numbers.{narrowed, fused};
-ghost use Rattle.phases.specs.Patterns.{Lifted, Holds};
-ghost use Rattle.phases.specs.Once.{Grid, Once};
+ghost use Rattle.phases.specs.Patterns.{Lifted, Raised, Holds};
+ghost use Rattle.phases.specs.Once.{Grid, Once, Within, Served};
 
 // 2^33 more than the whole number next below x, or 0 where it is not seen. At 3 * 2^33 the last 18 digits are the fraction, and where one of them is set no rounding has reached the whole part.
 pub fn lifted(x: f64) -> u64
@@ -20,6 +20,24 @@ pub fn lifted(x: f64) -> u64
             if b < 0x4220_0000_0000_0000 {
                 if b % 0x4_0000 != 0 {
                     return (b - 0x4210_0000_0000_0000) / 0x4_0000;
+                }
+            }
+        }
+    }
+    0
+}
+
+// The pattern of x + 3 * 2^33, or 0 where it does not show the whole part of an x from 0 on.
+pub fn raised(x: f64) -> u64
+    ensures { λ r. ⌜ (r ≡ 0) ⊎ Raised x r ⌝ }
+{
+    let v = x + 25769803776.0;
+    if v == v {
+        let b = f64::to_bits(v);
+        if b >= 0x4218_0000_0000_0000 {
+            if b < 0x4220_0000_0000_0000 {
+                if b % 0x4_0000 != 0 {
+                    return b;
                 }
             }
         }
@@ -95,7 +113,53 @@ fn phase_sum_slow(a: f64, x: f64, c: f64) -> f32
     rounding::fused32(a as f32, y, c as f32)
 }
 
-// The same where for an x up to 1 nothing of the sum is left to test: the tests for exactness are made once a ramp.
+// a * y + c, where nothing of the sum is left to test: the tests for exactness are made once a ramp.
+pub fn sum_once(a: f64, y: f64, c: f64) -> f32
+    requires { ⌜ T (fits binary32 a) × T (fits binary32 c) × T (finite a) × T (finite c) ⌝ }
+    requires { ⌜ Served a c y ⌝ }
+    ensures { λ r. ⌜ r ≡ fused binary32 a y c ⌝ }
+{
+    let s = a * y + c;
+    let n = f64::to_bits(s);
+    let r = n + 0xfff_ffff + n / 0x2000_0000 % 2;
+    f64::from_bits(r - r % 0x2000_0000) as f32
+}
+
+// a * y + c, where y is x rounded to an `f32`, at an x from the pattern bx up to 1.
+pub fn phase_sum_within(a: f64, x: f64, c: f64, bx: u64) -> f32
+    requires { ⌜ T (fits binary32 a) × T (fits binary32 c) × T (finite a) × T (finite c) ⌝ }
+    requires { ⌜ Once a c bx × Within bx x ⌝ }
+    ensures { λ r. ⌜ r ≡ fused binary32 a (narrowed x) c ⌝ }
+{
+    let b = f64::to_bits(x);
+    let q = b + 0xfff_ffff + b / 0x2000_0000 % 2;
+    sum_once(a, f64::from_bits(q - q % 0x2000_0000), c)
+}
+
+// The pattern of the same at an x up to 1, for any finite a and c; or 0, as for `cut_sum`. It has few tests, so that several can be worked out side by side.
+pub fn phase_sum_seen(a: f64, x: f64, c: f64) -> u64
+    requires { ⌜ T (fits binary32 a) × T (fits binary32 c) × T (finite a) × T (finite c) ⌝ }
+    requires { ⌜ Within (898 * 2 ^ 52) x ⌝ }
+    ensures { λ r. ⌜ (r ≡ 0) ⊎ Holds r (fused binary32 a (narrowed x) c) ⌝ }
+{
+    let b = f64::to_bits(x);
+    let q = b + 0xfff_ffff + b / 0x2000_0000 % 2;
+    let y = f64::from_bits(q - q % 0x2000_0000);
+    let n = f64::to_bits(a * y + c);
+    let m = n % 0x8000_0000_0000_0000;
+    let r = n + 0x1000_0000;
+    let l = r % 0x2000_0000;
+    if m >= 0x3820_0000_0000_0000 {
+        if m < 0x47d0_0000_0000_0000 {
+            if l != 0 {
+                return r - l;
+            }
+        }
+    }
+    0
+}
+
+// The sum at any x.
 pub fn phase_sum_once(a: f64, x: f64, c: f64, bx: u64) -> f32
     requires { ⌜ T (fits binary32 a) × T (fits binary32 c) × T (finite a) × T (finite c) ⌝ }
     requires { ⌜ Once a c bx ⌝ }
@@ -105,12 +169,7 @@ pub fn phase_sum_once(a: f64, x: f64, c: f64, bx: u64) -> f32
         let b = f64::to_bits(x);
         if b >= bx {
             if b <= 0x3ff0_0000_0000_0000 {
-                let q = b + 0xfff_ffff + b / 0x2000_0000 % 2;
-                let y = f64::from_bits(q - q % 0x2000_0000);
-                let s = a * y + c;
-                let n = f64::to_bits(s);
-                let r = n + 0xfff_ffff + n / 0x2000_0000 % 2;
-                return f64::from_bits(r - r % 0x2000_0000) as f32;
+                return phase_sum_within(a, x, c, bx);
             }
         }
     }

@@ -179,7 +179,7 @@ fn answer_lines(
 {
     let mut desk = p.desk;
     let mut lines = p.lines;
-    let mut count = p.count;
+    let mut n = p.count;
     let mut at = p.at;
     loop {
         let t = next_line(input, lines);
@@ -189,25 +189,14 @@ fn answer_lines(
             return Played {
                 desk,
                 lines,
-                count,
+                count: n,
                 at,
                 more: p.more,
             };
         }
         let next = t.next;
-        count = following(count);
-        let r = answer_next(
-            desk,
-            count,
-            next,
-            input,
-            strict,
-            numbers,
-            store,
-            said,
-            out,
-            at,
-        );
+        n = following(n);
+        let r = answer_next(desk, n, next, input, strict, numbers, store, said, out, at);
         desk = r.desk;
         lines = rest;
         at = r.next;

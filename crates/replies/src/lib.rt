@@ -82,8 +82,7 @@ fn put_fields(out: &mut [u8], at: usize, line: &[u8]) -> usize
 // What document 01's number means.
 fn put_meaning(out: &mut [u8], at: usize, number: u64) -> usize
     requires { ⌜ at + 90 ≤ length (now out) ⌝ }
-    ensures { λ r. ⌜ Put (now (out .entry)) at (meaningIn table number) (now (out .exit)) r ⌝ }
-    ensures { λ r. ⌜ r ≤ at + 90 ⌝ }
+    ensures { λ r. ⌜ Put (now (out .entry)) at (meaningIn table number) (now (out .exit)) r × (r ≤ at + 90) ⌝ }
 {
     match number {
         1 => put_word(

@@ -6,7 +6,7 @@ use native.Mathlib.Nat.{le-of-suc-le-suc}
 use native.Mathlib.Numerals.{add-one}
 use native.Mathlib.Omega.{arith}
 use lib.ListN.{length, take, drop, set, getD, length-append, length-drop}
-use lib.Seq.{length-take-le, take-at, drop-cons, drop-length, set-at, append-snoc}
+use lib.Seq.{length-take-le, take-at, drop-cons, drop-length, set-at, append-snoc, getD-append-seam}
 use lib.Ieee.{Float, nan, binary64, add}
 use Rattle.rules.specs.Numbers.{run}
 use Rattle.runs.specs.After.{after}
@@ -34,6 +34,13 @@ module _ {upto : ℕ → List Float} {o₀ : List Float} where
               rw (p .places, drop-cons o₀ i nan h, set-at (upto i) (getD o₀ i nan) (drop (suc i) o₀) v i (p .long)) (sym (append-snoc (upto i) v (drop (suc i) o₀)) ∙ rw (add-one i, e));
         }
 
+    -- a place that is not reached yet is as it came
+    pub still : i < length o₀ → getD o i nan ≡ getD o₀ i nan
+    still h =
+        let e : drop i o₀ ≡ getD o₀ i nan ∷ drop (suc i) o₀ = drop-cons o₀ i nan h in
+        ap (λ (l : List Float). getD l i nan) (p .places ∙ ap (λ (l : List Float). upto i ++ l) e) ∙ ap (λ (k : ℕ). getD (upto i ++ (getD o₀ i nan ∷ drop (suc i) o₀)) k nan) (sym (p .long))
+        ∙ getD-append-seam (upto i) (getD o₀ i nan) (drop (suc i) o₀) nan
+
     pub passed-length : length o ≡ length o₀
     passed-length =
         ap length (p .places) ∙ length-append (upto i) (drop i o₀) ∙ rw (p .long, length-drop i o₀) (omega (arith, p .within))
@@ -56,6 +63,27 @@ module _ (f : Float → Float) where
   unfolding each run
   each-run g dt zero t = refl
   each-run g dt (suc n) t = ap (λ (l : List Float). f (g t) ∷ l) (each-run g dt n (add binary64 t dt))
+
+  pub each-length : (xs : List Float) → length (each f xs) ≡ length xs
+  unfolding each
+  each-length [] = refl
+  each-length (x ∷ xs) = ap suc (each-length xs)
+
+  pub each-at : (xs : List Float) (i : ℕ) (d : Float) → i < length xs → getD (each f xs) i d ≡ f (getD xs i d)
+  unfolding each
+  each-at [] i d h = absurd (omega arith)
+  each-at (x ∷ xs) zero d h = refl
+  each-at (x ∷ xs) (suc i) d h = each-at xs i d (le-of-suc-le-suc h)
+
+  pub each-each : (g : Float → Float) (xs : List Float) → each f (each g xs) ≡ each (λ x. f (g x)) xs
+  unfolding each
+  each-each g [] = refl
+  each-each g (x ∷ xs) = ap (λ (l : List Float). f (g x) ∷ l) (each-each g xs)
+
+  pub each-same : (g : Float → Float) (xs : List Float) → ((i : ℕ) → i < length xs → f (getD xs i nan) ≡ g (getD xs i nan)) → each f xs ≡ each g xs
+  unfolding each
+  each-same g [] h = refl
+  each-same g (x ∷ xs) h = (λ i. h 0 (omega arith) i ∷ each-same g xs (λ k l. h (suc k) (omega arith)) i)
 
 -- ---- f of each and its time
 

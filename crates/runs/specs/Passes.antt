@@ -1,8 +1,10 @@
--- What a second pass makes of the numbers of a first.
+-- What a pass makes of the numbers of the one before.
+use mathlib.Core.Bool.{Bool, true, not, _&&_}
 use mathlib.Core.List.{List, [], _∷_}
-use lib.Ieee.{Float, binary32, binary64, add, mul}
-use Rattle.rules.specs.Numbers.{fused}
-use Rattle.rules.specs.Samples.{decay, log2e}
+use Prim.Native.Nat.{ℕ, zero, suc, _-_, _*_, _^_, _≤_, _<_}
+use lib.ListN.{length, getD}
+use lib.Ieee.{Float, nan, binary32, binary64, add, lt, toBits}
+use Rattle.rules.specs.Numbers.{fused, narrowed}
 use Rattle.rules.specs.Walk.{fromStart}
 
 -- f of each number
@@ -15,6 +17,28 @@ unfoldable pub timed : (Float → Float → Float) → Float → List Float → 
 timed f period [] t = []
 timed f period (x ∷ xs) t = f t x ∷ timed f period xs (add binary64 t period)
 
--- a target's sample at a time whose phase is x; before the start the intrinsic value
-unfoldable pub fadedAt : Float → Float → Float → Float → Float → Float → Float
-fadedAt start intrinsic target diff time x = fromStart start intrinsic (λ t. fused binary32 diff (decay (mul binary64 x log2e)) target) time
+-- a linear ramp's sample at the phase x
+unfoldable pub phaseSum : Float → Float → Float → Float
+phaseSum from diff x = fused binary32 diff (narrowed x) from
+
+-- a sample x, or before the start the intrinsic value
+unfoldable pub heldAt : Float → Float → Float → Float → Float
+heldAt start intrinsic time x = fromStart start intrinsic (λ t. x) time
+
+-- P of each number
+unfoldable pub every : (Float → Type 0) → List Float → Type 0
+every P [] = Unit {0}
+every P (x ∷ xs) = P x × every P xs
+
+-- R of each number and what was noted for it
+abbrev pub noted : (Float → ℕ → Type 0) → List Float → List ℕ → Type 0
+noted R xs ns = (k : ℕ) → k < length xs → R (getD xs k nan) (getD ns k 0)
+
+-- whether none of n times lies before the start: the first is t, each next one a period later
+unfoldable pub begun : Float → Float → ℕ → Float → Bool
+begun start period zero t = true
+begun start period (suc n) t = not (lt t start) && begun start period n (add binary64 t period)
+
+-- a pattern from that of 2 ^ -(few + 1) up to that of 1
+abbrev pub Ranged : ℕ → Float → Type 0
+Ranged few f = ((1022 - few) * 2 ^ 52 ≤ toBits binary64 f) × (toBits binary64 f ≤ 1023 * 2 ^ 52)

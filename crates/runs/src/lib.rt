@@ -1,18 +1,23 @@
 // Runs of samples: every place of a slice takes the sample at its time, the first at `time`, each next one `dt` later.
-// Up to 128 places take two passes, so that a processor need not wait for the divisions of the first in the second.
+// Up to 128 places take some passes, so that a processor need not wait in one for what it works out in another.
 ghost use mathlib.Core.Path.{_≡_};
-ghost use Prim.Native.Nat.{_≤_};
+ghost use mathlib.Core.Bool.{true, not};
+ghost use mathlib.Core.Logic.{_⊎_};
+ghost use Prim.Native.Nat.{ℕ, _-_, _*_, _^_, _≤_, _<_};
 ghost use lib.Dec.{T};
-ghost use lib.ListN.{length};
-ghost use lib.Ieee.{binary32, binary64, fits, mul};
+ghost use lib.ListN.{length, getD};
+ghost use lib.Ieee.{Float, nan, binary32, binary64, fits, sub, mul, lt, isNan};
 ghost use lib.Ieee.Scale.{finite};
-ghost use Rattle.rules.specs.Numbers.{narrowed, run};
-ghost use Rattle.rules.specs.Samples.{phaseOf, factorOf, curveSample};
+ghost use Rattle.rules.specs.Numbers.{wide, narrowed, run, fused};
+ghost use Rattle.rules.specs.Samples.{phaseOf, factorOf, curveSample, log2e, decay};
 ghost use Rattle.rules.specs.Walk.{fromStart};
 ghost use Rattle.powers.specs.Estimates.{estimates};
-ghost use Rattle.phases.specs.Once.{Once};
+ghost use Rattle.phases.specs.Once.{Once, Within, Served};
 ghost use Rattle.samples.specs.At.{linearAt, exponentialAt, exponentialOver, targetAt};
-ghost use Rattle.runs.specs.Passes.{each, timed, fadedAt};
+ghost use Rattle.decays.specs.Cell.{Grown};
+ghost use Rattle.runs.specs.After.{after};
+ghost use Rattle.runs.specs.Passes.{each, timed, phaseSum, every, noted, begun, heldAt, Ranged};
+ghost use Rattle.runs.specs.Rising.{Plain, Rises, Spans, Climbs, positionOf, atPosition};
 
 // A linear ramp's run.
 fn linear_run(
@@ -36,7 +41,7 @@ fn linear_run(
 }
 
 // From c, by a, values of `f32` whose sums are exact from bx on.
-fn linear_once(
+fn linear_rest(
     out: &mut [f32],
     start_time: f64,
     duration: f64,
@@ -57,6 +62,145 @@ fn linear_once(
         t = t + dt;
         i += 1;
     }
+}
+
+// A number from 0 up, and not -0.
+fn plain(x: f64) -> bool
+    ensures { λ r. ⌜ (r ≡ true → Plain x) ⌝ }
+{
+    if x == x {
+        if f64::to_bits(x) < 0x7ff0_0000_0000_0000 {
+            return true;
+        }
+    }
+    false
+}
+
+// Phases from this time on rise.
+fn rises(start_time: f64, duration: f64, time: f64, dt: f64) -> bool
+    ensures { λ r. ⌜ (r ≡ true → Rises «start_time» duration time dt) ⌝ }
+{
+    if plain(start_time) {
+        if plain(duration) {
+            if plain(time) {
+                if plain(dt) {
+                    if duration > 0.0 {
+                        if time >= start_time {
+                            return true;
+                        }
+                    }
+                }
+            }
+        }
+    }
+    false
+}
+
+// The pattern of x is bx at least, and that of y at most 1.0's.
+fn spans(x: f64, y: f64, bx: u64) -> bool
+    ensures { λ r. ⌜ (r ≡ true → Spans bx x y) ⌝ }
+{
+    if x == x {
+        if y == y {
+            if f64::to_bits(x) >= bx {
+                if f64::to_bits(y) <= 0x3ff0_0000_0000_0000 {
+                    return true;
+                }
+            }
+        }
+    }
+    false
+}
+
+// Sixteen phases, and the time after them.
+fn phases_from(xs: &mut [f64; 16], start_time: f64, duration: f64, time: f64, dt: f64) -> f64
+    requires { ⌜ length (now xs) ≡ 16 ⌝ }
+    ensures { λ r. ⌜ (now (xs .exit) ≡ run (phaseOf «start_time» duration) dt 16 time) × (r ≡ after dt 16 time) ⌝ }
+{
+    let mut i = 0usize;
+    let mut t = time;
+    while i < 16 {
+        xs[i] = (t - start_time) / duration;
+        t = t + dt;
+        i += 1;
+    }
+    t
+}
+
+// Sixteen samples with nothing to test: they are worked out side by side.
+fn sums_within(out: &mut [f32], xs: &[f64; 16], c: f64, a: f64, bx: u64)
+    requires { ⌜ T (fits binary32 a) × T (fits binary32 c) × T (finite a) × T (finite c) ⌝ }
+    requires { ⌜ Once a c bx × (length (now out) ≡ 16) × (length (now xs) ≡ 16) × ((i : ℕ) → i < 16 → Within bx (getD (now xs) i nan)) ⌝ }
+    ensures { λ r. ⌜ now (out .exit) ≡ each (phaseSum c a) (now (xs .entry)) ⌝ }
+{
+    let mut i = 0usize;
+    while i < 16 {
+        out[i] = phases::phase_sum_within(a, xs[i], c, bx);
+        i += 1;
+    }
+}
+
+fn sums_tested(out: &mut [f32], xs: &[f64; 16], c: f64, a: f64, bx: u64)
+    requires { ⌜ T (fits binary32 a) × T (fits binary32 c) × T (finite a) × T (finite c) ⌝ }
+    requires { ⌜ Once a c bx × (length (now out) ≡ 16) × (length (now xs) ≡ 16) ⌝ }
+    ensures { λ r. ⌜ now (out .exit) ≡ each (phaseSum c a) (now (xs .entry)) ⌝ }
+{
+    let mut i = 0usize;
+    while i < 16 {
+        out[i] = phases::phase_sum_once(a, xs[i], c, bx);
+        i += 1;
+    }
+}
+
+// Sixteen samples, and the time after them.
+fn linear_sixteen(
+    out: &mut [f32],
+    start_time: f64,
+    duration: f64,
+    c: f64,
+    a: f64,
+    bx: u64,
+    time: f64,
+    dt: f64,
+) -> f64
+    requires { ⌜ T (fits binary32 a) × T (fits binary32 c) × T (finite a) × T (finite c) ⌝ }
+    requires { ⌜ Once a c bx × (length (now out) ≡ 16) ⌝ }
+    ensures { λ r. ⌜ (now (out .exit) ≡ run (linearAt «start_time» duration c a) dt 16 time) × (r ≡ after dt 16 time) ⌝ }
+{
+    let mut xs = [0.0; 16];
+    let next = phases_from(&mut xs, start_time, duration, time, dt);
+    if rises(start_time, duration, time, dt) {
+        if spans(xs[0], xs[15], bx) {
+            sums_within(out, &xs, c, a, bx);
+            return next;
+        }
+    }
+    sums_tested(out, &xs, c, a, bx);
+    next
+}
+
+fn linear_once(
+    out: &mut [f32],
+    start_time: f64,
+    duration: f64,
+    c: f64,
+    a: f64,
+    bx: u64,
+    time: f64,
+    dt: f64,
+)
+    requires { ⌜ T (fits binary32 a) × T (fits binary32 c) × T (finite a) × T (finite c) ⌝ }
+    requires { ⌜ Once a c bx ⌝ }
+    ensures { λ r. ⌜ now (out .exit) ≡ run (linearAt «start_time» duration c a) dt (length (now (out .entry))) time ⌝ }
+{
+    let mut i = 0usize;
+    let mut t = time;
+    while out.len() - i >= 16 {
+        let e = i + 16;
+        t = linear_sixteen(&mut out[i..e], start_time, duration, c, a, bx, t, dt);
+        i = e;
+    }
+    linear_rest(&mut out[i..], start_time, duration, c, a, bx, t, dt);
 }
 
 pub fn compute_linear_ramp_samples(
@@ -84,17 +228,22 @@ pub fn compute_linear_ramp_samples(
     linear_run(out, start_time, duration, start_value, diff, time, dt);
 }
 
-// The first pass of ramps and targets: the phase at each time.
-fn phases_of(xs: &mut [f64], start_time: f64, duration: f64, time: f64, dt: f64)
-    ensures { λ r. ⌜ now (xs .exit) ≡ run (phaseOf «start_time» duration) dt (length (now (xs .entry))) time ⌝ }
+// The first pass of ramps and targets: the phase at each time, and whether none lies before the start.
+fn phases_of(xs: &mut [f64], start_time: f64, duration: f64, time: f64, dt: f64) -> bool
+    ensures { λ r. ⌜ (now (xs .exit) ≡ run (phaseOf «start_time» duration) dt (length (now (xs .entry))) time) × (r ≡ begun «start_time» dt (length (now (xs .entry))) time) ⌝ }
 {
+    let mut begun = true;
     let mut i = 0usize;
     let mut t = time;
     while i < xs.len() {
+        if t < start_time {
+            begun = false;
+        }
         xs[i] = (t - start_time) / duration;
         t = t + dt;
         i += 1;
     }
+    begun
 }
 
 // An exponential ramp's run, with L as an f64.
@@ -118,14 +267,27 @@ fn exponential_run(
     }
 }
 
-// The second pass: from a finite value, by the table, at the phases xs.
-fn exponential_over(out: &mut [f32], xs: &[f64], table: &[u32; 768], from: f64, l: f64)
-    requires { ⌜ (length (now out) ≡ length (now xs)) × (now table ≡ estimates) × T (finite from) ⌝ }
+// The second pass of an exponential ramp: the estimate of each phase's factor.
+fn growths_of(ns: &mut [u64], xs: &[f64], table: &[u32; 768], l: f64)
+    requires { ⌜ (length (now ns) ≡ length (now xs)) × (now table ≡ estimates) ⌝ }
+    ensures { λ r. ⌜ noted (λ x n. (n ≡ 0) ⊎ Grown (mul binary64 l x) n) (now (xs .entry)) (now (ns .exit)) ⌝ }
+{
+    let mut i = 0usize;
+    while i < ns.len() {
+        ns[i] = decays::grown_near(table, l * xs[i]);
+        i += 1;
+    }
+}
+
+// The third pass: from a finite value, by the estimates ns at the phases xs.
+fn exponential_over(out: &mut [f32], xs: &[f64], ns: &[u64], table: &[u32; 768], from: f64, l: f64)
+    requires { ⌜ (length (now out) ≡ length (now xs)) × (length (now ns) ≡ length (now xs)) × (now table ≡ estimates) × T (finite from) ⌝ }
+    requires { ⌜ noted (λ x n. (n ≡ 0) ⊎ Grown (mul binary64 l x) n) (now xs) (now ns) ⌝ }
     ensures { λ r. ⌜ now (out .exit) ≡ each (λ x. narrowed (mul binary64 from (factorOf (mul binary64 l x)))) (now (xs .entry)) ⌝ }
 {
     let mut i = 0usize;
     while i < out.len() {
-        out[i] = decays::grown_by(table, from, l * xs[i]);
+        out[i] = decays::grown_by(table, from, l * xs[i], ns[i]);
         i += 1;
     }
 }
@@ -146,7 +308,9 @@ fn exponential_finite(
     let mut xs = [0.0; 128];
     phases_of(&mut xs[..n], start_time, duration, time, dt);
     let table = powers::table();
-    exponential_over(out, &xs[..n], &table, from, l);
+    let mut ns = [0u64; 128];
+    growths_of(&mut ns[..n], &xs[..n], &table, l);
+    exponential_over(out, &xs[..n], &ns[..n], &table, from, l);
 }
 
 pub fn compute_exponential_ramp_samples(
@@ -211,45 +375,110 @@ fn target_run(
     }
 }
 
-// A target's sample at the phase x, by the table; to c, from a more: values of `f32`.
-fn target_by(
-    table: &[u32; 768],
-    start_time: f64,
-    c: f64,
-    a: f64,
-    intrinsic: f32,
-    time: f64,
-    x: f64,
-) -> f32
-    requires { ⌜ (now table ≡ estimates) × T (fits binary32 a) × T (fits binary32 c) × T (finite a) × T (finite c) ⌝ }
-    ensures { λ r. ⌜ r ≡ fadedAt «start_time» intrinsic c a time x ⌝ }
+// The second pass of a target: the phases become its factors. Whether each is at least 2^-(few + 1).
+fn factors_of(xs: &mut [f64], table: &[u32; 768], few: u64) -> bool
+    requires { ⌜ (now table ≡ estimates) × (few ≤ 124) ⌝ }
+    ensures { λ r. ⌜ (now (xs .exit) ≡ each (λ x. decay (mul binary64 x log2e)) (now (xs .entry))) × (r ≡ true → every (Ranged few) (now (xs .exit))) ⌝ }
 {
-    if time < start_time {
-        return intrinsic;
+    let mut all = true;
+    let mut i = 0usize;
+    while i < xs.len() {
+        let y = xs[i] * 1.4426950408889634;
+        let n = decays::decay_near(table, y, few);
+        if n == 0 {
+            all = false;
+        }
+        xs[i] = decays::decay_told(table, y, n);
+        i += 1;
     }
-    decays::faded_by(table, a, x * 1.4426950408889634, c)
+    all
 }
 
-// The second pass: a target's samples at the phases xs.
-fn target_over(
-    out: &mut [f32],
-    xs: &[f64],
-    table: &[u32; 768],
-    start_time: f64,
-    c: f64,
-    a: f64,
-    intrinsic: f32,
-    time: f64,
-    dt: f64,
-)
-    requires { ⌜ length (now out) ≡ length (now xs) ⌝ }
-    requires { ⌜ (now table ≡ estimates) × T (fits binary32 a) × T (fits binary32 c) × T (finite a) × T (finite c) ⌝ }
-    ensures { λ r. ⌜ now (out .exit) ≡ timed (fadedAt «start_time» intrinsic c a) dt (now (xs .entry)) time ⌝ }
+// The third pass: each factor's sum, where nothing of it is left to test.
+fn faded_once(out: &mut [f32], fs: &[f64], a: f64, c: f64)
+    requires { ⌜ (length (now out) ≡ length (now fs)) × every (Served a c) (now fs) ⌝ }
+    requires { ⌜ T (fits binary32 a) × T (fits binary32 c) × T (finite a) × T (finite c) ⌝ }
+    ensures { λ r. ⌜ now (out .exit) ≡ each (λ f. fused binary32 a f c) (now (fs .entry)) ⌝ }
+{
+    let mut i = 0usize;
+    while i < out.len() {
+        out[i] = phases::sum_once(a, fs[i], c);
+        i += 1;
+    }
+}
+
+// The third pass for any factors.
+fn faded_any(out: &mut [f32], fs: &[f64], a: f64, c: f64)
+    requires { ⌜ (length (now out) ≡ length (now fs)) × every (λ f. T (fits binary32 f) × T (not (isNan f))) (now fs) ⌝ }
+    requires { ⌜ T (fits binary32 a) × T (fits binary32 c) × T (finite a) × T (finite c) ⌝ }
+    ensures { λ r. ⌜ now (out .exit) ≡ each (λ f. fused binary32 a f c) (now (fs .entry)) ⌝ }
+{
+    let mut i = 0usize;
+    while i < out.len() {
+        out[i] = rounding::fused_wide(a, fs[i], c);
+        i += 1;
+    }
+}
+
+// The last phase, or 0.
+fn last_of(xs: &[f64]) -> f64 {
+    let n = xs.len();
+    if n > 0 {
+        return xs[n - 1];
+    }
+    0.0
+}
+
+// How many times factors may halve: where sums are exact from the exponent's field b on, as often as that allows, if the last phase x lies before (1.5 is more than log2(e)).
+fn few_from(b: u64, x: f64) -> u64
+    ensures { λ r. ⌜ r ≤ 124 ⌝ }
+{
+    if b >= 898 {
+        if b <= 1022 {
+            if samples::whole(x * 1.5) <= 1022 - b {
+                return 1022 - b;
+            }
+        }
+    }
+    124
+}
+
+// Both passes at the phases xs: to c, from a more.
+fn target_over(out: &mut [f32], xs: &mut [f64], table: &[u32; 768], c: f64, a: f64)
+    requires { ⌜ (length (now out) ≡ length (now xs)) × (now table ≡ estimates) ⌝ }
+    requires { ⌜ T (fits binary32 a) × T (fits binary32 c) × T (finite a) × T (finite c) ⌝ }
+    ensures { λ r. ⌜ now (out .exit) ≡ each (λ x. fused binary32 a (decay (mul binary64 x log2e)) c) (now (xs .entry)) ⌝ }
+{
+    let bx = phases::once_from(a, c);
+    let b = bx / 0x10_0000_0000_0000;
+    let few = few_from(b, last_of(xs));
+    let all = factors_of(xs, table, few);
+    if all {
+        if bx != 0 {
+            if few + b == 1022 {
+                faded_once(out, xs, a, c);
+                return;
+            }
+        }
+    }
+    faded_any(out, xs, a, c);
+}
+
+// A sample, or the intrinsic value before the start.
+fn held_at(start_time: f64, intrinsic: f32, time: f64, sample: f32) -> f32
+    ensures { λ r. ⌜ r ≡ heldAt «start_time» intrinsic time sample ⌝ }
+{
+    if time < start_time { intrinsic } else { sample }
+}
+
+// The last pass, where some time lies before the start.
+fn hold_before(out: &mut [f32], start_time: f64, intrinsic: f32, time: f64, dt: f64)
+    ensures { λ r. ⌜ now (out .exit) ≡ timed (heldAt «start_time» intrinsic) dt (now (out .entry)) time ⌝ }
 {
     let mut i = 0usize;
     let mut t = time;
     while i < out.len() {
-        out[i] = target_by(table, start_time, c, a, intrinsic, t, xs[i]);
+        out[i] = held_at(start_time, intrinsic, t, out[i]);
         t = t + dt;
         i += 1;
     }
@@ -271,9 +500,52 @@ fn target_finite(
 {
     let n = out.len();
     let mut xs = [0.0; 128];
-    phases_of(&mut xs[..n], start_time, time_constant, time, dt);
+    let begun = phases_of(&mut xs[..n], start_time, time_constant, time, dt);
     let table = powers::table();
-    target_over(out, &xs[..n], &table, start_time, c, a, intrinsic, time, dt);
+    target_over(out, &mut xs[..n], &table, c, a);
+    if begun {
+        return;
+    }
+    hold_before(out, start_time, intrinsic, time, dt);
+}
+
+// The time 128 places on.
+fn part_later(time: f64, dt: f64) -> f64
+    ensures { λ r. ⌜ r ≡ after dt 128 time ⌝ }
+{
+    let mut i = 0usize;
+    let mut t = time;
+    while i < 128 {
+        t = t + dt;
+        i += 1;
+    }
+    t
+}
+
+// By parts of up to 128. Called from two places a part stays a function of its own: put into the walk's loop it would slow down every head.
+fn target_parts(
+    out: &mut [f32],
+    start: f64,
+    constant: f64,
+    c: f64,
+    a: f64,
+    intrinsic: f32,
+    time: f64,
+    dt: f64,
+)
+    requires { ⌜ T (fits binary32 a) × T (fits binary32 c) × T (finite a) × T (finite c) ⌝ }
+    ensures { λ r. ⌜ now (out .exit) ≡ run (fromStart start intrinsic (targetAt start constant c a)) dt (length (now (out .entry))) time ⌝ }
+{
+    let mut i = 0usize;
+    let mut t = time;
+    while out.len() - i > 128 {
+        let e = i + 128;
+        let next = part_later(t, dt);
+        target_finite(&mut out[i..e], start, constant, c, a, intrinsic, t, dt);
+        t = next;
+        i = e;
+    }
+    target_finite(&mut out[i..], start, constant, c, a, intrinsic, t, dt);
 }
 
 pub fn compute_set_target_samples(
@@ -290,12 +562,10 @@ pub fn compute_set_target_samples(
 {
     if floats::is_finite32(end_value) {
         if floats::is_finite32(diff) {
-            if out.len() <= 128 {
-                let c = end_value as f64;
-                let a = diff as f64;
-                target_finite(out, start_time, time_constant, c, a, intrinsic, time, dt);
-                return;
-            }
+            let c = end_value as f64;
+            let a = diff as f64;
+            target_parts(out, start_time, time_constant, c, a, intrinsic, time, dt);
+            return;
         }
     }
     target_run(
@@ -322,7 +592,8 @@ fn curve_from(start_time: f64, duration: f64, values: &[f32], intrinsic: f32, ti
     }
 }
 
-pub fn compute_set_value_curve_samples(
+// A curve's run, each sample by itself.
+fn curve_run(
     out: &mut [f32],
     start_time: f64,
     duration: f64,
@@ -341,4 +612,208 @@ pub fn compute_set_value_curve_samples(
         t = t + dt;
         i += 1;
     }
+}
+
+fn short_of(x: f64, y: f64) -> bool
+    ensures { λ r. ⌜ (r ≡ true → Plain x × (lt x y ≡ true)) ⌝ }
+{
+    if plain(x) {
+        if x < y {
+            return true;
+        }
+    }
+    false
+}
+
+// Sixteen positions in a curve whose last number has the place n, and the time after them.
+fn positions_from(
+    ps: &mut [f64; 16],
+    n: f64,
+    start_time: f64,
+    duration: f64,
+    time: f64,
+    dt: f64,
+) -> f64
+    requires { ⌜ length (now ps) ≡ 16 ⌝ }
+    ensures { λ r. ⌜ (now (ps .exit) ≡ run (positionOf n «start_time» duration) dt 16 time) × (r ≡ after dt 16 time) ⌝ }
+{
+    let mut i = 0usize;
+    let mut t = time;
+    while i < 16 {
+        ps[i] = n * (t - start_time) / duration;
+        t = t + dt;
+        i += 1;
+    }
+    t
+}
+
+fn fractions(xs: &mut [f64; 16], ps: &[f64; 16], k: f64)
+    requires { ⌜ (length (now xs) ≡ 16) × (length (now ps) ≡ 16) ⌝ }
+    ensures { λ r. ⌜ now (xs .exit) ≡ each (λ p. sub binary64 p k) (now (ps .entry)) ⌝ }
+{
+    let mut i = 0usize;
+    while i < 16 {
+        xs[i] = ps[i] - k;
+        i += 1;
+    }
+}
+
+// Sixteen sums side by side, and whether all of them were seen.
+fn sums_seen(out: &mut [f32], xs: &[f64; 16], c: f64, a: f64) -> bool
+    requires { ⌜ T (fits binary32 a) × T (fits binary32 c) × T (finite a) × T (finite c) ⌝ }
+    requires { ⌜ (length (now out) ≡ 16) × (length (now xs) ≡ 16) × ((i : ℕ) → i < 16 → Within (898 * 2 ^ 52) (getD (now xs) i nan)) ⌝ }
+    ensures { λ r. ⌜ (r ≡ true → now (out .exit) ≡ each (phaseSum c a) (now (xs .entry))) ⌝ }
+{
+    let mut i = 0usize;
+    let mut seen = 0usize;
+    while i < 16 {
+        let n = phases::phase_sum_seen(a, xs[i], c);
+        out[i] = f64::from_bits(n) as f32;
+        if n != 0 {
+            seen += 1;
+        }
+        i += 1;
+    }
+    if seen == 16 {
+        return true;
+    }
+    false
+}
+
+// Sixteen samples between two numbers of a curve.
+fn curve_part(out: &mut [f32], xs: &[f64; 16], from: f32, diff: f32) -> bool
+    requires { ⌜ (length (now out) ≡ 16) × (length (now xs) ≡ 16) × ((i : ℕ) → i < 16 → Within (898 * 2 ^ 52) (getD (now xs) i nan)) ⌝ }
+    ensures { λ r. ⌜ (r ≡ true → now (out .exit) ≡ each (phaseSum «from» diff) (now (xs .entry))) ⌝ }
+{
+    if floats::is_finite32(from) {
+        if floats::is_finite32(diff) {
+            return sums_seen(out, xs, from as f64, diff as f64);
+        }
+    }
+    false
+}
+
+// The same by their positions, where all lie between the same two.
+fn curve_within(out: &mut [f32], ps: &[f64; 16], values: &[f32]) -> bool
+    requires { ⌜ (length (now out) ≡ 16) × (length (now ps) ≡ 16) × (2 ≤ length (now values)) × (length (now values) ≤ 4096) × Climbs (length (now values) - 1) (now ps) ⌝ }
+    ensures { λ r. ⌜ (r ≡ true → now (out .exit) ≡ each (atPosition (now (values .entry))) (now (ps .entry))) ⌝ }
+{
+    let k = samples::whole(ps[0]) as usize;
+    let mut xs = [0.0; 16];
+    fractions(&mut xs, ps, (k as i64) as f64);
+    if spans(xs[0], xs[15], 0x3820_0000_0000_0000) {
+        if f64::to_bits(xs[15]) < 0x3ff0_0000_0000_0000 {
+            let from = values[k];
+            return curve_part(out, &xs, from, values[k + 1] - from);
+        }
+    }
+    false
+}
+
+// Sixteen samples of a curve by their positions, if they rise and end before the curve does.
+fn curve_tried(
+    out: &mut [f32],
+    ps: &[f64; 16],
+    values: &[f32],
+    n: f64,
+    next: f64,
+    start_time: f64,
+    duration: f64,
+    time: f64,
+    dt: f64,
+) -> bool
+    requires { ⌜ (length (now out) ≡ 16) × (2 ≤ length (now values)) × (length (now values) ≤ 4096) × (n ≡ wide (length (now values) - 1)) × (next ≡ after dt 16 time) ⌝ }
+    requires { ⌜ now ps ≡ run (positionOf n «start_time» duration) dt 16 time ⌝ }
+    ensures { λ r. ⌜ (r ≡ true → (v : Float) → now (out .exit) ≡ run (fromStart «start_time» v (curveSample (now (values .entry)) «start_time» duration)) dt 16 time) ⌝ }
+{
+    if rises(start_time, duration, time, dt) {
+        if short_of(next - start_time, duration) {
+            if short_of(ps[15], n) {
+                return curve_within(out, ps, values);
+            }
+        }
+    }
+    false
+}
+
+// Sixteen samples of a curve, and the time after them.
+fn curve_sixteen(
+    out: &mut [f32],
+    start_time: f64,
+    duration: f64,
+    values: &[f32],
+    intrinsic: f32,
+    time: f64,
+    dt: f64,
+) -> f64
+    requires { ⌜ (length (now out) ≡ 16) × (2 ≤ length (now values)) × (length (now values) ≤ 4096) ⌝ }
+    ensures { λ r. ⌜ (now (out .exit) ≡ run (fromStart «start_time» intrinsic (curveSample (now (values .entry)) «start_time» duration)) dt 16 time) × (r ≡ after dt 16 time) ⌝ }
+{
+    let n = ((values.len() - 1) as i64) as f64;
+    let mut ps = [0.0; 16];
+    let next = positions_from(&mut ps, n, start_time, duration, time, dt);
+    if curve_tried(out, &ps, values, n, next, start_time, duration, time, dt) {
+        return next;
+    }
+    curve_run(out, start_time, duration, values, intrinsic, time, dt);
+    next
+}
+
+// A curve's run, sixteen samples a turn.
+fn curve_turns(
+    out: &mut [f32],
+    start_time: f64,
+    duration: f64,
+    values: &[f32],
+    intrinsic: f32,
+    time: f64,
+    dt: f64,
+)
+    requires { ⌜ (2 ≤ length (now values)) × (length (now values) ≤ 4096) ⌝ }
+    ensures { λ r. ⌜ now (out .exit) ≡ run (fromStart «start_time» intrinsic (curveSample (now (values .entry)) «start_time» duration)) dt (length (now (out .entry))) time ⌝ }
+{
+    let mut i = 0usize;
+    let mut t = time;
+    while out.len() - i >= 16 {
+        let e = i + 16;
+        t = curve_sixteen(
+            &mut out[i..e],
+            start_time,
+            duration,
+            values,
+            intrinsic,
+            t,
+            dt,
+        );
+        i = e;
+    }
+    curve_run(
+        &mut out[i..],
+        start_time,
+        duration,
+        values,
+        intrinsic,
+        t,
+        dt,
+    );
+}
+
+pub fn compute_set_value_curve_samples(
+    out: &mut [f32],
+    start_time: f64,
+    duration: f64,
+    values: &[f32],
+    intrinsic: f32,
+    time: f64,
+    dt: f64,
+)
+    requires { ⌜ (2 ≤ length (now values)) × (length (now values) ≤ 4096) ⌝ }
+    ensures { λ r. ⌜ now (out .exit) ≡ run (fromStart «start_time» intrinsic (curveSample (now (values .entry)) «start_time» duration)) dt (length (now (out .entry))) time ⌝ }
+{
+    // sixteen samples seldom lie between the same two numbers where there are fewer than twenty
+    if (values.len() as f64) * (dt * 20.0) < duration {
+        curve_turns(out, start_time, duration, values, intrinsic, time, dt);
+        return;
+    }
+    curve_run(out, start_time, duration, values, intrinsic, time, dt);
 }

@@ -86,72 +86,41 @@ struct Parts {
     hold: f64,
 }
 
+fn parts_with(kind: u8, value: f32, time: f64, other: f64, len: usize, hold: MaybeTime) -> Parts {
+    Parts {
+        kind,
+        value,
+        time,
+        other,
+        len,
+        hold: time_or_none(hold),
+    }
+}
+
 fn parts_of_event(e: Event) -> Parts {
     match e {
-        Event::Step { value, time } => Parts {
-            kind: 1,
-            value,
-            time,
-            other: 0.0,
-            len: 0,
-            hold: -1.0,
-        },
-        Event::Linear { value, time, hold } => Parts {
-            kind: 2,
-            value,
-            time,
-            other: 0.0,
-            len: 0,
-            hold: time_or_none(hold),
-        },
-        Event::Exponential { value, time, hold } => Parts {
-            kind: 3,
-            value,
-            time,
-            other: 0.0,
-            len: 0,
-            hold: time_or_none(hold),
-        },
+        Event::Step { value, time } => parts_with(1, value, time, 0.0, 0, MaybeTime::Missing),
+        Event::Linear { value, time, hold } => parts_with(2, value, time, 0.0, 0, hold),
+        Event::Exponential { value, time, hold } => parts_with(3, value, time, 0.0, 0, hold),
         Event::Target {
             value,
             time,
             constant,
             hold,
-        } => Parts {
-            kind: 4,
-            value,
-            time,
-            other: constant,
-            len: 0,
-            hold: time_or_none(hold),
-        },
+        } => parts_with(4, value, time, constant, 0, hold),
         Event::Curve {
             start,
             duration,
             len,
             hold,
-        } => Parts {
-            kind: 5,
-            value: 0.0,
-            time: start,
-            other: duration,
-            len,
-            hold: time_or_none(hold),
-        },
+        } => parts_with(5, 0.0, start, duration, len, hold),
     }
 }
 
 fn parts_of(h: Head) -> Parts {
     match h {
         Head::Event(e) => parts_of_event(e),
-        Head::Empty => Parts {
-            kind: 0,
-            value: 0.0,
-            time: 0.0,
-            other: 0.0,
-            len: 0,
-            hold: -1.0,
-        },
+        Head::Empty => parts_with(0, 0.0, 0.0, 0.0, 0, MaybeTime::Missing),
     }
 }
 

@@ -1,53 +1,8 @@
 -- `compute_set_value_curve_automation` meets its contract: it waits, or is a span. Assumes nothing.
-use lib.ListN.{length}
-use Rattle.rules.specs.declared.Event.{Event}
-use Rattle.rules.specs.declared.Event.the-variants as Event
-use Rattle.rules.specs.Samples.{lastNumber, curveSample}
-use Rattle.rules.specs.Walk.{fromStart, curveTurn}
-use Rattle.automation.specs.Walks.{walkIs, waitingAs}
-use Rattle.automation.proofs.Bodies.{ready-room, filled-at, stays, last-read, Spanned, span-few, span-stops, span-ends, span-held, curve-waits, curve-is}
+use Rattle.automation.proofs.Bodies.{stays, curve-waits, curve-is}
 use borrow.Author.Needs.{needs}
 use Rattle.automation.proofs.compute_set_value_curve_automation.Statement.{statement}
 use Rattle.automation.proofs.compute_set_value_curve_automation.Tie as tie
-
--- ---- behind the fill, at k
-
-module _ (k : tie.After-with-filled) where
-  abbrev start : tie.Start
-  start = k .before .before .before .before .before .before .before .before .before .before .before
-
-  abbrev event : Event
-  event = Event.Curve (start .args .start) (start .args .duration) (length (start .args .values .now)) (start .args .hold)
-
-  spans : Spanned
-      (start .args .infos)
-      (start .args .buffer .now)
-      (start .args .values .now)
-      event
-      (curveTurn
-      (start .args .infos)
-      (walkIs (start .args .walk) (start .args .buffer .now))
-      (waitingAs event (start .args .values .now))
-      (start .args .start)
-      (start .args .duration)
-      (start .args .hold))
-      (lastNumber (start .args .values .now))
-      (start .args .hold)
-      (fromStart (start .args .start) (start .args .walk .intrinsic) (curveSample (start .args .values .now) (start .args .start) (start .args .duration)))
-      (k .before .before .before .before .before .before .hold-or .result)
-      (k .with-filled .result)
-      (k .before .before .before .fill-curve .last .1 .0)
-  spans =
-      record {
-        before = start .args .walk;
-        time = _;
-        n = k .before .before .before .fill-curve .result;
-        turn-is = curve-is (start .args .infos) (start .args .walk) (start .args .buffer .now) _ _ _ _ (k .before .before .before .before .before .before .before .if1 .left);
-        end-is = k .before .before .before .before .before .before .hold-or .ensures;
-        filled = filled-at (k .before .before .before .before .before .end-place-of .ensures) (k .before .before .before .fill-curve .ensures);
-        walk-is = k .with-filled .ensures;
-        few = start .pre .0 .finished;
-      }
 
 stop-requires : tie.Need-stop-requires
 stop-requires c κs = search needs
@@ -55,103 +10,19 @@ stop-requires c κs = search needs
 returns : tie.Need-returns
 returns c =
     let s = c .before .before .before .before .before in
-    rw (c .stop .ensures, curve-waits (s .args .infos) (s .args .walk) (s .args .buffer .now) _ _ _ _ (c .before .if1 .taken))
-    (stays (s .pre .0 .filled))
+    rw (c .stop .ensures, curve-waits (s .args .infos) (s .args .walk) (s .args .buffer .now) _ _ _ _ (c .before .if1 .taken)) (stays (s .pre .0 .filled))
 
-hold-or-requires : tie.Need-hold-or-requires
-hold-or-requires c κs = search needs
-
-end-place-of-requires : tie.Need-end-place-of-requires
-end-place-of-requires c κs = search needs
-
-fill-curve-requires : tie.Need-fill-curve-requires
-fill-curve-requires c κs =
-    let s = c .before .before .before .before .before .before .before in
-    (ready-room (s .pre .0) (c .before .before .hold-or .result) (c .before .end-place-of .ensures), s .pre .1, s .pre .2)
-
-with-filled-requires : tie.Need-with-filled-requires
-with-filled-requires c κs = search needs
-
-curve-value-requires : tie.Need-curve-value-requires
-curve-value-requires c κs = search needs
-
-with-intrinsic-requires : tie.Need-with-intrinsic-requires
-with-intrinsic-requires c κs = search needs
-
-stop-requires-2 : tie.Need-stop-requires-2
-stop-requires-2 c κs = search needs
+curve-span-requires : tie.Need-curve-span-requires
+curve-span-requires c κs = search needs
 
 same-length : tie.Need-same-length
 same-length c = search needs
 
 returns-2 : tie.Need-returns-2
 returns-2 c =
-    rw (c .stop2 .ensures, c .before .with-intrinsic .ensures) (span-stops (spans (c .before .before .before .before .before)) (c .before .before .before .if2 .taken) (c .before .before .curve-value .ensures))
-
-enum-told : tie.Need-enum-told
-enum-told c = search needs
-
-enum-told-2 : tie.Need-enum-told-2
-enum-told-2 c = search needs
-
-sub-consume : tie.Need-sub-consume
-sub-consume c = search needs
-
-mul-consume : tie.Need-mul-consume
-mul-consume c = search needs
-
-shared-slice-read-consume : tie.Need-shared-slice-read-consume
-shared-slice-read-consume c = search needs
-
-consume-requires : tie.Need-consume-requires
-consume-requires c κs = span-few (spans (c .before .before .before .before .before))
-
-same-length-2 : tie.Need-same-length-2
-same-length-2 c = search needs
-
-returns-3 : tie.Need-returns-3
-returns-3 c =
-    let k = c .before .before .before .before .before .before in
-    rw (c .consume .ensures)
-    (span-ends (spans k) (c .before .before .before .before .if2 .left) (c .before .before .enum-told2 .given .1) (last-read (start k .args .values .now) (start k .pre .1)))
-
-curve-value-requires-2 : tie.Need-curve-value-requires-2
-curve-value-requires-2 c κs = search needs
-
-consume-requires-2 : tie.Need-consume-requires-2
-consume-requires-2 c κs = span-few (spans (c .before .before .before .before .before))
-
-same-length-3 : tie.Need-same-length-3
-same-length-3 c = search needs
-
-returns-4 : tie.Need-returns-4
-returns-4 c =
-    rw (c .consume2 .ensures) (span-held (spans (c .before .before .before .before .before .before)) (c .before .before .before .before .if2 .left) (c .before .before .enum-told .given .1) (c .before .curve-value2 .ensures))
+    let a = c .before .before .before .before .before .before .before .before .args in
+    rw (curve-is (a .infos) (a .walk) (a .buffer .now) _ _ _ _ (c .before .before .before .before .if1 .left)) (c .before .before .curve-span .ensures)
 
 pub compute-set-value-curve-automation-spec : {M : Type 1} → statement M
 compute-set-value-curve-automation-spec =
-    tie.close
-    (tie.spec
-    stop-requires
-    returns
-    hold-or-requires
-    end-place-of-requires
-    fill-curve-requires
-    with-filled-requires
-    curve-value-requires
-    with-intrinsic-requires
-    stop-requires-2
-    same-length
-    returns-2
-    enum-told
-    enum-told-2
-    sub-consume
-    mul-consume
-    shared-slice-read-consume
-    consume-requires
-    same-length-2
-    returns-3
-    curve-value-requires-2
-    consume-requires-2
-    same-length-3
-    returns-4)
+    tie.close (tie.spec stop-requires returns curve-span-requires same-length returns-2)

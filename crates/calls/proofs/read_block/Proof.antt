@@ -1,19 +1,12 @@
 -- `calls::read_block` meets its contract: the field that cannot be read, or the call with its numbers. Assumes nothing.
 use mathlib.Core.Path.{_∙_}
 use Prim.Native.Nat.{_-_, _^_}
-use native.Mathlib.Nat.{le-trans}
 use Rattle.calls.specs.Language.{blockOf}
 use Rattle.calls.proofs.Fields.{double-is, double-not, count-is, count-not, ends, ends-not}
-use Rattle.calls.proofs.Numbers.{unheard, heard-with, numbers-are, numbers-not, within}
+use Rattle.calls.proofs.Numbers.{unheard, heard-with, counted-is, counted-not}
 use borrow.Author.Needs.{needs}
 use Rattle.calls.proofs.read_block.Statement.{statement}
 use Rattle.calls.proofs.read_block.Tie as tie
-use Rattle.calls.proofs.read_block.Reads as reads
-use Rattle.calls.proofs.read_block.Lts as lts
-use Rattle.calls.proofs.next_numbers.Reads as next-numbers-reads
-use Rattle.text.proofs.words.next_count.Reads as next-count-reads
-use Rattle.text.proofs.words.next_double.Reads as next-double-reads
-use Rattle.text.proofs.words.over.Reads as over-reads
 
 next-double-requires : tie.Need-next-double-requires
 next-double-requires c κs = search needs
@@ -26,9 +19,7 @@ enum-told c = search needs
 
 returns : tie.Need-returns
 unfolding blockOf
-returns c =
-    unheard _
-    (double-not _ _ _ (c .before .before .next-double .ensures) (c .enum-told .given .1))
+returns c = unheard _ (double-not _ _ _ (c .before .before .next-double .ensures) (c .enum-told .given .1))
 
 next-double-requires-2 : tie.Need-next-double-requires-2
 next-double-requires-2 c κs = search needs
@@ -87,8 +78,8 @@ returns-4 c =
     ∙ count-is _ _ (2 ^ 64 - 1) _ (f3 .before .before .next-count .ensures) (f3 .count .given .1)
     ∙ count-not _ _ 4096 _ (c .before .before .next-count2 .ensures) (c .enum-told4 .given .1))
 
-next-count-requires-3 : tie.Need-next-count-requires-3
-next-count-requires-3 c κs = search needs
+next-counted-requires : tie.Need-next-counted-requires
+next-counted-requires c κs = search needs
 
 enum-known-input : tie.Need-enum-known-input
 enum-known-input c = search needs
@@ -96,37 +87,13 @@ enum-known-input c = search needs
 enum-told-5 : tie.Need-enum-told-5
 enum-told-5 c = search needs
 
-returns-5 : tie.Need-returns-5
-unfolding blockOf
-returns-5 c =
-    let f4 = c .before .before .before .before in
-    let f3 = f4 .before .before .before .before in
-    let f2 = f3 .before .before .before .before in
-    let f1 = f2 .before .before .before .before in
-    unheard _
-    (double-is _ _ _ (f1 .before .before .next-double .ensures) (f1 .time .given .1)
-    ∙ double-is _ _ _ (f2 .before .before .next-double2 .ensures) (f2 .period .given .1)
-    ∙ count-is _ _ (2 ^ 64 - 1) _ (f3 .before .before .next-count .ensures) (f3 .count .given .1)
-    ∙ count-is _ _ 4096 _ (f4 .before .before .next-count2 .ensures) (f4 .output .given .1)
-    ∙ count-not _ _ 4096 _ (c .before .before .next-count3 .ensures) (c .enum-told5 .given .1))
-
-next-numbers-requires : tie.Need-next-numbers-requires
-next-numbers-requires c κs = le-trans (within _ _ 4096 (c .before .before .before .before .next-count3 .ensures) (c .before .before .input .given .1)) (c .before .before .before .before .before .before .before .before .before .before .before .before .before .before .before .before .before .before .before .before .before .before .before .pre)
-
-enum-known-next : tie.Need-enum-known-next
-enum-known-next c = search needs
-
-enum-told-6 : tie.Need-enum-told-6
-enum-told-6 c = search needs
-
 same-length : tie.Need-same-length
 same-length c = search needs
 
-returns-6 : tie.Need-returns-6
+returns-5 : tie.Need-returns-5
 unfolding blockOf
-returns-6 c =
-    let f5 = c .before .before .before .before .before .before .before in
-    let f4 = f5 .before .before .before .before in
+returns-5 c =
+    let f4 = c .before .before .before .before .before .before .before in
     let f3 = f4 .before .before .before .before in
     let f2 = f3 .before .before .before .before in
     let f1 = f2 .before .before .before .before in
@@ -135,8 +102,7 @@ returns-6 c =
     ∙ double-is _ _ _ (f2 .before .before .next-double2 .ensures) (f2 .period .given .1)
     ∙ count-is _ _ (2 ^ 64 - 1) _ (f3 .before .before .next-count .ensures) (f3 .count .given .1)
     ∙ count-is _ _ 4096 _ (f4 .before .before .next-count2 .ensures) (f4 .output .given .1)
-    ∙ count-is _ _ 4096 _ (f5 .before .before .next-count3 .ensures) (f5 .input .given .1)
-    ∙ numbers-not _ _ _ _ _ (c .before .before .before .before .next-numbers .ensures) (c .enum-told6 .given .1))
+    ∙ counted-not _ _ _ 4096 _ (c .before .before .before .before .next-counted .ensures) (c .enum-told5 .given .1))
 
 over-requires : tie.Need-over-requires
 over-requires c κs = search needs
@@ -144,31 +110,28 @@ over-requires c κs = search needs
 same-length-2 : tie.Need-same-length-2
 same-length-2 c = search needs
 
-returns-7 : tie.Need-returns-7
+returns-6 : tie.Need-returns-6
 unfolding blockOf
-returns-7 c =
-    let f5 = c .before .before .before .before .before .before .before .before .before .before in
-    let f4 = f5 .before .before .before .before in
+returns-6 c =
+    let f4 = c .before .before .before .before .before .before .before .before .before .before in
     let f3 = f4 .before .before .before .before in
     let f2 = f3 .before .before .before .before in
     let f1 = f2 .before .before .before .before in
-    heard-with (f5 .input .given .0 .0) _
+    heard-with (c .before .before .before .input .given .0 .0) _
     (double-is _ _ _ (f1 .before .before .next-double .ensures) (f1 .time .given .1)
     ∙ double-is _ _ _ (f2 .before .before .next-double2 .ensures) (f2 .period .given .1)
     ∙ count-is _ _ (2 ^ 64 - 1) _ (f3 .before .before .next-count .ensures) (f3 .count .given .1)
     ∙ count-is _ _ 4096 _ (f4 .before .before .next-count2 .ensures) (f4 .output .given .1)
-    ∙ count-is _ _ 4096 _ (f5 .before .before .next-count3 .ensures) (f5 .input .given .1)
-    ∙ numbers-are _ _ _ _ _ (c .before .before .before .before .before .before .before .next-numbers .ensures) (c .before .before .before .next .given .1)
+    ∙ counted-is _ _ _ 4096 _ (c .before .before .before .before .before .before .before .next-counted .ensures) (c .before .before .before .input .given .1)
     ∙ ends _ _ _ (c .before .over .ensures) (c .if1 .taken))
 
 same-length-3 : tie.Need-same-length-3
 same-length-3 c = search needs
 
-returns-8 : tie.Need-returns-8
+returns-7 : tie.Need-returns-7
 unfolding blockOf
-returns-8 c =
-    let f5 = c .before .before .before .before .before .before .before .before .before .before in
-    let f4 = f5 .before .before .before .before in
+returns-7 c =
+    let f4 = c .before .before .before .before .before .before .before .before .before .before in
     let f3 = f4 .before .before .before .before in
     let f2 = f3 .before .before .before .before in
     let f1 = f2 .before .before .before .before in
@@ -177,8 +140,7 @@ returns-8 c =
     ∙ double-is _ _ _ (f2 .before .before .next-double2 .ensures) (f2 .period .given .1)
     ∙ count-is _ _ (2 ^ 64 - 1) _ (f3 .before .before .next-count .ensures) (f3 .count .given .1)
     ∙ count-is _ _ 4096 _ (f4 .before .before .next-count2 .ensures) (f4 .output .given .1)
-    ∙ count-is _ _ 4096 _ (f5 .before .before .next-count3 .ensures) (f5 .input .given .1)
-    ∙ numbers-are _ _ _ _ _ (c .before .before .before .before .before .before .before .next-numbers .ensures) (c .before .before .before .next .given .1)
+    ∙ counted-is _ _ _ 4096 _ (c .before .before .before .before .before .before .before .next-counted .ensures) (c .before .before .before .input .given .1)
     ∙ ends-not _ _ _ (c .before .over .ensures) (c .if1 .left))
 
 pub read-block-spec : {M : Type 1} → statement M
@@ -201,17 +163,13 @@ read-block-spec =
     enum-known-output
     enum-told-4
     returns-4
-    next-count-requires-3
+    next-counted-requires
     enum-known-input
     enum-told-5
-    returns-5
-    next-numbers-requires
-    enum-known-next
-    enum-told-6
     same-length
-    returns-6
+    returns-5
     over-requires
     same-length-2
-    returns-7
+    returns-6
     same-length-3
-    returns-8)
+    returns-7)

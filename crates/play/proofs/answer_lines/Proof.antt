@@ -14,12 +14,12 @@ use Rattle.play.proofs.answer_next.Reads as answer-next-reads
 use Rattle.play.proofs.following.Reads as following-reads
 
 abbrev Inv-loop : tie.InvT-loop
-Inv-loop p input strict₀ numbers₀ store₀ said₀ out₀ desk₀ lines₀ count₀ at₀ strict numbers store said out desk lines count at =
+Inv-loop p input strict₀ numbers₀ store₀ said₀ out₀ desk₀ lines₀ n₀ at₀ strict numbers store said out desk lines n at =
     Going desk lines at input strict numbers store said out
     × (length strict ≡ length strict₀) × (length numbers ≡ length numbers₀) × (length store ≡ length store₀) × (length said ≡ length said₀) × (length out ≡ length out₀)
 
 abbrev μ-loop : tie.MeasureT-loop
-μ-loop p input strict₀ numbers₀ store₀ said₀ out₀ desk₀ lines₀ count₀ at₀ strict numbers store said out desk lines count at =
+μ-loop p input strict₀ numbers₀ store₀ said₀ out₀ desk₀ lines₀ n₀ at₀ strict numbers store said out desk lines n at =
     lines .to - lines .from
 
 loop-holds : tie.Need-loop-holds Inv-loop μ-loop

@@ -25,15 +25,13 @@ is-finite32-requires-2 : tie.Need-is-finite32-requires-2
 is-finite32-requires-2 c κs = search needs
 
 float-to-float-c : tie.Need-float-to-float-c
-float-to-float-c c = let f = fine (c .before .before) in finite-held _ (f .fits-c) (f .is-c)
+float-to-float-c c = let f = fine (c .before) in finite-held _ (f .fits-c) (f .is-c)
 
 float-to-float-a : tie.Need-float-to-float-a
-float-to-float-a c = let f = fine (c .before .before .before) in finite-held _ (f .fits-a) (f .is-a)
+float-to-float-a c = let f = fine (c .before .before) in finite-held _ (f .fits-a) (f .is-a)
 
-target-finite-requires : tie.Need-target-finite-requires
-target-finite-requires c κs =
-    let t = c .before .before .before in
-    (t .if3 .taken, asked _ _ (fine (t .before)))
+target-parts-requires : tie.Need-target-parts-requires
+target-parts-requires c κs = asked _ _ (fine (c .before .before .before))
 
 same-length : tie.Need-same-length
 same-length c = search needs
@@ -58,7 +56,7 @@ compute-set-target-samples-spec =
     is-finite32-requires-2
     float-to-float-c
     float-to-float-a
-    target-finite-requires
+    target-parts-requires
     same-length
     returns
     target-run-requires

@@ -1,13 +1,16 @@
 -- `runs::linear_once` meets its contract. Assumes nothing.
 use borrow.Author.Needs.{needs}
-use mathlib.Core.Path.{_≡_}
-use Prim.Native.Nat.{_-_}
+use mathlib.Core.Path.{_≡_, _∙_}
+use mathlib.Core.List.{List}
+use Prim.Native.Nat.{ℕ, _+_, _-_}
 use native.Mathlib.Omega.{arith}
 use lib.ListN.{length}
 use lib.Ieee.{Float}
-use Rattle.rules.specs.Samples.{phaseOf}
+use borrow.Rule.Slice.PartMut.{putMid, midOf, mid-len}
+use Rattle.rules.specs.Numbers.{run}
 use Rattle.samples.specs.At.{linearAt}
-use Rattle.runs.proofs.Filling.{Filled, none-filled, one-more, filled-length, all-filled}
+use Rattle.runs.specs.After.{after}
+use Rattle.runs.proofs.Filling.{Filled, none-filled, some-more, filled-length, all-filled}
 use Rattle.runs.proofs.linear_once.Statement.{statement}
 use Rattle.runs.proofs.linear_once.Tie as tie
 
@@ -17,44 +20,91 @@ Inv-loop out₀ start-time duration «c» a bx time dt i₀ t₀ out i t = Fille
 abbrev μ-loop : tie.MeasureT-loop
 μ-loop out₀ start-time duration «c» a bx time dt i₀ t₀ out i t = length out₀ - i
 
+abbrev start : tie.At-loop Inv-loop μ-loop → tie.Start Inv-loop μ-loop
+start a = a .before .before
+
 abbrev sample : tie.Start Inv-loop μ-loop → Float → Float
 sample s = let a = s .args in linearAt (a .start-time) (a .duration) (a .«c») (a .a)
 
-kept : (c : tie.At-loop Inv-loop μ-loop) → length (c .loop .out) ≡ length (c .before .before .args .out .now)
-kept c = let s = c .before .before in filled-length (sample s) (s .args .dt) (s .args .time) (c .loop .inv)
+kept : (c : tie.At-loop Inv-loop μ-loop) → length (c .loop .out) ≡ length (start c .args .out .now)
+kept c = let s = start c in filled-length (sample s) (s .args .dt) (s .args .time) (c .loop .inv)
+
+sixteen : (i : ℕ) → i + 16 - i ≡ 16
+sixteen i = omega arith
+
+-- what the run of the rest leaves
+done : (a : tie.At-loop Inv-loop μ-loop) (p : List Float)
+    → p ≡ run (sample (start a)) (start a .args .dt) (length (midOf (a .loop .i) (length (a .loop .out) - a .loop .i) (a .loop .out))) (a .loop .t)
+    → Filled (sample (start a)) (start a .args .dt) (start a .args .time) (start a .args .out .now) (putMid (a .loop .i) (length (a .loop .out) - a .loop .i) (a .loop .out) p) (a .loop .i + (length (a .loop .out) - a .loop .i)) (after (start a .args .dt) (length (a .loop .out) - a .loop .i) (a .loop .t))
+done a p e =
+    let s = start a in
+    let l = a .loop in
+    some-more (sample s) (s .args .dt) (s .args .time) (l .inv) (length (l .out) - l .i) (omega (arith, kept a, l .inv .within)) p (e ∙ rw (mid-len (l .i) (length (l .out)) (l .out) (omega arith)))
 
 loop-holds : tie.Need-loop-holds Inv-loop μ-loop
 loop-holds c = let a = c .before .args in none-filled (sample (c .before)) (a .dt) (a .time) (a .out .now)
 
-phase-sum-once-requires : tie.Need-phase-sum-once-requires Inv-loop μ-loop
-phase-sum-once-requires c κs = c .before .before .before .pre
+sub-loop : tie.Need-sub-loop Inv-loop μ-loop
+sub-loop c = omega (arith, kept c, c .loop .inv .within)
 
-mul-out : tie.Need-mul-out Inv-loop μ-loop
-mul-out c = search needs
+add-e : tie.Need-add-e Inv-loop μ-loop
+add-e c = omega (arith, kept (c .before), c .loop-test .taken, start (c .before) .good)
 
-slice-write-out : tie.Need-slice-write-out Inv-loop μ-loop
-slice-write-out c = c .before .loop-test .taken
+mul-linear-sixteen : tie.Need-mul-linear-sixteen Inv-loop μ-loop
+mul-linear-sixteen c = omega (arith, kept (c .before), c .before .loop .inv .within, start (c .before) .good)
 
-add-i : tie.Need-add-i Inv-loop μ-loop
-add-i c = omega (arith, kept (c .before .before))
+sub-linear-sixteen : tie.Need-sub-linear-sixteen Inv-loop μ-loop
+sub-linear-sixteen c = omega arith
+
+part-linear-sixteen-start : tie.Need-part-linear-sixteen-start Inv-loop μ-loop
+part-linear-sixteen-start c = omega arith
+
+part-linear-sixteen-end : tie.Need-part-linear-sixteen-end Inv-loop μ-loop
+part-linear-sixteen-end c = omega (arith, c .loop-test .taken)
+
+linear-sixteen-requires : tie.Need-linear-sixteen-requires Inv-loop μ-loop
+linear-sixteen-requires c κs =
+    let i = c .before .before .loop .i in
+    let l = c .before .before .loop .out in
+    let s = start (c .before .before) in (s .pre .0, (s .pre .1, mid-len i (i + 16) l (omega (arith, c .before .loop-test .taken)) ∙ sixteen i))
 
 loop-less : tie.Need-loop-less Inv-loop μ-loop
-loop-less c = omega (arith, kept (c .before .before))
+loop-less c = omega (arith, kept (c .before .before .before .before .before), c .before .before .before .before .loop-test .taken)
 
 loop-again : tie.Need-loop-again Inv-loop μ-loop
-unfolding linearAt phaseOf
 loop-again c =
-    let l = c .before .before .loop in
-    let s = c .before .before .before .before in
-    one-more (sample s) (s .args .dt) (s .args .time) (l .inv) (omega (arith, kept (c .before .before))) (c .phase-sum-once .result) (c .phase-sum-once .ensures)
+    let l = c .before .before .before .before .before .loop in
+    let s = start (c .before .before .before .before .before) in
+    let r = c .before .before .linear-sixteen in
+    rw (sixteen (l .i), r .ensures .1)
+    (some-more (sample s) (s .args .dt) (s .args .time) (l .inv) 16 (omega (arith, kept (c .before .before .before .before .before), c .before .before .before .before .loop-test .taken)) (r .last .0) (r .ensures .0))
+
+mul-linear-rest : tie.Need-mul-linear-rest Inv-loop μ-loop
+mul-linear-rest c = omega (arith, kept (c .before), c .before .loop .inv .within, start (c .before) .good)
+
+sub-linear-rest : tie.Need-sub-linear-rest Inv-loop μ-loop
+sub-linear-rest c = omega (arith, kept (c .before), c .before .loop .inv .within)
+
+part-linear-rest-start : tie.Need-part-linear-rest-start Inv-loop μ-loop
+part-linear-rest-start c = omega (arith, kept (c .before), c .before .loop .inv .within)
+
+part-linear-rest-end : tie.Need-part-linear-rest-end Inv-loop μ-loop
+part-linear-rest-end c = omega arith
+
+linear-rest-requires : tie.Need-linear-rest-requires Inv-loop μ-loop
+linear-rest-requires c κs = search needs
 
 same-length : tie.Need-same-length Inv-loop μ-loop
-same-length c = kept (c .before)
+same-length c =
+    let a = c .before .before .before .before .before in
+    let s = start a in
+    filled-length (sample s) (s .args .dt) (s .args .time) (done a (c .before .before .linear-rest .last .0) (c .before .before .linear-rest .ensures))
 
 returns : tie.Need-returns Inv-loop μ-loop
 returns c =
-    let s = c .before .before .before in
-    all-filled (sample s) (s .args .dt) (s .args .time) (c .before .loop .inv) (omega (arith, kept (c .before)))
+    let a = c .before .before .before .before .before in
+    let s = start a in
+    all-filled (sample s) (s .args .dt) (s .args .time) (done a (c .before .before .linear-rest .last .0) (c .before .before .linear-rest .ensures)) (omega (arith, kept a, a .loop .inv .within))
 
 pub linear-once-spec : {M : Type 1} → statement M
 linear-once-spec =
@@ -63,11 +113,19 @@ linear-once-spec =
     Inv-loop
     μ-loop
     loop-holds
-    phase-sum-once-requires
-    mul-out
-    slice-write-out
-    add-i
+    sub-loop
+    add-e
+    mul-linear-sixteen
+    sub-linear-sixteen
+    part-linear-sixteen-start
+    part-linear-sixteen-end
+    linear-sixteen-requires
     loop-less
     loop-again
+    mul-linear-rest
+    sub-linear-rest
+    part-linear-rest-start
+    part-linear-rest-end
+    linear-rest-requires
     same-length
     returns)

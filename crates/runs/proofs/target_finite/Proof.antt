@@ -1,15 +1,19 @@
 -- `runs::target_finite` meets its contract: the second pass reads what the first wrote. Assumes nothing.
 use borrow.Author.Needs.{needs}
-use mathlib.Core.Path.{_≡_, ap, _∙_}
+use mathlib.Core.Path.{_≡_, sym, ap, _∙_}
 use mathlib.Core.List.{List}
-use Prim.Native.Nat.{_≤_}
+use mathlib.Core.Bool.{true}
+use Prim.Native.Nat.{ℕ, _≤_}
 use lib.ListN.{length}
-use lib.Ieee.{Float}
+use lib.Ieee.{Float, binary32}
+use Rattle.rules.specs.Numbers.{fused, run}
 use Rattle.rules.specs.Samples.{phaseOf}
 use Rattle.rules.specs.Walk.{fromStart}
 use Rattle.samples.specs.At.{targetAt}
-use Rattle.runs.specs.Passes.{timed, fadedAt}
-use Rattle.runs.proofs.Passing.{timed-run, prefix-length, read-back, room, as-many}
+use Rattle.runs.specs.Passes.{each, timed, begun, heldAt}
+use Rattle.runs.proofs.Begun.{run-begun}
+use Rattle.runs.proofs.Factors.{factor}
+use Rattle.runs.proofs.Passing.{each-run, timed-run, prefix-length, read-back, room, as-many}
 use Rattle.runs.proofs.target_finite.Statement.{statement}
 use Rattle.runs.proofs.target_finite.Tie as tie
 
@@ -34,29 +38,57 @@ phases-of-requires c κs = search needs
 table-requires : tie.Need-table-requires
 table-requires c κs = search needs
 
-array-share-prefix-xs : tie.Need-array-share-prefix-xs
-array-share-prefix-xs c = let f = c .before .before .before in room (phases f) (start f .args .dt) (length (start f .args .out .now)) (start f .args .time) _ _ (few f) (f .phases-of .ensures)
+array-borrow-prefix-xs-2 : tie.Need-array-borrow-prefix-xs-2
+array-borrow-prefix-xs-2 c = let f = c .before .before .before in room (phases f) (start f .args .dt) (length (start f .args .out .now)) (start f .args .time) _ _ (few f) (f .phases-of .ensures .0)
 
 slice-aggregate-target-over : tie.Need-slice-aggregate-target-over
-slice-aggregate-target-over c = let f = c .before .before .before .before in as-many (phases f) (start f .args .dt) (length (start f .args .out .now)) (start f .args .time) _ _ (few f) (f .phases-of .ensures)
+slice-aggregate-target-over c = let f = c .before .before .before .before in as-many (phases f) (start f .args .dt) (length (start f .args .out .now)) (start f .args .time) _ _ (few f) (f .phases-of .ensures .0)
 
 target-over-requires : tie.Need-target-over-requires
 target-over-requires c κs =
     let f = c .before .before .before .before .before in
     let p = start f .pre in
-    (as-many (phases f) (start f .args .dt) (length (start f .args .out .now)) (start f .args .time) _ _ (few f) (f .phases-of .ensures), (c .before .before .before .table .ensures, p .1 .0, p .1 .1, p .1 .2, p .1 .3))
+    ((as-many (phases f) (start f .args .dt) (length (start f .args .out .now)) (start f .args .time) _ _ (few f) (f .phases-of .ensures .0), c .before .before .before .table .ensures), p .1)
 
 same-length : tie.Need-same-length
 same-length c = search needs
 
+-- what is there before any place is held
+module _ (t : tie.After-target-over) where
+  abbrev f : tie.After-phases-of
+  f = t .before .before .before .before .before .before
+
+  abbrev sample : Float → Float
+  sample x = fused binary32 (start f .args .a) (factor x) (start f .args .«c»)
+
+  whole : t .target-over .last .0 ≡ run (λ u. sample (phases f u)) (start f .args .dt) (length (start f .args .out .now)) (start f .args .time)
+  whole =
+      t .target-over .ensures
+      ∙ ap (each sample) (read-back (phases f) (start f .args .dt) (length (start f .args .out .now)) (start f .args .time) _ _ (few f) (f .phases-of .ensures .0))
+      ∙ each-run sample (phases f) (start f .args .dt) (length (start f .args .out .now)) (start f .args .time)
+
 returns : tie.Need-returns
-unfolding fadedAt fromStart targetAt
+unfolding targetAt
 returns c =
-    let f = c .before .before .before .before .before .before .before .before in
-    let a = start f .args in
-    c .before .before .target-over .ensures
-    ∙ ap (λ (xs : List Float). timed (fadedAt (a .start-time) (a .intrinsic) (a .«c») (a .a)) (a .dt) xs (a .time)) (read-back (phases f) (start f .args .dt) (length (start f .args .out .now)) (start f .args .time) _ _ (few f) (f .phases-of .ensures))
-    ∙ timed-run (fadedAt (a .start-time) (a .intrinsic) (a .«c») (a .a)) (a .dt) (phaseOf (a .start-time) (a .time-constant)) (length (a .out .now)) (a .time)
+    let t = c .before .before .before .before in
+    let a = start (f t) .args in
+    let begins : begun (a .start-time) (a .dt) (length (a .out .now)) (a .time) ≡ true =
+    ap (λ (n : ℕ). begun (a .start-time) (a .dt) n (a .time)) (prefix-length _ _ (few (f t))) ∙ sym (f t .phases-of .ensures .1) ∙ c .if1 .taken in
+    whole t ∙ sym (run-begun (a .start-time) (a .dt) (a .intrinsic) (λ u. sample t (phases (f t) u)) (length (a .out .now)) (a .time) begins)
+
+hold-before-requires : tie.Need-hold-before-requires
+hold-before-requires c κs = search needs
+
+same-length-2 : tie.Need-same-length-2
+same-length-2 c = search needs
+
+returns-2 : tie.Need-returns-2
+unfolding heldAt fromStart targetAt
+returns-2 c =
+    let t = c .before .before .before .before .before .before .before .before in
+    let a = start (f t) .args in
+    c .before .before .hold-before .ensures ∙ ap (λ (l : List Float). timed (heldAt (a .start-time) (a .intrinsic)) (a .dt) l (a .time)) (whole t)
+    ∙ timed-run (heldAt (a .start-time) (a .intrinsic)) (a .dt) (λ u. sample t (phases (f t) u)) (length (a .out .now)) (a .time)
 
 pub target-finite-spec : {M : Type 1} → statement M
 target-finite-spec =
@@ -66,8 +98,11 @@ target-finite-spec =
     slice-aggregate-phases-of
     phases-of-requires
     table-requires
-    array-share-prefix-xs
+    array-borrow-prefix-xs-2
     slice-aggregate-target-over
     target-over-requires
     same-length
-    returns)
+    returns
+    hold-before-requires
+    same-length-2
+    returns-2)

@@ -1,95 +1,103 @@
 -- `runs::target_over` meets its contract. Assumes nothing.
 use borrow.Author.Needs.{needs}
-use mathlib.Core.Path.{_≡_, refl, ap, _∙_}
-use mathlib.Core.List.{List}
-use Prim.Native.Nat.{suc, _+_, _-_, _≤_, _<_}
-use native.Mathlib.Numerals.{add-one}
+use mathlib.Core.Path.{_≡_, sym, ap, _∙_, subst}
+use mathlib.Core.Bool.{not}
+use Prim.Native.Nat.{ℕ, _-_, _/_, _^_, _≤_}
 use native.Mathlib.Omega.{arith}
-use lib.ListN.{length, take}
-use lib.Seq.{take-all}
-use lib.Ieee.{Float, nan}
-use Rattle.runs.specs.After.{after}
-use Rattle.runs.specs.Passes.{timed, fadedAt}
-use Rattle.runs.proofs.Passing.{Passed, none-passed, one-passed, passed-length, all-passed, timed-last}
+use lib.Dec.{T}
+use lib.Ieee.{Float, binary32, fits, isNan}
+use Rattle.rules.specs.Numbers.{fused}
+use Rattle.phases.specs.Once.{Once, Served}
+use Rattle.phases.proofs.Seen.{seen}
+use Rattle.runs.specs.Passes.{each, every, Ranged}
+use Rattle.runs.proofs.Factors.{each-each, factor, all-fit, all-served}
 use Rattle.runs.proofs.target_over.Statement.{statement}
 use Rattle.runs.proofs.target_over.Tie as tie
 
-abbrev Inv-loop : tie.InvT-loop
-Inv-loop out₀ xs table start-time «c» a intrinsic time dt i₀ t₀ out i t = Passed (λ k. timed (fadedAt start-time intrinsic «c» a) dt (take k xs) time) out₀ out i × (t ≡ after dt i time)
+abbrev start : tie.After-factors-of → tie.Start
+start f = f .before .before .before .before .before .before .before .before
 
-abbrev μ-loop : tie.MeasureT-loop
-μ-loop out₀ xs table start-time «c» a intrinsic time dt i₀ t₀ out i t = length out₀ - i
+abbrev sum-of : tie.After-factors-of → Float → Float
+sum-of f v = fused binary32 (start f .args .a) v (start f .args .«c»)
 
-abbrev start : tie.At-loop Inv-loop μ-loop → tie.Start Inv-loop μ-loop
-start a = a .before .before .before
+-- the sums of what the factors became
+samples : (f : tie.After-factors-of) → each (sum-of f) (f .factors-of .last .0) ≡ each (λ x. fused binary32 (start f .args .a) (factor x) (start f .args .«c»)) (start f .args .xs .now)
+samples f = ap (each (sum-of f)) (f .factors-of .ensures .0) ∙ each-each (sum-of f) factor (start f .args .xs .now)
 
-abbrev sample : tie.Start Inv-loop μ-loop → Float → Float → Float
-sample s = fadedAt (s .args .start-time) (s .args .intrinsic) (s .args .«c») (s .args .a)
+once-from-requires : tie.Need-once-from-requires
+once-from-requires c κs = search needs
 
-kept : (a : tie.At-loop Inv-loop μ-loop) → length (a .loop .out) ≡ length (start a .args .out .now)
-kept a = passed-length (a .loop .inv .0)
+last-of-requires : tie.Need-last-of-requires
+last-of-requires c κs = search needs
 
-within : (c : tie.In-loop Inv-loop μ-loop) → c .before .loop .i < length (start (c .before) .args .xs .now)
-within c = omega (arith, kept (c .before), start (c .before) .pre .0, c .loop-test .taken)
+few-from-requires : tie.Need-few-from-requires
+few-from-requires c κs = search needs
 
-loop-holds : tie.Need-loop-holds Inv-loop μ-loop
-unfolding timed after
-loop-holds c = (none-passed refl, refl)
+factors-of-requires : tie.Need-factors-of-requires
+factors-of-requires c κs = search needs
 
-mul-target-by : tie.Need-mul-target-by Inv-loop μ-loop
-mul-target-by c = let w = within c in search needs
+add-if3 : tie.Need-add-if3
+add-if3 c = search needs
 
-shared-slice-read-target-by : tie.Need-shared-slice-read-target-by Inv-loop μ-loop
-shared-slice-read-target-by c = within (c .before)
-
-target-by-requires : tie.Need-target-by-requires Inv-loop μ-loop
-target-by-requires c κs = start (c .before .before) .pre .1
-
-mul-out : tie.Need-mul-out Inv-loop μ-loop
-mul-out c = search needs
-
-slice-write-out : tie.Need-slice-write-out Inv-loop μ-loop
-slice-write-out c = c .before .before .loop-test .taken
-
-add-i : tie.Need-add-i Inv-loop μ-loop
-add-i c = omega (arith, kept (c .before .before .before), c .before .before .loop-test .taken)
-
-loop-less : tie.Need-loop-less Inv-loop μ-loop
-loop-less c = omega (arith, kept (c .before .before .before), c .before .before .loop-test .taken)
-
-loop-again : tie.Need-loop-again Inv-loop μ-loop
-unfolding after
-loop-again c =
-    let l = c .before .before .before .loop in
-    let s = start (c .before .before .before) in (
-      one-passed (l .inv .0) (omega (arith, kept (c .before .before .before), c .before .before .loop-test .taken)) (c .target-by .result)
-          (rw (c .target-by .ensures, l .inv .1) (timed-last (sample s) (s .args .dt) (s .args .xs .now) (l .i) (s .args .time) (within (c .before .before)) nan)),
-      rw (add-one (l .i), l .inv .1),
+faded-once-requires : tie.Need-faded-once-requires
+faded-once-requires c κs =
+    let f = c .before .before .before .before .before .before .before in
+    let s = start f in
+    let a = s .args in
+    let o = f .before .before .before .before .before .once-from in
+    let few-of = f .before .before .few-from in
+    let b = c .before .before .before .if2 .taken in
+    let once : Once (a .a) (a .«c») (o .result) = seen (o .result) (o .ensures) b in
+    let high : o .result / 2 ^ 52 ≤ 1022 = omega (arith, c .before .before .if3 .taken) in
+    let e = f .factors-of .ensures .0 in
+    let r = f .factors-of .ensures .1 (c .before .before .before .before .if1 .taken) in
+    let few : few-of .result ≡ 1022 - o .result / 2 ^ 52 = omega (arith, c .before .before .if3 .taken) in (
+      (
+        s .pre .0 .0 ∙ sym (f .factors-of .kept .0),
+        subst (every (Served (a .a) (a .«c»))) (sym e) (all-served (a .xs .now) (a .a) (a .«c») (o .result) once high (subst (λ (n : ℕ). every (Ranged n) (each factor (a .xs .now))) few (subst (every (Ranged _)) e r))),
+      ),
+      s .pre .1,
     )
 
-same-length : tie.Need-same-length Inv-loop μ-loop
-same-length c = kept (c .before)
+same-length : tie.Need-same-length
+same-length c = search needs
 
-returns : tie.Need-returns Inv-loop μ-loop
-returns c =
-    let s = start (c .before) in
-    all-passed (c .before .loop .inv .0) (omega (arith, kept (c .before)))
-    ∙ ap (λ (xs : List Float). timed (sample s) (s .args .dt) xs (s .args .time)) (take-all (length (s .args .out .now)) (s .args .xs .now) (omega (arith, s .pre .0)))
+same-length-2 : tie.Need-same-length-2
+same-length-2 c = search needs
+
+returns : tie.Need-returns
+returns c = c .before .before .faded-once .ensures ∙ samples (c .before .before .before .before .before .before .before .before .before .before)
+
+faded-any-requires : tie.Need-faded-any-requires
+faded-any-requires c κs =
+    let f = c .before .before .before .before .before in
+    let s = start f in
+    let e = f .factors-of .ensures .0 in
+    ((s .pre .0 .0 ∙ sym (f .factors-of .kept .0), subst (every (λ v. T (fits binary32 v) × T (not (isNan v)))) (sym e) (all-fit (s .args .xs .now))), s .pre .1)
+
+same-length-3 : tie.Need-same-length-3
+same-length-3 c = search needs
+
+same-length-4 : tie.Need-same-length-4
+same-length-4 c = search needs
+
+returns-2 : tie.Need-returns-2
+returns-2 c = c .before .before .faded-any .ensures ∙ samples (c .before .before .before .before .before .before .before .before)
 
 pub target-over-spec : {M : Type 1} → statement M
 target-over-spec =
     tie.close
     (tie.spec
-    Inv-loop
-    μ-loop
-    loop-holds
-    mul-target-by
-    shared-slice-read-target-by
-    target-by-requires
-    mul-out
-    slice-write-out
-    add-i
-    loop-less
-    loop-again
+    once-from-requires
+    last-of-requires
+    few-from-requires
+    factors-of-requires
+    add-if3
+    faded-once-requires
     same-length
-    returns)
+    same-length-2
+    returns
+    faded-any-requires
+    same-length-3
+    same-length-4
+    returns-2)

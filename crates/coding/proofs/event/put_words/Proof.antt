@@ -2,10 +2,19 @@
 use native.Mathlib.Omega.{arith}
 use lib.ListN.{length-set}
 use denote.Ref.{now}
-use Rattle.coding.proofs.Words.{puts-six}
+use Rattle.coding.proofs.Words.{puts-six, puts-words}
 use borrow.Author.Needs.{needs}
 use Rattle.coding.proofs.event.put_words.Statement.{statement}
 use Rattle.coding.proofs.event.put_words.Tie as tie
+
+double-bits-requires : tie.Need-double-bits-requires
+double-bits-requires c κs = search needs
+
+flag-of-requires : tie.Need-flag-of-requires
+flag-of-requires c κs = search needs
+
+time-bits-requires : tie.Need-time-bits-requires
+time-bits-requires c κs = search needs
 
 mul-state : tie.Need-mul-state
 mul-state c = search needs
@@ -63,13 +72,16 @@ same-length c = search needs
 
 returns : tie.Need-returns
 returns c =
-    let a = c .args in
-    puts-six (now (a .state)) (a .at) (a .kind) (a .value) (a .time) (a .other) (a .flag) (a .hold) (c .pre)
+    let a = c .before .before .before .before .args in
+    puts-words (a .time) (a .hold) (puts-six (now (a .state)) (a .at) (a .kind) (a .word) _ (a .other) _ _ (c .before .before .before .before .pre)) (c .before .before .double-bits .ensures) (c .before .flag-of .ensures) (c .time-bits .ensures)
 
 pub put-words-spec : {M : Type 1} → statement M
 put-words-spec =
     tie.close
     (tie.spec
+    double-bits-requires
+    flag-of-requires
+    time-bits-requires
     mul-state
     slice-write-state
     add-state
