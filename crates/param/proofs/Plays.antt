@@ -37,8 +37,16 @@ use Rattle.param.specs.declared.AudioParam.{AudioParam}
 use Rattle.param.specs.declared.Processed.{Processed}
 use Rattle.param.specs.declared.process.Played.{Played}
 use Rattle.param.specs.Param.{paramOf, structOf, partsOf, SoundParam}
-use Rattle.param.specs.Processed.{unplayed, afterwards, Playable, played, Plays, Processes}
+use Rattle.param.specs.Processed.{lengthOfHead, unplayed, afterwards, Playable, played, Plays, Processes}
 use Rattle.param.proofs.Calls.{whole, struct-sound, head-attached}
+
+-- ---- the numbers of a queue of one event at most
+
+pub head-alone : (es : List Event) → length es ≤ 1 → lengthOfHead (firstOf es) ≡ lengthsOf es
+unfolding lengthOfHead firstOf lengthsOf
+head-alone [] h = refl
+head-alone (e ∷ []) h = omega arith
+head-alone (e ∷ f ∷ es) h = absurd (omega arith)
 
 -- ---- the queue behind a walk
 

@@ -2,15 +2,17 @@
 use mathlib.Core.Path.{_≡_}
 use mathlib.Core.Bool.{Bool, false}
 use mathlib.Core.List.{List}
-use Prim.Native.Nat.{_≤_}
+use Prim.Native.Nat.{ℕ, _≤_}
 use lib.ListN.{length, drop}
 use lib.Ieee.{Float}
 use Rattle.rules.specs.declared.BlockInfos.{BlockInfos}
+use Rattle.rules.specs.declared.Head.{Head}
+use Rattle.rules.specs.declared.Head.the-variants as Head
 use Rattle.rules.specs.declared.MaybeTime.the-variants as MaybeTime
 use Rattle.rules.specs.declared.Verdict.{Verdict}
 use Rattle.rules.specs.declared.Verdict.the-variants as Verdict
 use Rattle.rules.specs.Numbers.{plusZero, mostCount}
-use Rattle.rules.specs.Queue.{lengthsOf, attached}
+use Rattle.rules.specs.Queue.{lengthOf, lengthsOf, attached}
 use Rattle.rules.specs.Mix.{mixed}
 use Rattle.rules.specs.Walk.{Walked}
 use Rattle.rules.specs.Block.{Call, renderedAs, saysOne, answered}
@@ -21,6 +23,11 @@ use Rattle.param.specs.declared.AudioParam.{AudioParam}
 use Rattle.param.specs.declared.Processed.{Processed}
 use Rattle.param.specs.declared.process.Played.{Played}
 use Rattle.param.specs.Param.{paramOf, structOf, partsOf, SoundParam}
+
+-- how many numbers of the store are the head's
+unfoldable pub lengthOfHead : Head → ℕ
+lengthOfHead Head.Empty = 0
+lengthOfHead (Head.Event e) = lengthOf e
 
 -- ---- what a block gives back
 

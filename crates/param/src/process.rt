@@ -12,7 +12,7 @@ ghost use Rattle.curves.specs.Curves.{Leaves};
 ghost use Rattle.automation.specs.Walked.{withHead};
 ghost use Rattle.block.specs.Asked.{asked, Fitting};
 ghost use Rattle.param.specs.Param.{paramOf, SoundParam};
-ghost use Rattle.param.specs.Processed.{unplayed, afterwards, Playable, Plays, Processes};
+ghost use Rattle.param.specs.Processed.{lengthOfHead, unplayed, afterwards, Playable, Plays, Processes};
 use crate::AudioParam;
 use crate::Processed;
 use rules::BlockInfos;
@@ -44,6 +44,16 @@ fn with_head(q: AudioParamEventTimeline, head: Head) -> AudioParamEventTimeline
     }
 }
 
+// How many numbers of the store are the head's.
+fn length_of_head(head: Head) -> usize
+    ensures { λ r. ⌜ r ≡ lengthOfHead head ⌝ }
+{
+    match head {
+        Head::Empty => 0,
+        Head::Event(e) => timeline::length_of(e),
+    }
+}
+
 // What a walk leaves of the queue: the events before `at` are finished, and the one there is what it has become. Most blocks finish none: then no number moves.
 fn left(
     q: AudioParamEventTimeline,
@@ -55,7 +65,12 @@ fn left(
     ensures { λ r. ⌜ Leaves r (now (part .entry)) (now (part .exit)) (withHead head (drop at (attached (waiting q) (now (part .entry))))) ⌝ }
 {
     if at == 0 {
-        let used = q.lengths();
+        // mostly one event waits: a call with the whole queue would copy it
+        let used = if q.len <= 1 {
+            length_of_head(q.peek())
+        } else {
+            q.lengths()
+        };
         curves::zero_behind(part, used);
         return with_head(q, head);
     }

@@ -614,6 +614,7 @@ fn curve_run(
     }
 }
 
+// x is a number from 0 up, and below y.
 fn short_of(x: f64, y: f64) -> bool
     ensures { λ r. ⌜ (r ≡ true → Plain x × (lt x y ≡ true)) ⌝ }
 {
@@ -647,6 +648,7 @@ fn positions_from(
     t
 }
 
+// What the positions have beyond k.
 fn fractions(xs: &mut [f64; 16], ps: &[f64; 16], k: f64)
     requires { ⌜ (length (now xs) ≡ 16) × (length (now ps) ≡ 16) ⌝ }
     ensures { λ r. ⌜ now (xs .exit) ≡ each (λ p. sub binary64 p k) (now (ps .entry)) ⌝ }
