@@ -13,7 +13,7 @@ use Rattle.rules.specs.declared.Event.the-variants as Event
 use Rattle.rules.specs.Numbers.{plusZero, storeLength}
 use Rattle.rules.specs.Queue.{Waiting, filedUnder, isRamp, lengthOf, lengthsOf, eventsOf, numbersOf, packed, attached, placeBehind, putAt, arrived, inserted, those, isBefore, cancelled, isLater, isNotLater, heldAt, lastHeld, heldBy, held}
 use Rattle.laws.proofs.Events.{events-attached, events-drop, events-inserted, events-cancelled, events-held, alones, lengths-split}
-use Rattle.laws.proofs.Store.{numbers-append, numbers-attached, numbers-put, numbers-last-held, attached-take, attached-drop}
+use Rattle.laws.proofs.Store.{numbers-append, numbers-attached, numbers-put, numbers-last-held, attached-length, attached-take, attached-drop}
 use Rattle.timeline.specs.declared.AudioParamEventTimeline.{AudioParamEventTimeline}
 use Rattle.timeline.specs.Timeline.{made, waiting, isKept, stays}
 use Rattle.timeline.proofs.Laws.{waits-of}
@@ -95,6 +95,10 @@ held-queue c q o =
 
 -- ---- consume
 
+none : {A : Type 0} (xs : List A) → length xs ≡ 0 → xs ≡ []
+none [] e = refl
+none (x ∷ xs) e = absurd (omega arith)
+
 module _ (q : List Event) (o : List Float) (fits : lengthsOf q ≤ length o) (n : ℕ) where
   abbrev gone : ℕ
   gone = lengthsOf (take n q)
@@ -127,6 +131,18 @@ module _ (q : List Event) (o : List Float) (fits : lengthsOf q ≤ length o) (n 
 
   pub consumed-events : drop n q ≡ eventsOf (drop n (attached q o))
   consumed-events = sym (events-drop n (attached q o) ∙ ap (drop n) (events-attached q o))
+
+  -- all of them are finished
+  none-left : length q ≤ n → drop n (attached q o) ≡ []
+  none-left h = none (drop n (attached q o)) (omega (arith, length-drop n (attached q o), attached-length q o))
+
+  pub emptied-events : length q ≤ n → [] ≡ eventsOf (drop n (attached q o))
+  unfolding eventsOf
+  emptied-events h = sym (ap eventsOf (none-left h))
+
+  pub emptied-part : length q ≤ n → take 0 o ++ replicate (length o - 0) plusZero ≡ packedIn (length o) (drop n (attached q o))
+  unfolding numbersOf
+  emptied-part h = packs (length o) (drop n (attached q o)) o 0 (sym (ap numbersOf (none-left h))) (omega arith) refl
 
 -- ---- insert
 

@@ -135,6 +135,12 @@ pub fn consume(q: AudioParamEventTimeline, n: usize, part: &mut [f32]) -> AudioP
     requires { ⌜ Neat q × (lengthsOf (waiting q) ≤ length (now part)) ⌝ }
     ensures { λ r. ⌜ Leaves r (now (part .entry)) (now (part .exit)) (drop n (attached (waiting q) (now (part .entry)))) ⌝ }
 {
+    // often all are: then nothing moves, and the queue need not be read
+    let len = q.len;
+    if len <= n {
+        zero_behind(part, 0);
+        return AudioParamEventTimeline::new();
+    }
     let used = q.lengths();
     let from = q.offset_of(n);
     let left = used - from;

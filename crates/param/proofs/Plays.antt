@@ -10,6 +10,7 @@ use Rattle.rules.specs.declared.AutomationRate.{AutomationRate}
 use Rattle.rules.specs.declared.AutomationRate.the-variants as Rate
 use Rattle.rules.specs.declared.BlockInfos.{BlockInfos}
 use Rattle.rules.specs.declared.Event.{Event}
+use Rattle.rules.specs.declared.Head.{Head}
 use Rattle.rules.specs.declared.Head.the-variants as Head
 use Rattle.rules.specs.declared.MaybeTime.the-variants as MaybeTime
 use Rattle.rules.specs.declared.Refusal.{Refusal}
@@ -25,7 +26,7 @@ use Rattle.laws.proofs.Kept.{answered-sound}
 use Rattle.laws.proofs.Rows.{Played as Given}
 use Rattle.laws.proofs.Answers.{given, answer-is, refused-block}
 use Rattle.timeline.specs.declared.AudioParamEventTimeline.{AudioParamEventTimeline}
-use Rattle.timeline.specs.Timeline.{Neat, made, waiting, firstOf}
+use Rattle.timeline.specs.Timeline.{Neat, made, waiting, firstOf, headAs}
 use Rattle.timeline.proofs.Laws.{waits-of, neat-of, count}
 use Rattle.curves.specs.Curves.{packedIn, Leaves}
 use Rattle.curves.proofs.Calls.{packed-whole, leaves-replaced}
@@ -37,7 +38,7 @@ use Rattle.param.specs.declared.AudioParam.{AudioParam}
 use Rattle.param.specs.declared.Processed.{Processed}
 use Rattle.param.specs.declared.process.Played.{Played}
 use Rattle.param.specs.Param.{paramOf, structOf, partsOf, SoundParam}
-use Rattle.param.specs.Processed.{lengthOfHead, unplayed, afterwards, Playable, played, Plays, Processes}
+use Rattle.param.specs.Processed.{lengthOfHead, unplayed, afterwards, Playable, played, Plays, Gives, Processes}
 use Rattle.param.proofs.Calls.{whole, struct-sound, head-attached}
 
 -- ---- the numbers of a queue of one event at most
@@ -60,11 +61,19 @@ left-neat q r n {part} h l =
     neat-of r (drop n (waiting q)) (l .queue ∙ ap made e) d
 
 -- its head is what it has become
-pub leaves-head : (q r : AudioParamEventTimeline) (e : Event) (ws : List Waiting) {before after : List Float} → Leaves q before after ws
-    → r ≡ made (set (waiting q) 0 e) → Leaves r before after (withHead (Head.Event e) ws)
-unfolding withHead eventsOf
-leaves-head q r e [] h f = record { queue = f ∙ ap (λ (es : List Event). made (set es 0 e)) (waits-of q [] (h .queue)); part = h .part }
-leaves-head q r e (w ∷ ws) {before} {after} h f = leaves-replaced q r before after w (waitingAs e (w .numbers)) ws h refl f
+pub leaves-head : (h : Head) (q r : AudioParamEventTimeline) (ws : List Waiting) {before after : List Float} → Leaves q before after ws
+    → r ≡ made (headAs h (waiting q)) → Leaves r before after (withHead h ws)
+unfolding withHead headAs eventsOf
+leaves-head Head.Empty q r ws l f = record { queue = f ∙ ap made (waits-of q (eventsOf ws) (l .queue)); part = l .part }
+leaves-head (Head.Event e) q r [] l f = record { queue = f ∙ ap (λ (es : List Event). made (set es 0 e)) (waits-of q [] (l .queue)); part = l .part }
+leaves-head (Head.Event e) q r (w ∷ ws) {before} {after} l f = leaves-replaced q r before after w (waitingAs e (w .numbers)) ws l refl f
+
+-- what is given back by that queue
+pub gives : (p : AudioParam) (f : BlockInfos) (l : Played) (q t : AudioParamEventTimeline) {r : Processed} {part after : List Float} → Leaves q part after (drop (l .at) (attached (paramOf p .queue) part))
+    → t ≡ made (headAs (l .head) (waiting q)) → r ≡ afterwards p f t l → Gives p f l part r after
+gives p f l q t {r} leaves e is =
+    let same : r .param .timeline ≡ t = ap (λ (x : Processed). x .param .timeline) is in
+    record { given = is ∙ ap (λ (x : AudioParamEventTimeline). afterwards p f x l) (sym same); leaves = rw same (leaves-head (l .head) q t _ leaves e) }
 
 -- ---- a block's events
 
@@ -151,17 +160,18 @@ module _ (p : AudioParam) (store : List Float) (c : Call) (s : SoundParam p) whe
             room = omega arith;
           })
 
-      pub plays : {l : Played} {q : AudioParamEventTimeline} {r : Processed} {out left : List Float}
-          → Plays p f (restsFor f (firstOf (paramOf p .queue))) (c .input) (c .output) store l out
-          → Leaves q store left (withHead (l .head) (drop (l .at) (attached (paramOf p .queue) store))) → r ≡ afterwards p f q l → Processes p store c r out left
+      pub plays : {l : Played} {r : Processed} {out left : List Float} → Plays p f (restsFor f (firstOf (paramOf p .queue))) (c .input) (c .output) store l out
+          → Gives p f l store r left → Processes p store c r out left
       unfolding answerOf outputOf written infosOf rendered
-      plays {l} {q} {r} {out} {left} g leaves given =
+      plays {l} {r} {out} {left} g gives =
+          let q = r .param .timeline in
+          let leaves = gives .leaves in
           let ws = attached (paramOf p .queue) store in
           let t = restsFor infos (firstOf (paramOf p .queue)) in
           let here : t ≡ restsFor infos (headOf ws) = ap (restsFor infos) (sym (head-attached (paramOf p .queue) store)) in
           let done : played p infos t store ≡ rendered infos (p .intrinsic) (p .last) ws = rw here in
           let g' : Plays p infos t (c .input) (c .output) store l out = rw is at g in
-          let is-given : r ≡ afterwards p infos q l = rw is at given in
+          let is-given : r ≡ afterwards p infos q l = rw is at gives .given in
           let queue : q ≡ made (eventsOf (played p infos t store .queue)) = leaves .queue ∙ ap (λ (xs : List Waiting). made (eventsOf xs)) (g' .queue) in
           processes
           (answerOf (paramOf p) ws c (rendered infos (p .intrinsic) (p .last) ws))

@@ -17,6 +17,7 @@ use Rattle.rules.specs.Mix.{mixed}
 use Rattle.rules.specs.Walk.{Walked}
 use Rattle.rules.specs.Block.{Call, renderedAs, saysOne, answered}
 use Rattle.timeline.specs.declared.AudioParamEventTimeline.{AudioParamEventTimeline}
+use Rattle.curves.specs.Curves.{Leaves}
 use Rattle.automation.specs.Walked.{withHead}
 use Rattle.block.specs.Asked.{Fitting, written}
 use Rattle.param.specs.declared.AudioParam.{AudioParam}
@@ -67,6 +68,11 @@ pub record Plays (p : AudioParam) (f : BlockInfos) (rests : Bool) (input output 
   pub steps : r .steps ≡ played p f rests part .walk .steps
   pub one : r .one ≡ saysOne (p .rate) rests input
   pub samples : out ≡ written (p .bounds) f input (played p f rests part .walk .values) output
+
+-- what an answered block gives back by that, and what is then left in the part of the store
+pub record Gives (p : AudioParam) (f : BlockInfos) (l : Played) (part : List Float) (r : Processed) (after : List Float) : Type 0 where
+  pub given : r ≡ afterwards p f (r .param .timeline) l
+  pub leaves : Leaves (r .param .timeline) part after (withHead (l .head) (drop (l .at) (attached (paramOf p .queue) part)))
 
 -- ---- the block
 

@@ -2,17 +2,15 @@
 ghost use mathlib.Core.Path.{_≡_};
 ghost use mathlib.Core.Bool.{true, false};
 ghost use mathlib.Core.List.{List};
-ghost use Prim.Native.Nat.{ℕ, _≤_};
-ghost use lib.ListN.{length, drop};
+ghost use Prim.Native.Nat.{_^_, _≤_, _<_};
+ghost use lib.ListN.{length};
 ghost use lib.Ieee.{Float};
-ghost use Rattle.rules.specs.Queue.{Waiting, lengthsOf, attached};
+ghost use Rattle.rules.specs.Queue.{lengthsOf};
 ghost use Rattle.rules.specs.Block.{restsFor};
 ghost use Rattle.timeline.specs.Timeline.{Neat, waiting, firstOf};
-ghost use Rattle.curves.specs.Curves.{Leaves};
-ghost use Rattle.automation.specs.Walked.{withHead};
 ghost use Rattle.block.specs.Asked.{asked, Fitting};
 ghost use Rattle.param.specs.Param.{paramOf, SoundParam};
-ghost use Rattle.param.specs.Processed.{lengthOfHead, unplayed, afterwards, Playable, Plays, Processes};
+ghost use Rattle.param.specs.Processed.{lengthOfHead, unplayed, afterwards, Playable, Plays, Gives, Processes};
 use crate::AudioParam;
 use crate::Processed;
 use rules::BlockInfos;
@@ -33,17 +31,6 @@ pub struct Played {
     pub one: bool,
 }
 
-// The queue, whose first event is what it has become.
-fn with_head(q: AudioParamEventTimeline, head: Head) -> AudioParamEventTimeline
-    requires { ⌜ Neat q ⌝ }
-    ensures { λ r. ⌜ ((before after : List Float) (ws : List Waiting) → Leaves q before after ws → Leaves r before after (withHead head ws)) ⌝ }
-{
-    match head {
-        Head::Empty => q,
-        Head::Event(e) => q.replace_peek(e),
-    }
-}
-
 // How many numbers of the store are the head's.
 fn length_of_head(head: Head) -> usize
     ensures { λ r. ⌜ r ≡ lengthOfHead head ⌝ }
@@ -54,28 +41,16 @@ fn length_of_head(head: Head) -> usize
     }
 }
 
-// What a walk leaves of the queue: the events before `at` are finished, and the one there is what it has become. Most blocks finish none: then no number moves.
-fn left(
-    q: AudioParamEventTimeline,
-    at: usize,
-    head: Head,
-    part: &mut [f32],
-) -> AudioParamEventTimeline
-    requires { ⌜ Neat q × (lengthsOf (waiting q) ≤ length (now part)) ⌝ }
-    ensures { λ r. ⌜ Leaves r (now (part .entry)) (now (part .exit)) (withHead head (drop at (attached (waiting q) (now (part .entry))))) ⌝ }
+// How many numbers of the store are the waiting curves'. Mostly one event waits: a call with the whole queue would copy it.
+fn numbers_waiting(q: AudioParamEventTimeline) -> usize
+    requires { ⌜ Neat q × (lengthsOf (waiting q) < 2 ^ 64) ⌝ }
+    ensures { λ r. ⌜ r ≡ lengthsOf (waiting q) ⌝ }
 {
-    if at == 0 {
-        // mostly one event waits: a call with the whole queue would copy it
-        let used = if q.len <= 1 {
-            length_of_head(q.peek())
-        } else {
-            q.lengths()
-        };
-        curves::zero_behind(part, used);
-        return with_head(q, head);
+    let n = q.len;
+    if n <= 1 {
+        return length_of_head(q.peek());
     }
-    let rest = curves::consume(q, at, part);
-    with_head(rest, head)
+    q.lengths()
 }
 
 impl AudioParam {
@@ -119,6 +94,30 @@ impl AudioParam {
             current: mix::mixed_value(bounds, 0.0, self.intrinsic),
             one: played.one,
         }
+    }
+
+    // The same, by the queue as it was, where no event is finished: then no number moves.
+    fn staying(self, infos: BlockInfos, played: Played, part: &mut [f32]) -> Processed
+        requires { ⌜ Neat (self .timeline) × (lengthsOf (paramOf self .queue) ≤ length (now part)) × (played .at ≡ 0) ⌝ }
+        ensures { λ r. ⌜ Gives self infos played (now (part .entry)) r (now (part .exit)) ⌝ }
+    {
+        let q = self.timeline;
+        curves::zero_behind(part, numbers_waiting(q));
+        let head = played.head;
+        let timeline = q.replace_peek(head);
+        self.after(infos, timeline, played)
+    }
+
+    // The same where some are: they are taken out, with their numbers.
+    fn leaving(self, infos: BlockInfos, played: Played, part: &mut [f32]) -> Processed
+        requires { ⌜ Neat (self .timeline) × (lengthsOf (paramOf self .queue) ≤ length (now part)) ⌝ }
+        ensures { λ r. ⌜ Gives self infos played (now (part .entry)) r (now (part .exit)) ⌝ }
+    {
+        let q = self.timeline;
+        let rest = curves::consume(q, played.at, part);
+        let head = played.head;
+        let timeline = rest.replace_peek(head);
+        self.after(infos, timeline, played)
     }
 
     // A one-valued block: the intrinsic value, one step.
@@ -207,9 +206,9 @@ impl AudioParam {
         let rate = self.rate;
         let infos = block::infos_of(rate, block_time, period, count);
         let played = self.play(infos, input, output, &store[..]);
-        let q = self.timeline;
-        let head = played.head;
-        let timeline = left(q, played.at, head, store);
-        self.after(infos, timeline, played)
+        if played.at == 0 {
+            return self.staying(infos, played, store);
+        }
+        self.leaving(infos, played, store)
     }
 }

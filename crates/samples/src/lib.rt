@@ -3,7 +3,7 @@ ghost use mathlib.Core.Path.{_≡_};
 ghost use Prim.Native.Nat.{_-_, _*_, _^_, _≤_, _<_};
 ghost use lib.ListN.{length};
 ghost use lib.IntN.{pos, negℤ};
-ghost use Rattle.rules.specs.Numbers.{wholePart, narrowed, periodsTo, placeFrom, endPlace};
+ghost use Rattle.rules.specs.Numbers.{wholePart, narrowed, periodsTo, limit, placeFrom, endPlace};
 ghost use Rattle.rules.specs.Samples.{decayOf, decay as decayAt, ratioLog, power as powerOf, factorOf, curveSample};
 ghost use Rattle.samples.specs.At.{linearAt, exponentialAt, exponentialOver, targetAt, held};
 use rules::BlockInfos;
@@ -216,14 +216,21 @@ pub fn periods_to(infos: BlockInfos, t: f64) -> f64
     floats::later_of(0.0, t - infos.time) / infos.dt
 }
 
+// The half-sample limit of a place; a signed number is quicker to convert.
+fn limit_of(n: usize) -> f64
+    requires { ⌜ n ≤ 2 ^ 53 ⌝ }
+    ensures { λ r. ⌜ r ≡ limit n ⌝ }
+{
+    ((n as i64) as f64) + 0.5
+}
+
 // n, where the limit before it does not exceed q: those of the places before are smaller. Else 0.
 fn places_passed(q: f64, n: usize, count: usize) -> usize
     requires { ⌜ (n ≤ count) × (count ≤ 2 ^ 53) ⌝ }
     ensures { λ r. ⌜ (r ≤ count) × (placeFrom q count 0 ≡ placeFrom q (count - r) r) ⌝ }
 {
     if n > 0 {
-        let before = ((n - 1) as f64) + 0.5;
-        if q < before {
+        if q < limit_of(n - 1) {
             return 0;
         }
         return n;
@@ -249,12 +256,9 @@ pub fn end_place(q: f64, count: usize) -> usize
     ensures { λ r. ⌜ r ≡ placeFrom q count 0 ⌝ }
 {
     let mut n = first_place(q, count);
+    // one test for both ends: of two the compiler makes sixteen places a turn, where the first is mostly the one
     let place = loop {
-        if count <= n {
-            break count;
-        }
-        let limit = (n as f64) + 0.5;
-        if q < limit {
+        if (count <= n) | (q < limit_of(n)) {
             break n;
         }
         n += 1;

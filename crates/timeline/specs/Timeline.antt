@@ -3,7 +3,7 @@ use mathlib.Core.Path.{_≡_}
 use mathlib.Core.Bool.{Bool, true, false}
 use mathlib.Core.List.{List, [], _∷_, _++_, map}
 use Prim.Native.Nat.{_-_, _≤_}
-use lib.ListN.{length, take, replicate}
+use lib.ListN.{set, length, take, replicate}
 use lib.Ieee.{Float}
 use Rattle.rules.specs.declared.Event.{Event}
 use Rattle.rules.specs.declared.Event.the-variants as Event
@@ -43,6 +43,15 @@ pub record Neat (q : AudioParamEventTimeline) : Type 0 where
 unfoldable pub firstOf : List Event → Head
 firstOf [] = Head.Empty
 firstOf (e ∷ es) = Head.Event e
+
+-- these events, the first of which has become another
+unfoldable pub headAs : Head → List Event → List Event
+headAs Head.Empty es = es
+headAs (Head.Event e) es = set es 0 e
+
+-- the queue with another first slot
+abbrev pub beginning : AudioParamEvent → AudioParamEventTimeline → AudioParamEventTimeline
+beginning s q = record { slots = set (q .slots) 0 s; len = q .len }
 
 -- what a cut at c leaves: the events before c, as cancel does; or all but those later than c, as cancel-and-hold does
 unfoldable pub isKept : Bool → Float → Waiting → Bool

@@ -7,7 +7,7 @@ ghost use Rattle.rules.specs.Numbers.{mostEvents};
 ghost use Rattle.rules.specs.Queue.{filedUnder, isRamp, lengthOf, lengthsOf, placeBehind, putAt, arrived, those, heldEvent, runsAt, lastHeld, held, eventsOf, attached};
 ghost use Rattle.rules.specs.Queue as rule;
 ghost use Rattle.laws.specs.Search.{isLaterThan};
-ghost use Rattle.timeline.specs.Timeline.{blankEvent, slotOf, made, waiting, Neat, firstOf, stays};
+ghost use Rattle.timeline.specs.Timeline.{blankEvent, slotOf, made, waiting, Neat, firstOf, headAs, beginning, stays};
 use rules::Event;
 use rules::Head;
 use rules::MaybeTime;
@@ -278,17 +278,30 @@ impl AudioParamEventTimeline {
         self.drop_heads(1)
     }
 
-    // The head becomes another event; in an empty queue nothing does.
-    pub fn replace_peek(self, e: Event) -> Self
+    // The first slot, where the head becomes another event. With no other, and in an empty queue, it stays.
+    fn first_slot(self, head: Head) -> AudioParamEvent
         requires { ⌜ Neat self ⌝ }
-        ensures { λ r. ⌜ r ≡ made (set (waiting self) 0 e) ⌝ }
+        ensures { λ r. ⌜ beginning r self ≡ made (headAs head (waiting self)) ⌝ }
     {
+        let slot = self.slots[0];
         let n = self.len;
         if n == 0 {
-            return self;
+            return slot;
         }
+        match head {
+            Head::Empty => slot,
+            Head::Event(event) => AudioParamEvent { event },
+        }
+    }
+
+    // The head becomes another event, if there is one; in an empty queue nothing does. One store for all cases, so that the queue is copied once.
+    pub fn replace_peek(self, head: Head) -> Self
+        requires { ⌜ Neat self ⌝ }
+        ensures { λ r. ⌜ r ≡ made (headAs head (waiting self)) ⌝ }
+    {
+        let slot = self.first_slot(head);
         let mut q = self;
-        q.slots[0] = AudioParamEvent { event: e };
+        q.slots[0] = slot;
         q
     }
 

@@ -15,10 +15,10 @@ use Rattle.param.proofs.AudioParam.process.Tie as tie
 use Rattle.param.proofs.AudioParam.process.Reads as reads
 use Rattle.param.proofs.AudioParam.process.Lts as lts
 use Rattle.block.proofs.infos_of.Reads as infos-of-reads
-use Rattle.param.proofs.AudioParam.after.Reads as after-reads
+use Rattle.param.proofs.AudioParam.leaving.Reads as leaving-reads
 use Rattle.param.proofs.AudioParam.play.Reads as play-reads
 use Rattle.param.proofs.AudioParam.refused_block.Reads as refused-block-reads
-use Rattle.param.proofs.process.left.Reads as left-reads
+use Rattle.param.proofs.AudioParam.staying.Reads as staying-reads
 use Rattle.refusals.proofs.block.verdict.Reads as verdict-reads
 
 -- what is asked
@@ -77,35 +77,51 @@ fits c =
 play-requires : tie.Need-play-requires
 play-requires c κs = fits (c .before .before)
 
--- src/process.rt:204:13
-left-requires : tie.Need-left-requires
-left-requires c κs =
-    let infos = c .before .before .before .before .before .before .before in
+abbrev played : tie.After-struct-known → tie.After-play
+played c = c .before .before .before
+
+abbrev begun : tie.After-play → tie.After-infos-of
+begun c = c .before .before .before
+
+staying-requires : tie.Need-staying-requires
+staying-requires c κs =
+    let infos = begun (played (c .before .before)) in
     let start = infos .before .before .before .before .before .before .before in
-    (start .pre .neat, fits infos .room)
+    (start .pre .neat, fits infos .room, c .before .if1 .taken)
 
--- src/process.rt:205:9
-after-requires : tie.Need-after-requires
-after-requires c κs = search needs
-
--- src/process.rt:173:5
 same-length : tie.Need-same-length
 same-length c = search needs
 
--- src/process.rt:173:5
 same-length-2 : tie.Need-same-length-2
 same-length-2 c = search needs
 
--- src/process.rt:173:5
 returns-2 : tie.Need-returns-2
 returns-2 c =
-    let leaves = c .before .before .before in
-    let done = leaves .before .before .before .before .before in
-    let infos = done .before .before .before in
+    let done = played (c .before .before .before .before .before) in
+    let infos = begun done in
     let told = infos .before in
     let start = told .before .before .before .before .before .before in
-    plays (start .args .self) (store start) (call start) (start .pre) (verdict (told .before .before)) (told .enum-told .given .1) (infos .infos-of .ensures _ _)
-    (done .play .ensures) (leaves .left .ensures) (c .after .ensures)
+    plays (start .args .self) (store start) (call start) (start .pre) (verdict (told .before .before)) (told .enum-told .given .1) (infos .infos-of .ensures _ _) (done .play .ensures) (c .before .before .staying .ensures)
+
+leaving-requires : tie.Need-leaving-requires
+leaving-requires c κs =
+    let infos = begun (played (c .before .before)) in
+    let start = infos .before .before .before .before .before .before .before in
+    (start .pre .neat, fits infos .room)
+
+same-length-3 : tie.Need-same-length-3
+same-length-3 c = search needs
+
+same-length-4 : tie.Need-same-length-4
+same-length-4 c = search needs
+
+returns-3 : tie.Need-returns-3
+returns-3 c =
+    let done = played (c .before .before .before .before .before) in
+    let infos = begun done in
+    let told = infos .before in
+    let start = told .before .before .before .before .before .before in
+    plays (start .args .self) (store start) (call start) (start .pre) (verdict (told .before .before)) (told .enum-told .given .1) (infos .infos-of .ensures _ _) (done .play .ensures) (c .before .before .leaving .ensures)
 
 pub process-spec : {M : Type 1} → statement M
 process-spec =
@@ -118,8 +134,11 @@ process-spec =
     returns
     infos-of-requires
     play-requires
-    left-requires
-    after-requires
+    staying-requires
     same-length
     same-length-2
-    returns-2)
+    returns-2
+    leaving-requires
+    same-length-3
+    same-length-4
+    returns-3)
