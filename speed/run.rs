@@ -14,6 +14,24 @@ const READY: usize = 16;
 /// Words of 64 bits in a parameter (`AudioParam`, 3,144 bytes).
 const PARAMETER: usize = 393;
 
+/// Blocks in a loop of the port's own: `speed_value` and `speed_tick`.
+type Loop = unsafe extern "C" fn(
+    *const u64,
+    usize,
+    f64,
+    f64,
+    usize,
+    f64,
+    bool,
+    usize,
+    *const f32,
+    usize,
+    *mut f32,
+    usize,
+    *mut f32,
+    usize,
+) -> usize;
+
 extern "C" {
     fn speed_value(
         state: *const u64,
@@ -22,6 +40,7 @@ extern "C" {
         period: f64,
         count: usize,
         advance: f64,
+        again: bool,
         blocks: usize,
         input: *const f32,
         inputs: usize,
@@ -37,34 +56,7 @@ extern "C" {
         period: f64,
         count: usize,
         advance: f64,
-        blocks: usize,
-        input: *const f32,
-        inputs: usize,
-        output: *mut f32,
-        outputs: usize,
-        store: *mut f32,
-        stores: usize,
-    ) -> usize;
-    fn speed_value_again(
-        state: *const u64,
-        states: usize,
-        time: f64,
-        period: f64,
-        count: usize,
-        blocks: usize,
-        input: *const f32,
-        inputs: usize,
-        output: *mut f32,
-        outputs: usize,
-        store: *mut f32,
-        stores: usize,
-    ) -> usize;
-    fn speed_tick_again(
-        state: *const u64,
-        states: usize,
-        time: f64,
-        period: f64,
-        count: usize,
+        again: bool,
         blocks: usize,
         input: *const f32,
         inputs: usize,
@@ -277,8 +269,8 @@ impl Bench {
                 |p, n| p.blocks(0.0, self.count, self.advance(), n),
                 samples,
             ),
-            "value" => self.inside(speed_value, speed_value_again),
-            _ => self.inside(speed_tick, speed_tick_again),
+            "value" => self.inside(speed_value),
+            _ => self.inside(speed_tick),
         }
     }
 
@@ -300,80 +292,33 @@ impl Bench {
     }
 
     /// Blocks in a loop of the port's own: the state is read once, before the first.
-    fn inside(
-        &self,
-        on: unsafe extern "C" fn(
-            *const u64,
-            usize,
-            f64,
-            f64,
-            usize,
-            f64,
-            usize,
-            *const f32,
-            usize,
-            *mut f32,
-            usize,
-            *mut f32,
-            usize,
-        ) -> usize,
-        again: unsafe extern "C" fn(
-            *const u64,
-            usize,
-            f64,
-            f64,
-            usize,
-            usize,
-            *const f32,
-            usize,
-            *mut f32,
-            usize,
-            *mut f32,
-            usize,
-        ) -> usize,
-    ) -> (f64, Vec<f32>) {
+    fn inside(&self, blocks_in_a_loop: Loop) -> (f64, Vec<f32>) {
         let mut p = self.port();
         let silence = [0.0f32; 1];
-        let (state, input) = (p.state.as_ptr(), silence.as_ptr());
-        let (output, store) = (p.output.as_mut_ptr(), p.store.as_mut_ptr());
+        // what a block uses up is played again and again
+        let blocks = if self.once { self.blocks * 16 } else { self.blocks };
+        let advance = if self.once { 0.0 } else { self.advance() };
         let began = Instant::now();
         let steps = unsafe {
-            if self.once {
-                again(
-                    state,
-                    raw::STATE,
-                    0.0,
-                    PERIOD,
-                    self.count,
-                    self.blocks * 16,
-                    input,
-                    0,
-                    output,
-                    128,
-                    store,
-                    raw::STORE,
-                )
-            } else {
-                on(
-                    state,
-                    raw::STATE,
-                    0.0,
-                    PERIOD,
-                    self.count,
-                    self.advance(),
-                    self.blocks,
-                    input,
-                    0,
-                    output,
-                    128,
-                    store,
-                    raw::STORE,
-                )
-            }
+            blocks_in_a_loop(
+                p.state.as_ptr(),
+                raw::STATE,
+                0.0,
+                PERIOD,
+                self.count,
+                advance,
+                self.once,
+                blocks,
+                silence.as_ptr(),
+                0,
+                p.output.as_mut_ptr(),
+                128,
+                p.store.as_mut_ptr(),
+                raw::STORE,
+            )
         };
         let took = began.elapsed().as_nanos() as f64;
         assert!(steps > 0);
-        let blocks = if self.once { self.blocks * 16 } else { self.blocks };
         (took / blocks as f64, p.output[..self.count].to_vec())
     }
 }

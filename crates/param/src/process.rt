@@ -102,9 +102,9 @@ impl AudioParam {
         ensures { λ r. ⌜ Gives self infos played (now (part .entry)) r (now (part .exit)) ⌝ }
     {
         let q = self.timeline;
-        curves::zero_behind(part, numbers_waiting(q));
         let head = played.head;
         let timeline = q.replace_peek(head);
+        curves::zero_behind(part, numbers_waiting(q));
         self.after(infos, timeline, played)
     }
 

@@ -1,11 +1,12 @@
 // What fast paths share: floors and sums seen in the patterns of `f64` values, and with them the sum of a linear or a curve's sample.
 ghost use mathlib.Core.Path.{_≡_};
+ghost use mathlib.Core.Bool.{true};
 ghost use mathlib.Core.Logic.{_⊎_};
 ghost use Prim.Native.Nat.{_+_, _*_, _^_, _≤_, _<_};
 ghost use lib.Dec.{T};
-ghost use lib.Ieee.{binary32, fits};
+ghost use lib.Ieee.{binary32, fits, eq};
 ghost use lib.Ieee.Scale.{finite};
-ghost use Rattle.rules.specs.Numbers.{narrowed, fused};
+ghost use Rattle.rules.specs.Numbers.{plusZero, narrowed, fused};
 ghost use Rattle.phases.specs.Patterns.{Lifted, Raised, Holds};
 ghost use Rattle.phases.specs.Once.{Grid, Once, Within, Served};
 
@@ -101,11 +102,23 @@ pub fn phase_sum_of(a: f32, x: f64, c: f32) -> f32
     rounding::fused32(a, rounding::narrow(x), c)
 }
 
-// The same of values held as `f64`, by the functions of `rounding`.
+// The same of values held as `f64` at an x that is a zero, as where a ramp begins at a sample's time: the product is a zero, and the sum is rounded once.
+fn sum_at_zero(a: f64, x: f64, c: f64) -> f32
+    requires { ⌜ T (fits binary32 a) × T (fits binary32 c) × T (finite a) × T (finite c) ⌝ }
+    requires { ⌜ eq x plusZero ≡ true ⌝ }
+    ensures { λ r. ⌜ r ≡ fused binary32 a (narrowed x) c ⌝ }
+{
+    (a as f32) * (x as f32) + (c as f32)
+}
+
+// The same at any x, by the functions of `rounding`.
 fn phase_sum_slow(a: f64, x: f64, c: f64) -> f32
     requires { ⌜ T (fits binary32 a) × T (fits binary32 c) × T (finite a) × T (finite c) ⌝ }
     ensures { λ r. ⌜ r ≡ fused binary32 a (narrowed x) c ⌝ }
 {
+    if x == 0.0 {
+        return sum_at_zero(a, x, c);
+    }
     let y = rounding::narrow(x);
     if y == y {
         return rounding::fused_wide(a, y as f64, c);

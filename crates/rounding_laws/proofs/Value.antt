@@ -59,7 +59,7 @@ flat (pos zero) h = refl
 flat (pos (suc k)) h = absurd (two-up (2 ^ k) (pow-pos k) (sym (pow-succ' 2 k) ∙ sym (mul-one (2 ^ suc k)) ∙ h))
 flat (negsuc k) h = absurd (two-up (2 ^ k) (pow-pos k) (sym (pow-succ' 2 k) ∙ sym (one-mul (2 ^ suc k)) ∙ h))
 
-zero-exp : (f : Format) (s : Bool) (e : ℤ) → T (fits f (fin s zero e)) → e ≡ pos 0
+pub zero-exp : (f : Format) (s : Bool) (e : ℤ) → T (fits f (fin s zero e)) → e ≡ pos 0
 unfolding fits
 zero-exp f s e t = flat e (eqb→eq (up e * down e) 1 t)
 

@@ -7,7 +7,7 @@ use native.Mathlib.Numerals.{add-one}
 use native.Mathlib.Omega.{arith}
 use lib.ListN.{length, take, drop, set, getD, length-append, length-drop}
 use lib.Seq.{take-at, drop-at, drop-drop, drop-cons, drop-length, set-at, append-snoc}
-use borrow.Rule.Slice.PartMut.{postOf, putMid}
+use borrow.Rule.Slice.PartMut.{postOf, putMid, midOf, mid-len}
 use lib.Ieee.{Float, nan, binary64, add}
 use Rattle.rules.specs.Numbers.{run}
 use Rattle.runs.specs.After.{after}
@@ -95,6 +95,15 @@ module _ (s : Float → Float) (dt : Float) where
               rw (before, behind, e, f .next)
               (sym (append-assoc (run s dt i time) (run s dt n (after dt i time)) (drop (i + n) o₀)) ∙ ap (λ (l : List Float). l ++ drop (i + n) o₀) (sym (run-more i n time)));
         }
+
+    -- all the places left
+    pub rest-filled : {o₀ o : List Float} {i : ℕ} {t : Float} → Filled o₀ o i t → (p : List Float) → p ≡ run s dt (length (midOf i (length o - i) o)) t
+        → Filled o₀ (putMid i (length o - i) o p) (i + (length o - i)) (after dt (length o - i) t)
+    rest-filled {o₀} {o} {i} {t} f p e =
+        let k = filled-length f in
+        let w = f .within in
+        let within : i ≤ length o = omega arith in
+        some-more f (length o - i) (omega arith) p (e ∙ rw (mid-len i (length o) o (omega arith)))
 
     pub all-filled : {o₀ o : List Float} {i : ℕ} {t : Float} → Filled o₀ o i t → length o₀ ≤ i → o ≡ run s dt (length o₀) time
     all-filled {o₀} {o} {i} {t} f h =

@@ -8,6 +8,7 @@ use lib.ListN.{getD}
 use lib.Ieee.{Float, nan, binary32, binary64, sub, mul, div, toBits, isNan, le, lt}
 use lib.Ieee.Exact.{HasValue}
 use Rattle.rules.specs.Numbers.{plusZero, wide, wholePart}
+use Rattle.phases.specs.Once.{Within}
 use Rattle.runs.specs.Passes.{phaseSum}
 
 -- x is n times the smallest value of an f64
@@ -29,6 +30,10 @@ pub record Rises (start duration time period : Float) : Type 0 where
 -- a pattern from bx on, and one up to 1.0's
 abbrev pub Spans : ℕ → Float → Float → Type 0
 Spans bx x y = T (not (isNan x)) × T (not (isNan y)) × (bx ≤ toBits binary64 x) × (toBits binary64 y ≤ 1023 * 2 ^ 52)
+
+-- sixteen that lie between the first and the last of them, as far as patterns show
+abbrev pub Between : List Float → Type 0
+Between xs = (bx : ℕ) → Spans bx (getD xs 0 nan) (getD xs 15 nan) → (i : ℕ) → i < 16 → Within bx (getD xs i nan)
 
 -- the position in a curve whose last number has the place n
 unfoldable pub positionOf : Float → Float → Float → Float → Float

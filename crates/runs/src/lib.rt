@@ -17,7 +17,7 @@ ghost use Rattle.samples.specs.At.{linearAt, exponentialAt, exponentialOver, ta
 ghost use Rattle.decays.specs.Cell.{Grown};
 ghost use Rattle.runs.specs.After.{after};
 ghost use Rattle.runs.specs.Passes.{each, timed, phaseSum, every, noted, begun, heldAt, Ranged};
-ghost use Rattle.runs.specs.Rising.{Plain, Rises, Spans, Climbs, positionOf, atPosition};
+ghost use Rattle.runs.specs.Rising.{Plain, Rises, Spans, Between, Climbs, positionOf, atPosition};
 
 // A linear ramp's run.
 fn linear_run(
@@ -228,21 +228,41 @@ pub fn compute_linear_ramp_samples(
     linear_run(out, start_time, duration, start_value, diff, time, dt);
 }
 
-// The first pass of ramps and targets: the phase at each time, and whether none lies before the start.
-fn phases_of(xs: &mut [f64], start_time: f64, duration: f64, time: f64, dt: f64) -> bool
-    ensures { λ r. ⌜ (now (xs .exit) ≡ run (phaseOf «start_time» duration) dt (length (now (xs .entry))) time) × (r ≡ begun «start_time» dt (length (now (xs .entry))) time) ⌝ }
+// The time of each place, and whether none lies before the start.
+fn times_of(ts: &mut [f64], start_time: f64, time: f64, dt: f64) -> bool
+    ensures { λ r. ⌜ (now (ts .exit) ≡ run (λ t. t) dt (length (now (ts .entry))) time) × (r ≡ begun «start_time» dt (length (now (ts .entry))) time) ⌝ }
 {
     let mut begun = true;
     let mut i = 0usize;
     let mut t = time;
-    while i < xs.len() {
+    while i < ts.len() {
         if t < start_time {
             begun = false;
         }
-        xs[i] = (t - start_time) / duration;
+        ts[i] = t;
         t = t + dt;
         i += 1;
     }
+    begun
+}
+
+// Times become phases: apart from the sums of times, two divisions go side by side.
+fn phases_at(ts: &mut [f64], start_time: f64, duration: f64)
+    ensures { λ r. ⌜ now (ts .exit) ≡ each (phaseOf «start_time» duration) (now (ts .entry)) ⌝ }
+{
+    let mut i = 0usize;
+    while i < ts.len() {
+        ts[i] = (ts[i] - start_time) / duration;
+        i += 1;
+    }
+}
+
+// The first pass of ramps and targets: the phase at each time, and whether none lies before the start.
+fn phases_of(xs: &mut [f64], start_time: f64, duration: f64, time: f64, dt: f64) -> bool
+    ensures { λ r. ⌜ (now (xs .exit) ≡ run (phaseOf «start_time» duration) dt (length (now (xs .entry))) time) × (r ≡ begun «start_time» dt (length (now (xs .entry))) time) ⌝ }
+{
+    let begun = times_of(xs, start_time, time, dt);
+    phases_at(xs, start_time, duration);
     begun
 }
 
@@ -313,6 +333,44 @@ fn exponential_finite(
     exponential_over(out, &xs[..n], &ns[..n], &table, from, l);
 }
 
+// The time 128 places on.
+fn part_later(time: f64, dt: f64) -> f64
+    ensures { λ r. ⌜ r ≡ after dt 128 time ⌝ }
+{
+    let mut i = 0usize;
+    let mut t = time;
+    while i < 128 {
+        t = t + dt;
+        i += 1;
+    }
+    t
+}
+
+// By parts of up to 128. Called from two places a part stays a function of its own: put into the walk's loop it would slow down every head.
+fn exponential_parts(
+    out: &mut [f32],
+    start: f64,
+    duration: f64,
+    from: f64,
+    l: f64,
+    time: f64,
+    dt: f64,
+)
+    requires { ⌜ T (finite from) ⌝ }
+    ensures { λ r. ⌜ now (out .exit) ≡ run (exponentialOver start duration «from» l) dt (length (now (out .entry))) time ⌝ }
+{
+    let mut i = 0usize;
+    let mut t = time;
+    while out.len() - i > 128 {
+        let e = i + 128;
+        let next = part_later(t, dt);
+        exponential_finite(&mut out[i..e], start, duration, from, l, t, dt);
+        t = next;
+        i = e;
+    }
+    exponential_finite(&mut out[i..], start, duration, from, l, t, dt);
+}
+
 pub fn compute_exponential_ramp_samples(
     out: &mut [f32],
     start_time: f64,
@@ -325,12 +383,10 @@ pub fn compute_exponential_ramp_samples(
     ensures { λ r. ⌜ now (out .exit) ≡ run (exponentialAt «start_time» duration «start_value» log) dt (length (now (out .entry))) time ⌝ }
 {
     let l = std::num::nearest_i64_to_f64(log);
-    if out.len() <= 128 {
-        if floats::is_finite32(start_value) {
-            let from = start_value as f64;
-            exponential_finite(out, start_time, duration, from, l, time, dt);
-            return;
-        }
+    if floats::is_finite32(start_value) {
+        let from = start_value as f64;
+        exponential_parts(out, start_time, duration, from, l, time, dt);
+        return;
     }
     exponential_run(out, start_time, duration, start_value, l, time, dt);
 }
@@ -509,20 +565,7 @@ fn target_finite(
     hold_before(out, start_time, intrinsic, time, dt);
 }
 
-// The time 128 places on.
-fn part_later(time: f64, dt: f64) -> f64
-    ensures { λ r. ⌜ r ≡ after dt 128 time ⌝ }
-{
-    let mut i = 0usize;
-    let mut t = time;
-    while i < 128 {
-        t = t + dt;
-        i += 1;
-    }
-    t
-}
-
-// By parts of up to 128. Called from two places a part stays a function of its own: put into the walk's loop it would slow down every head.
+// By parts, as those of an exponential ramp.
 fn target_parts(
     out: &mut [f32],
     start: f64,
@@ -682,14 +725,30 @@ fn sums_seen(out: &mut [f32], xs: &[f64; 16], c: f64, a: f64) -> bool
     false
 }
 
+// The same with nothing to test, where all sums are exact.
+fn sums_between(out: &mut [f32], xs: &[f64; 16], c: f64, a: f64) -> bool
+    requires { ⌜ T (fits binary32 a) × T (fits binary32 c) × T (finite a) × T (finite c) ⌝ }
+    requires { ⌜ (length (now out) ≡ 16) × (length (now xs) ≡ 16) × Between (now xs) × Spans (898 * 2 ^ 52) (getD (now xs) 0 nan) (getD (now xs) 15 nan) ⌝ }
+    ensures { λ r. ⌜ (r ≡ true → now (out .exit) ≡ each (phaseSum c a) (now (xs .entry))) ⌝ }
+{
+    let bx = phases::once_from(a, c);
+    if bx != 0 {
+        if spans(xs[0], xs[15], bx) {
+            sums_within(out, xs, c, a, bx);
+            return true;
+        }
+    }
+    sums_seen(out, xs, c, a)
+}
+
 // Sixteen samples between two numbers of a curve.
 fn curve_part(out: &mut [f32], xs: &[f64; 16], from: f32, diff: f32) -> bool
-    requires { ⌜ (length (now out) ≡ 16) × (length (now xs) ≡ 16) × ((i : ℕ) → i < 16 → Within (898 * 2 ^ 52) (getD (now xs) i nan)) ⌝ }
+    requires { ⌜ (length (now out) ≡ 16) × (length (now xs) ≡ 16) × Between (now xs) × Spans (898 * 2 ^ 52) (getD (now xs) 0 nan) (getD (now xs) 15 nan) ⌝ }
     ensures { λ r. ⌜ (r ≡ true → now (out .exit) ≡ each (phaseSum «from» diff) (now (xs .entry))) ⌝ }
 {
     if floats::is_finite32(from) {
         if floats::is_finite32(diff) {
-            return sums_seen(out, xs, from as f64, diff as f64);
+            return sums_between(out, xs, from as f64, diff as f64);
         }
     }
     false

@@ -5,7 +5,7 @@ use mathlib.Core.Bool.{true}
 use mir.Facts.{toZ-ofZ}
 use lib.Dec.{T}
 use lib.ListN.{length}
-use lib.Ieee.{Float, binary32, binary64, fits, ofInt}
+use lib.Ieee.{Float, binary64, ofInt}
 use Rattle.rules.specs.Numbers.{isFinite, run}
 use Rattle.floats.proofs.Compared.{finite-of, finite-held}
 use Rattle.samples.specs.At.{exponentialAt, exponentialOver}
@@ -25,8 +25,8 @@ module _ (c : tie.After-nearest-i64-to-f64) where
       (c .nearest-i64-to-f64 .ensures ∙ ap (ofInt binary64) (toZ-ofZ (s .fits .log)))
       ∙ rw (exponential-over (s .args .start-time) (s .args .duration) (s .args .start-value) (s .args .log))
 
-fine : (t : tie.Then2) → isFinite (t .before .before .before .before .before .args .start-value) ≡ true
-fine t = sym (t .before .is-finite32 .ensures) ∙ t .if2 .taken
+fine : (t : tie.Then1) → isFinite (t .before .before .before .before .args .start-value) ≡ true
+fine t = sym (t .before .is-finite32 .ensures) ∙ t .if1 .taken
 
 nearest-i64-to-f64-requires : tie.Need-nearest-i64-to-f64-requires
 nearest-i64-to-f64-requires c κs = search needs
@@ -35,16 +35,16 @@ is-finite32-requires : tie.Need-is-finite32-requires
 is-finite32-requires c κs = search needs
 
 float-to-float-from : tie.Need-float-to-float-from
-float-to-float-from c = finite-held _ (subst T (sym (c .before .before .before .before .before .before .good .1 .1 .1 .0 .1)) tt) (fine (c .before))
+float-to-float-from c = finite-held _ (subst T (sym (c .before .before .before .before .before .good .1 .1 .1 .0 .1)) tt) (fine (c .before))
 
-exponential-finite-requires : tie.Need-exponential-finite-requires
-exponential-finite-requires c κs = let t = c .before .before in (t .before .before .if1 .taken, finite-of _ (fine t))
+exponential-parts-requires : tie.Need-exponential-parts-requires
+exponential-parts-requires c κs = finite-of _ (fine (c .before .before))
 
 same-length : tie.Need-same-length
 same-length c = search needs
 
 returns : tie.Need-returns
-returns c = let e = c .before .before in e .exponential-finite .ensures ∙ overs (e .before .before .before .before .before .before)
+returns c = let e = c .before .before in e .exponential-parts .ensures ∙ overs (e .before .before .before .before .before)
 
 exponential-run-requires : tie.Need-exponential-run-requires
 exponential-run-requires c κs = search needs
@@ -53,7 +53,7 @@ same-length-2 : tie.Need-same-length-2
 same-length-2 c = search needs
 
 returns-2 : tie.Need-returns-2
-returns-2 c = let e = c .before .before in e .exponential-run .ensures ∙ overs (e .before .before .before)
+returns-2 c = let e = c .before .before in e .exponential-run .ensures ∙ overs (e .before .before .before .before)
 
 pub compute-exponential-ramp-samples-spec : {M : Type 1} → statement M
 compute-exponential-ramp-samples-spec =
@@ -62,7 +62,7 @@ compute-exponential-ramp-samples-spec =
     nearest-i64-to-f64-requires
     is-finite32-requires
     float-to-float-from
-    exponential-finite-requires
+    exponential-parts-requires
     same-length
     returns
     exponential-run-requires

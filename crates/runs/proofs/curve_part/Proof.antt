@@ -24,14 +24,14 @@ is-finite32-requires c κs = search needs
 is-finite32-requires-2 : tie.Need-is-finite32-requires-2
 is-finite32-requires-2 c κs = search needs
 
-float-to-float-sums-seen : tie.Need-float-to-float-sums-seen
-float-to-float-sums-seen c = let f = fine (c .before .before) in finite-held _ (f .fits-c) (f .is-c)
+float-to-float-sums-between : tie.Need-float-to-float-sums-between
+float-to-float-sums-between c = let f = fine (c .before .before) in finite-held _ (f .fits-c) (f .is-c)
 
-float-to-float-sums-seen-2 : tie.Need-float-to-float-sums-seen-2
-float-to-float-sums-seen-2 c = let f = fine (c .before .before .before) in finite-held _ (f .fits-a) (f .is-a)
+float-to-float-sums-between-2 : tie.Need-float-to-float-sums-between-2
+float-to-float-sums-between-2 c = let f = fine (c .before .before .before) in finite-held _ (f .fits-a) (f .is-a)
 
-sums-seen-requires : tie.Need-sums-seen-requires
-sums-seen-requires c κs = let t = c .before .before .before in (asked _ _ (fine t), t .before .before .before .before .before .pre)
+sums-between-requires : tie.Need-sums-between-requires
+sums-between-requires c κs = let t = c .before .before .before in (asked _ _ (fine t), t .before .before .before .before .before .pre)
 
 same-length : tie.Need-same-length
 same-length c = search needs
@@ -46,4 +46,4 @@ returns-3 : tie.Need-returns-3
 returns-3 c = λ e. absurd (true≢false (sym e))
 
 pub curve-part-spec : {M : Type 1} → statement M
-curve-part-spec = tie.close (tie.spec is-finite32-requires is-finite32-requires-2 float-to-float-sums-seen float-to-float-sums-seen-2 sums-seen-requires same-length returns returns-2 returns-3)
+curve-part-spec = tie.close (tie.spec is-finite32-requires is-finite32-requires-2 float-to-float-sums-between float-to-float-sums-between-2 sums-between-requires same-length returns returns-2 returns-3)

@@ -1,17 +1,14 @@
 -- `runs::curve_turns` meets its contract. Assumes nothing.
 use borrow.Author.Needs.{needs}
 use mathlib.Core.Path.{_≡_, _∙_}
-use mathlib.Core.List.{List}
 use Prim.Native.Nat.{ℕ, _+_, _-_}
 use native.Mathlib.Omega.{arith}
 use lib.ListN.{length}
 use lib.Ieee.{Float}
-use borrow.Rule.Slice.PartMut.{putMid, midOf, mid-len}
-use Rattle.rules.specs.Numbers.{run}
+use borrow.Rule.Slice.PartMut.{mid-len}
 use Rattle.rules.specs.Samples.{curveSample}
 use Rattle.rules.specs.Walk.{fromStart}
-use Rattle.runs.specs.After.{after}
-use Rattle.runs.proofs.Filling.{Filled, none-filled, some-more, filled-length, all-filled}
+use Rattle.runs.proofs.Filling.{Filled, none-filled, some-more, rest-filled, filled-length, all-filled}
 use Rattle.runs.proofs.curve_turns.Statement.{statement}
 use Rattle.runs.proofs.curve_turns.Tie as tie
 
@@ -32,15 +29,6 @@ kept c = let s = start c in filled-length (sample s) (s .args .dt) (s .args .tim
 
 sixteen : (i : ℕ) → i + 16 - i ≡ 16
 sixteen i = omega arith
-
--- what the run of the rest leaves
-done : (a : tie.At-loop Inv-loop μ-loop) (p : List Float)
-    → p ≡ run (sample (start a)) (start a .args .dt) (length (midOf (a .loop .i) (length (a .loop .out) - a .loop .i) (a .loop .out))) (a .loop .t)
-    → Filled (sample (start a)) (start a .args .dt) (start a .args .time) (start a .args .out .now) (putMid (a .loop .i) (length (a .loop .out) - a .loop .i) (a .loop .out) p) (a .loop .i + (length (a .loop .out) - a .loop .i)) (after (start a .args .dt) (length (a .loop .out) - a .loop .i) (a .loop .t))
-done a p e =
-    let s = start a in
-    let l = a .loop in
-    some-more (sample s) (s .args .dt) (s .args .time) (l .inv) (length (l .out) - l .i) (omega (arith, kept a, l .inv .within)) p (e ∙ rw (mid-len (l .i) (length (l .out)) (l .out) (omega arith)))
 
 loop-holds : tie.Need-loop-holds Inv-loop μ-loop
 loop-holds c = let a = c .before .before .args in none-filled (sample (c .before .before)) (a .dt) (a .time) (a .out .now)
@@ -99,13 +87,13 @@ same-length : tie.Need-same-length Inv-loop μ-loop
 same-length c =
     let a = c .before .before .before .before .before in
     let s = start a in
-    filled-length (sample s) (s .args .dt) (s .args .time) (done a (c .before .before .curve-run .last .0) (c .before .before .curve-run .ensures))
+    filled-length (sample s) (s .args .dt) (s .args .time) (rest-filled (sample s) (s .args .dt) (s .args .time) (a .loop .inv) (c .before .before .curve-run .last .0) (c .before .before .curve-run .ensures))
 
 returns : tie.Need-returns Inv-loop μ-loop
 returns c =
     let a = c .before .before .before .before .before in
     let s = start a in
-    all-filled (sample s) (s .args .dt) (s .args .time) (done a (c .before .before .curve-run .last .0) (c .before .before .curve-run .ensures)) (omega (arith, kept a, a .loop .inv .within))
+    all-filled (sample s) (s .args .dt) (s .args .time) (rest-filled (sample s) (s .args .dt) (s .args .time) (a .loop .inv) (c .before .before .curve-run .last .0) (c .before .before .curve-run .ensures)) (omega (arith, kept a, a .loop .inv .within))
 
 pub curve-turns-spec : {M : Type 1} → statement M
 curve-turns-spec =

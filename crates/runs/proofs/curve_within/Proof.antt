@@ -16,7 +16,7 @@ use mir.Facts.{toZ-pos}
 use Rattle.rules.specs.Numbers.{wide}
 use Rattle.phases.specs.Once.{Within}
 use Rattle.runs.specs.Passes.{each, phaseSum}
-use Rattle.runs.specs.Rising.{Spans, Climbs, atPosition}
+use Rattle.runs.specs.Rising.{Spans, Between, Climbs, atPosition}
 use Rattle.runs.proofs.Climb.{counted, place, place-under, place-is, fraction, fractions-within, alike}
 use Rattle.runs.proofs.Passing.{each-length, each-at, each-each}
 use Rattle.runs.proofs.curve_within.Statement.{statement}
@@ -74,11 +74,11 @@ module _ (f : tie.After-fractions) where
   lane-is : (i : ℕ) → i < 16 → getD xs i nan ≡ fraction (length (values w) - 1) (ps w) (climbs w) (few w) i
   lane-is i l = ap (λ (ys : List Float). getD ys i nan) xs-is ∙ each-at (λ p. sub binary64 p (wide (k w))) (ps w) i nan (omega (arith, l, start w .pre .1))
 
-  lanes : Spans (898 * 2 ^ 52) (getD xs 0 nan) (getD xs 15 nan) → (i : ℕ) → i < 16 → Within (898 * 2 ^ 52) (getD xs i nan)
-  lanes h i l =
-      subst (Within (898 * 2 ^ 52)) (sym (lane-is i l))
-      (fractions-within (length (values w) - 1) (ps w) (climbs w) (few w) (898 * 2 ^ 52)
-      (subst (λ (x : Float). Spans (898 * 2 ^ 52) x (fraction (length (values w) - 1) (ps w) (climbs w) (few w) 15)) (lane-is 0 (lit≤ tt)) (subst (Spans (898 * 2 ^ 52) (getD xs 0 nan)) (lane-is 15 (lit≤ tt)) h)) i l)
+  lanes : Between xs
+  lanes bx h i l =
+      subst (Within bx) (sym (lane-is i l))
+      (fractions-within (length (values w) - 1) (ps w) (climbs w) (few w) bx
+      (subst (λ (x : Float). Spans bx x (fraction (length (values w) - 1) (ps w) (climbs w) (few w) 15)) (lane-is 0 (lit≤ tt)) (subst (Spans bx (getD xs 0 nan)) (lane-is 15 (lit≤ tt)) h)) i l)
 
   samples : (out : List Float) → toBits binary64 (getD xs 15 nan) < 1023 * 2 ^ 52
       → out ≡ each (phaseSum (getD (values w) (w .whole .result) nan) (sub binary32 (getD (values w) (w .whole .result + 1) nan) (getD (values w) (w .whole .result) nan))) xs → out ≡ each (atPosition (values w)) (ps w)
@@ -138,7 +138,7 @@ curve-part-requires : tie.Need-curve-part-requires
 curve-part-requires c κs =
     let t = c .before .before .before .before .before in
     let f = t .before .before in
-    (start (w f) .pre .0, long f, lanes f (t .before .spans .ensures (t .if1 .taken)))
+    (start (w f) .pre .0, long f, lanes f, t .before .spans .ensures (t .if1 .taken))
 
 same-length : tie.Need-same-length
 same-length c = search needs

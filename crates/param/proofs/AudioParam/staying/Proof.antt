@@ -18,14 +18,14 @@ use Rattle.param.proofs.process.numbers_waiting.Reads as numbers-waitin
 use Rattle.param.proofs.AudioParam.after.Reads as after-reads
 use Rattle.timeline.proofs.AudioParamEventTimeline.replace_peek.Reads as replace-peek-reads
 
-numbers-waiting-requires : tie.Need-numbers-waiting-requires
-numbers-waiting-requires c κs = let start = c .before .before .before in (start .pre .0, omega (arith, start .pre .1))
-
-zero-behind-requires : tie.Need-zero-behind-requires
-zero-behind-requires c κs = omega (arith, c .numbers-waiting .ensures, c .before .before .before .before .pre .1)
-
 replace-peek-requires : tie.Need-replace-peek-requires
 replace-peek-requires c κs = search needs
+
+numbers-waiting-requires : tie.Need-numbers-waiting-requires
+numbers-waiting-requires c κs = let start = c .before .before .before .before in (start .pre .0, omega (arith, start .pre .1))
+
+zero-behind-requires : tie.Need-zero-behind-requires
+zero-behind-requires c κs = omega (arith, c .numbers-waiting .ensures, c .before .before .before .before .before .pre .1)
 
 after-requires : tie.Need-after-requires
 after-requires c κs = search needs
@@ -35,9 +35,10 @@ same-length c = search needs
 
 returns : tie.Need-returns
 returns c =
-    let zeros = c .before .before .before .before in
+    let zeros = c .before .before .before in
     let waits = zeros .before in
-    let start = waits .before .before .before .before in
+    let put = waits .before .before in
+    let start = put .before .before .before in
     let a = start .args in
     let q = paramOf (a .self) .queue in
     let o = now (a .part) in
@@ -47,7 +48,7 @@ returns c =
       queue = start .pre .0 .clean ∙ ap made (ap (λ (k : ℕ). drop k q) (sym n) ∙ consumed-events q o (start .pre .1) (a .played .at));
       part = zeros .zero-behind .ensures ∙ untouched-part q o (start .pre .1) (a .played .at) (waits .numbers-waiting .result) (waits .numbers-waiting .ensures) n;
     })
-    (c .before .replace-peek .ensures) (c .after .ensures)
+    (put .replace-peek .ensures) (c .after .ensures)
 
 pub staying-spec : {M : Type 1} → statement M
-staying-spec = tie.close (tie.spec numbers-waiting-requires zero-behind-requires replace-peek-requires after-requires same-length returns)
+staying-spec = tie.close (tie.spec replace-peek-requires numbers-waiting-requires zero-behind-requires after-requires same-length returns)
