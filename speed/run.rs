@@ -14,7 +14,7 @@ const READY: usize = 16;
 /// Words of 64 bits in a parameter (`AudioParam`, 3,144 bytes).
 const PARAMETER: usize = 393;
 
-/// Blocks in a loop of the port's own: `speed_value` and `speed_tick`.
+/// Blocks in a loop of the port's own: `by_value` and `speed_tick`.
 type Loop = unsafe extern "C" fn(
     *const u64,
     usize,
@@ -34,6 +34,21 @@ type Loop = unsafe extern "C" fn(
 
 extern "C" {
     fn speed_value(
+        state: *const u64,
+        states: usize,
+        time: f64,
+        period: f64,
+        count: usize,
+        advance: f64,
+        blocks: usize,
+        input: *const f32,
+        inputs: usize,
+        output: *mut f32,
+        outputs: usize,
+        store: *mut f32,
+        stores: usize,
+    ) -> usize;
+    fn speed_again(
         state: *const u64,
         states: usize,
         time: f64,
@@ -65,6 +80,35 @@ extern "C" {
         store: *mut f32,
         stores: usize,
     ) -> usize;
+}
+
+/// By value, in a row or again and again: two loops in two archives, since a test in one would cost each block a copy.
+unsafe extern "C" fn by_value(
+    state: *const u64,
+    states: usize,
+    time: f64,
+    period: f64,
+    count: usize,
+    advance: f64,
+    again: bool,
+    blocks: usize,
+    input: *const f32,
+    inputs: usize,
+    output: *mut f32,
+    outputs: usize,
+    store: *mut f32,
+    stores: usize,
+) -> usize {
+    if again {
+        return speed_again(
+            state, states, time, period, count, advance, again, blocks, input, inputs, output,
+            outputs, store, stores,
+        );
+    }
+    speed_value(
+        state, states, time, period, count, advance, blocks, input, inputs, output, outputs, store,
+        stores,
+    )
 }
 
 /// A parameter that takes the calls of a schedule.
@@ -269,7 +313,7 @@ impl Bench {
                 |p, n| p.blocks(0.0, self.count, self.advance(), n),
                 samples,
             ),
-            "value" => self.inside(speed_value),
+            "value" => self.inside(by_value),
             _ => self.inside(speed_tick),
         }
     }

@@ -25,7 +25,7 @@ use Rattle.rules.specs.Block.{walkFrom, valuesBefore}
 use Rattle.laws.specs.Sound.{isClear, endsClear, areClear, isNumber, isNumberIfAny, SoundQueue}
 use Rattle.laws.proofs.Tests.{both}
 use Rattle.laws.proofs.Events.{lengths-split}
-use Rattle.laws.proofs.Store.{attached-drop}
+use Rattle.laws.proofs.Store.{attached-drop, no-numbers}
 use Rattle.laws.proofs.Walks as Carried
 use Rattle.laws.proofs.Walks.{Any, any-timed, all-any, head-timed, goes, Carries, turn-carries}
 use Rattle.laws.proofs.Shapes.{walk-empty, walk-stops, walk-goes-on}
@@ -71,10 +71,6 @@ clear-curve s d n h c =
     leb-true 2 n (both (isNumberIfAny h) _ (both (isNumber _) _ e .1) .1)
 
 -- an event that is no curve has no numbers
-no-numbers : (xs : List Float) → length xs ≡ 0 → xs ≡ []
-no-numbers [] h = refl
-no-numbers (x ∷ xs) h = absurd (omega arith)
-
 pub bare : {e : Event} {xs : List Float} → Numbered e xs → (d : Event) → e ≡ d → lengthOf d ≡ 0 → xs ≡ []
 bare {e} {xs} n d is z = no-numbers xs (n .fits ∙ ap lengthOf is ∙ z)
 

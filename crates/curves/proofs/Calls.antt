@@ -5,7 +5,7 @@ use mathlib.Core.List.{List, [], _∷_, _++_, append-assoc, append-nil}
 use Prim.Native.Nat.{ℕ, _+_, _-_, _≤_}
 use native.Mathlib.Nat.{zero-add}
 use native.Mathlib.Omega.{arith}
-use lib.ListN.{set, length, take, drop, replicate, length-drop}
+use lib.ListN.{set, length, take, drop, replicate, length-drop, drop-of-length-le}
 use lib.Seq.{paste, take-add, take-at, take-paste, drop-at, drop-paste, length-paste, length-take-le, take-length, take-append-le, take-take}
 use lib.Ieee.{Float}
 use Rattle.rules.specs.declared.Event.{Event}
@@ -95,10 +95,6 @@ held-queue c q o =
 
 -- ---- consume
 
-none : {A : Type 0} (xs : List A) → length xs ≡ 0 → xs ≡ []
-none [] e = refl
-none (x ∷ xs) e = absurd (omega arith)
-
 module _ (q : List Event) (o : List Float) (fits : lengthsOf q ≤ length o) (n : ℕ) where
   abbrev gone : ℕ
   gone = lengthsOf (take n q)
@@ -134,7 +130,7 @@ module _ (q : List Event) (o : List Float) (fits : lengthsOf q ≤ length o) (n 
 
   -- all of them are finished
   none-left : length q ≤ n → drop n (attached q o) ≡ []
-  none-left h = none (drop n (attached q o)) (omega (arith, length-drop n (attached q o), attached-length q o))
+  none-left h = drop-of-length-le (attached q o) {i = n} (omega (arith, attached-length q o))
 
   pub emptied-events : length q ≤ n → [] ≡ eventsOf (drop n (attached q o))
   unfolding eventsOf

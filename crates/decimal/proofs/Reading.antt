@@ -164,11 +164,7 @@ module _ (m : List ℕ) (point : ℕ) (is : point ≡ indexOf 46 m) (in-word : p
   unfolding digitsIn countIn upTo numberIn
   no-digits h =
       ap (λ (cs : List ℕ). countIn (2 ^ 53) cs)
-      (length-zero (wholeDigits m ++ fractionDigits m) (length-append (wholeDigits m) (fractionDigits m) ∙ omega (arith, whole-length, fraction-length)))
-    where
-      length-zero : (cs : List ℕ) → length cs ≡ 0 → cs ≡ []
-      length-zero [] e = refl
-      length-zero (c ∷ cs) e = absurd (omega arith)
+      (drop-of-length-le (wholeDigits m ++ fractionDigits m) {i = 0} (omega (arith, length-append (wholeDigits m) (fractionDigits m), whole-length, fraction-length)))
 
   some-digits : (point + (length m - suc point) ≡ 0 → ⊥) → digitsIn m ≡ upTo (2 ^ 53) (numberFrom 10 0 (wholeDigits m ++ fractionDigits m))
   unfolding digitsIn countIn

@@ -3,8 +3,9 @@ use mathlib.Core.Path.{_≡_, refl, sym, ap, _∙_}
 use mathlib.Core.Bool.{Bool, true, false, cond}
 use mathlib.Core.List.{List, [], _∷_, _++_, append-assoc, append-nil}
 use Prim.Native.Nat.{ℕ, zero, suc, _-_, _≤_}
+use native.Mathlib.Nat.{le-of-eq}
 use native.Mathlib.Omega.{arith}
-use lib.ListN.{length, take, drop, replicate, length-append, length-replicate, length-drop, take-append-drop}
+use lib.ListN.{length, take, drop, replicate, length-append, length-replicate, length-drop, drop-of-length-le, take-append-drop}
 use lib.Seq.{take-at, drop-at, take-add, drop-drop, length-take-le}
 use lib.Ieee.{Float}
 use Rattle.rules.specs.declared.Event.{Event}
@@ -173,9 +174,8 @@ unfolding cancelled
 fit-cancelled c ws f = fit-those (isBefore c) ws f
 
 -- an event that is no curve has no numbers
-no-numbers : (xs : List Float) → length xs ≡ 0 → xs ≡ []
-no-numbers [] h = refl
-no-numbers (x ∷ xs) h = absurd (omega arith)
+pub no-numbers : (xs : List Float) → length xs ≡ 0 → xs ≡ []
+no-numbers xs h = drop-of-length-le xs {i = 0} (le-of-eq h)
 
 ramp-length : (e : Event) → isRamp e ≡ true → lengthOf e ≡ 0
 unfolding isRamp lengthOf

@@ -6,7 +6,7 @@ use Prim.Native.Nat.{ℕ, zero, suc, _+_, _≤_, _<_}
 use native.Mathlib.Numerals.{add-one}
 use native.Mathlib.Omega.{arith}
 use lib.ListN.{length, take, drop, getD, set, replicate, length-set, length-replicate, getD-replicate}
-use lib.Seq.{length-take-le, take-suc, take-all, drop-cons, set-at}
+use lib.Seq.{length-take-le, take-suc, take-all, drop-cons, drop-set-lt, set-at}
 use lib.Ieee as Ieee
 use lib.Ieee.{Float, nan}
 use Rattle.rules.specs.declared.Bounds.{Bounds}
@@ -14,7 +14,7 @@ use Rattle.rules.specs.Numbers.{plusZero}
 use Rattle.rules.specs.Mix.{mixed, mixedAll}
 use Rattle.laws.specs.Sound.{isNumber}
 use Rattle.laws.proofs.Order.{number-is}
-use Rattle.mix.specs.Mixed.{over}
+use Rattle.mix.specs.Mixed.{over, Tried}
 
 -- of ys, which are n, the first i are written over the output o, which is then s
 pub record Writes (ys : List Float) (n : ℕ) (o : List Float) (i : ℕ) (s : List Float) : Type 0 where
@@ -46,6 +46,36 @@ module _ (ys : List Float) (n : ℕ) (o : List Float) where
     ends h =
         let e : i ≡ length ys = omega (arith, w .few, w .long) in
         w .now ∙ rw e (ap (λ (l : List Float). l ++ drop (length ys) o) (take-all (length ys) ys (omega arith)))
+
+-- ---- the same where a test of each value may say that nothing is told
+
+pub record Trying (ys : List Float) (n : ℕ) (o : List Float) (told : Bool) (i : ℕ) (s : List Float) : Type 0 where
+  pub few : i ≤ n
+  pub whole : length s ≡ length o
+  pub rest : drop n s ≡ drop n o
+  pub writes : told ≡ true → Writes ys n o i s
+
+module _ (ys : List Float) (n : ℕ) (o : List Float) where
+  pub trying-begins : length ys ≡ n → n ≤ length o → Trying ys n o true 0 o
+  trying-begins l h = record { few = omega arith; whole = refl; rest = refl; writes = λ e. begins ys n o l h }
+
+  module _ (i : ℕ) (s : List Float) (told : Bool) (w : Trying ys n o told i s) where
+    pub trying-goes-on : (next : Bool) (v : Float) → i < n → (next ≡ true → (told ≡ true) × (v ≡ getD ys i plusZero)) → Trying ys n o next (i + 1) (set s i v)
+    trying-goes-on next v h f =
+        record {
+          few = omega arith;
+          whole = length-set s i v ∙ w .whole;
+          rest = drop-set-lt n s i v h ∙ w .rest;
+          writes = λ e. goes-on ys n o i s (w .writes (f e .0)) v h (f e .1);
+        }
+
+    pub trying-ends : n ≤ i → Tried ys n o told s
+    trying-ends h = record { rest = w .rest; written = λ e. ends ys n o i s (w .writes e) h }
+
+-- what is told of n samples, and where nothing is, the samples over what was left
+pub tried-or : (ys : List Float) (n : ℕ) (o s : List Float) (told : Bool) → length ys ≡ n → Tried ys n o told s → over ys s ≡ over ys o
+unfolding over
+tried-or ys n o s told l t = rw l (ap (λ (r : List Float). ys ++ r) (t .rest))
 
 -- ---- the samples, place by place, as code reads them
 

@@ -339,6 +339,12 @@ fn fused_finite64(n: u64, p: f64, t: f64) -> f64
     ensures { λ r. ⌜ r ≡ fused binary64 (wide n) p t ⌝ }
 {
     let y = parts64(p);
+    // a block's usual count, whose product is exact
+    if n == 128 {
+        if y.j < 2000 {
+            return (n as f64) * p + t;
+        }
+    }
     let z = parts64(t);
     let m = n * y.m;
     if m == 0 {

@@ -2,7 +2,7 @@
 use mathlib.Core.Path.{_≡_, refl, sym, ap, _∙_, subst}
 use mathlib.Core.Bool.{Bool, true, false, cond, true≢false, false≢true}
 use Prim.Native.Nat.{ℕ, suc, _+_, _-_, _*_, _^_, _≤_, _<_}
-use native.Mathlib.Nat.{le-trans, lt-of-le-of-lt, mul-le-mul-right, mul-lt-mul-of-pos-right, zero-mul, mul-one, mul-pos, mul-comm, mul-assoc, mul-left-comm, mul-right-comm, eq-of-mul-eq-mul-right}
+use native.Mathlib.Nat.{le-trans, lt-of-le-of-lt, mul-le-mul-right, mul-lt-mul-of-pos-right, zero-mul, mul-one, one-mul, mul-pos, mul-comm, mul-assoc, mul-left-comm, mul-right-comm, eq-of-mul-eq-mul-right}
 use native.Mathlib.Omega.{arith}
 use lib.IntN.{ℤ, pos, negsuc, _+ℤ_}
 use lib.Dec.{T, ltb, le→leb, lit≤}
@@ -123,14 +123,15 @@ module _ (f : Format) (s t u : Bool) (A B C D E : ℕ) (P : 0 < D) (Q : 0 < E) (
   unfolding fused
   fused-value = add-value f (unlike s t) u (A * B) C (D * E) (mul-pos P Q) (product x y) z (product-value s t A B D E P Q x y p q) r
 
+  -- a product that is exact
+  pub fused-exact : HasValue (round f (unlike s t) (A * B) (D * E)) (unlike s t) (A * B) (D * E) → add f (mul f x y) z ≡ fused f x y z
+  fused-exact h =
+      add-value f (unlike s t) u (A * B) C (D * E) (mul-pos P Q) (mul f x y) z (subst (λ (v : Float). HasValue v (unlike s t) (A * B) (D * E)) (sym (mul-value s t A B D E P Q f x y p q)) h) r
+      ∙ sym fused-value
+
   -- a product that is zero
   pub fused-zero : A * B ≡ 0 → add f (mul f x y) z ≡ fused f x y z
-  fused-zero h =
-      add-value f (unlike s t) u (A * B) C (D * E) (mul-pos P Q) (mul f x y) z
-      (subst (λ (v : Float). HasValue v (unlike s t) (A * B) (D * E)) (sym (mul-value s t A B D E P Q f x y p q))
-      (subst (λ (i : ℕ). HasValue (round f (unlike s t) i (D * E)) (unlike s t) i (D * E)) (sym h) (round-zero f (unlike s t) (D * E) (mul-pos P Q))))
-      r
-      ∙ sym fused-value
+  fused-zero h = fused-exact (subst (λ (i : ℕ). HasValue (round f (unlike s t) i (D * E)) (unlike s t) i (D * E)) (sym h) (round-zero f (unlike s t) (D * E) (mul-pos P Q)))
 
 -- of numbers taken apart, the first in units of 2 ^ -a, the others of 2 ^ -b
 module _ (f : Format) (s t u : Bool) (l m n i j k a b : ℕ) (x y z : Float) (p : HasValue x s (l * 2 ^ i) (2 ^ a)) (q : HasValue y t (m * 2 ^ j) (2 ^ b)) (r : HasValue z u (n * 2 ^ k) (2 ^ b)) where
@@ -155,6 +156,20 @@ module _ (f : Format) (s t u : Bool) (l m n i j k a b : ℕ) (x y z : Float) (p 
   fused-none h =
       fused-zero f s t u (l * 2 ^ i) (m * 2 ^ j) (n * 2 ^ (k + a)) (2 ^ a) (2 ^ b) (pow-pos a) (pow-pos b) x y z p q third
       (product-is ∙ ap (λ (w : ℕ). w * 2 ^ (i + j)) h ∙ zero-mul (2 ^ (i + j)))
+
+  -- where the first is a power of two, the product is the second, moved
+  pub fused-power : (d : ℕ) → l * 2 ^ i ≡ 2 ^ d → a ≡ 0 → b ≡ low f → m < 2 ^ prec f → m * 2 ^ (d + j) < 2 ^ (low f + suc (emax f)) → add f (mul f x y) z ≡ fused f x y z
+  fused-power d e o w short under =
+      fused-exact f s t u (l * 2 ^ i) (m * 2 ^ j) (n * 2 ^ (k + a)) (2 ^ a) (2 ^ b) (pow-pos a) (pow-pos b) x y z p q third
+      (round-exact f (unlike s t) (l * 2 ^ i * (m * 2 ^ j)) (2 ^ a * 2 ^ b) m (d + j) (mul-pos (pow-pos a) (pow-pos b)) short under
+      (ap (λ (v : ℕ). v * (m * 2 ^ j) * 2 ^ low f) e
+      ∙ moved (2 ^ d) m (2 ^ j) (2 ^ low f)
+      ∙ ap (λ (v : ℕ). m * v * (1 * 2 ^ low f)) (sym (pow-add 2 d j))
+      ∙ ap (λ (v : ℕ). m * 2 ^ (d + j) * (1 * 2 ^ v)) (sym w)
+      ∙ ap (λ (v : ℕ). m * 2 ^ (d + j) * (2 ^ v * 2 ^ b)) (sym o)))
+    where
+      moved : (D m J L : ℕ) → D * (m * J) * L ≡ m * (D * J) * (1 * L)
+      moved D m J L = ap (λ (v : ℕ). v * L) (mul-left-comm D m J) ∙ ap (λ (v : ℕ). m * (D * J) * v) (sym (one-mul L))
 
 -- ---- a whole number as an `f64`, and a product of two numbers' digits
 pub wide-value : (n : ℕ) → n ≤ 2 ^ 53 → HasValue (wide n) false (n * 2 ^ 0) (2 ^ 0)

@@ -18,3 +18,4 @@ pub mod Twice
 pub mod Cut
 pub mod Wide
 pub mod Exact
+pub mod Zero

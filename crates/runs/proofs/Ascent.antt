@@ -271,12 +271,12 @@ module _ (start duration time dt : Float) (fits-start : T (fits binary64 start))
 
   pub all-within : (bx j d : ℕ) → Spans bx (phaseOf start duration time) (at (d + j)) → Within bx (at j)
   all-within bx j d h =
-      let S = plain-is start fits-start (r .start-plain) in
-      let D = plain-is duration fits-duration (r .duration-plain) in
-      let A = plain-is time fits-time (r .time-plain) in
-      let P = plain-is dt fits-dt (r .period-plain) in
-      let some = above-zero duration (D .0) (D .1) (r .some) in
-      let begun : S .0 ≤ A .0 = le-is start time (S .0) (A .0) (S .1) (A .1) (subst T (sym (r .begun)) tt) in
+      let S = plain-is start fits-start (r .steady .start-plain) in
+      let D = plain-is duration fits-duration (r .steady .duration-plain) in
+      let A = plain-is time fits-time (r .started .time-plain) in
+      let P = plain-is dt fits-dt (r .steady .period-plain) in
+      let some = above-zero duration (D .0) (D .1) (r .steady .some) in
+      let begun : S .0 ≤ A .0 = le-is start time (S .0) (A .0) (S .1) (A .1) (subst T (sym (r .started .begun)) tt) in
       go (S .0) (D .0) (A .0) (P .0) (S .1) (D .1) (A .1) (P .1) some begun
     where
       go : (s e a p : ℕ) → Is start s → Is duration e → Is time a → Is dt p → 0 < e → s ≤ a → Within bx (at j)

@@ -246,22 +246,22 @@ module _ (start duration time dt : Float) (fits-start : T (fits binary64 start))
   position j = positionOf (wide top) start duration (at j)
 
   S : (n : ℕ) × Is start n
-  S = plain-is start fits-start (r .start-plain)
+  S = plain-is start fits-start (r .steady .start-plain)
 
   D : (n : ℕ) × Is duration n
-  D = plain-is duration fits-duration (r .duration-plain)
+  D = plain-is duration fits-duration (r .steady .duration-plain)
 
   A : (n : ℕ) × Is time n
-  A = plain-is time fits-time (r .time-plain)
+  A = plain-is time fits-time (r .started .time-plain)
 
   P : (n : ℕ) × Is dt n
-  P = plain-is dt fits-dt (r .period-plain)
+  P = plain-is dt fits-dt (r .steady .period-plain)
 
   some : 0 < D .0
-  some = above-zero duration (D .0) (D .1) (r .some)
+  some = above-zero duration (D .0) (D .1) (r .steady .some)
 
   begun : S .0 ≤ A .0
-  begun = le-is start time (S .0) (A .0) (S .1) (A .1) (subst T (sym (r .begun)) tt)
+  begun = le-is start time (S .0) (A .0) (S .1) (A .1) (subst T (sym (r .started .begun)) tt)
 
   N : Is (wide top) (top * 2 ^ 1074)
   N = wide-is top (le-trans few (lit≤ tt))

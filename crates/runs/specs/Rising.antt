@@ -19,13 +19,21 @@ Is x n = HasValue x false n (2 ^ 1074)
 abbrev pub Plain : Float → Type 0
 Plain x = T (not (isNan x)) × (toBits binary64 x < 2047 * 2 ^ 52)
 
-pub record Rises (start duration time period : Float) : Type 0 where
+-- phases rise with the time
+pub record Steady (start duration period : Float) : Type 0 where
   pub start-plain : Plain start
   pub duration-plain : Plain duration
-  pub time-plain : Plain time
   pub period-plain : Plain period
   pub some : lt plusZero duration ≡ true
+
+pub record Started (start time : Float) : Type 0 where
+  pub time-plain : Plain time
   pub begun : le start time ≡ true
+
+-- and so the phases from this time on rise
+pub record Rises (start duration time period : Float) : Type 0 where
+  pub steady : Steady start duration period
+  pub started : Started start time
 
 -- a pattern from bx on, and one up to 1.0's
 abbrev pub Spans : ℕ → Float → Float → Type 0

@@ -17,7 +17,7 @@ ghost use Rattle.samples.specs.At.{linearAt, exponentialAt, exponentialOver, ta
 ghost use Rattle.decays.specs.Cell.{Grown};
 ghost use Rattle.runs.specs.After.{after};
 ghost use Rattle.runs.specs.Passes.{each, timed, phaseSum, every, noted, begun, heldAt, Ranged};
-ghost use Rattle.runs.specs.Rising.{Plain, Rises, Spans, Between, Climbs, positionOf, atPosition};
+ghost use Rattle.runs.specs.Rising.{Plain, Steady, Started, Rises, Spans, Between, Climbs, positionOf, atPosition};
 
 // A linear ramp's run.
 fn linear_run(
@@ -76,22 +76,46 @@ fn plain(x: f64) -> bool
     false
 }
 
+// Phases at times that rise, rise.
+fn is_steady(start_time: f64, duration: f64, dt: f64) -> bool
+    ensures { λ r. ⌜ (r ≡ true → Steady «start_time» duration dt) ⌝ }
+{
+    if plain(start_time) {
+        if plain(duration) {
+            if plain(dt) {
+                return duration > 0.0;
+            }
+        }
+    }
+    false
+}
+
+// The same of a run of n places; of fewer than sixteen nothing is said.
+fn is_steady_for(n: usize, start_time: f64, duration: f64, dt: f64) -> bool
+    ensures { λ r. ⌜ (r ≡ true → Steady «start_time» duration dt) ⌝ }
+{
+    if n < 16 {
+        return false;
+    }
+    is_steady(start_time, duration, dt)
+}
+
+// The start lies no later than a time.
+fn is_begun(start_time: f64, time: f64) -> bool
+    ensures { λ r. ⌜ (r ≡ true → Started «start_time» time) ⌝ }
+{
+    if plain(time) {
+        return start_time <= time;
+    }
+    false
+}
+
 // Phases from this time on rise.
 fn rises(start_time: f64, duration: f64, time: f64, dt: f64) -> bool
     ensures { λ r. ⌜ (r ≡ true → Rises «start_time» duration time dt) ⌝ }
 {
-    if plain(start_time) {
-        if plain(duration) {
-            if plain(time) {
-                if plain(dt) {
-                    if duration > 0.0 {
-                        if time >= start_time {
-                            return true;
-                        }
-                    }
-                }
-            }
-        }
+    if is_steady(start_time, duration, dt) {
+        return is_begun(start_time, time);
     }
     false
 }
@@ -152,9 +176,10 @@ fn sums_tested(out: &mut [f32], xs: &[f64; 16], c: f64, a: f64, bx: u64)
     }
 }
 
-// Sixteen samples, and the time after them.
+// Sixteen samples, and the time after them. Whether phases rise is tested once a run, but for the time.
 fn linear_sixteen(
     out: &mut [f32],
+    steady: bool,
     start_time: f64,
     duration: f64,
     c: f64,
@@ -164,15 +189,17 @@ fn linear_sixteen(
     dt: f64,
 ) -> f64
     requires { ⌜ T (fits binary32 a) × T (fits binary32 c) × T (finite a) × T (finite c) ⌝ }
-    requires { ⌜ Once a c bx × (length (now out) ≡ 16) ⌝ }
+    requires { ⌜ Once a c bx × (length (now out) ≡ 16) × (steady ≡ true → Steady «start_time» duration dt) ⌝ }
     ensures { λ r. ⌜ (now (out .exit) ≡ run (linearAt «start_time» duration c a) dt 16 time) × (r ≡ after dt 16 time) ⌝ }
 {
     let mut xs = [0.0; 16];
     let next = phases_from(&mut xs, start_time, duration, time, dt);
-    if rises(start_time, duration, time, dt) {
-        if spans(xs[0], xs[15], bx) {
-            sums_within(out, &xs, c, a, bx);
-            return next;
+    if steady {
+        if is_begun(start_time, time) {
+            if spans(xs[0], xs[15], bx) {
+                sums_within(out, &xs, c, a, bx);
+                return next;
+            }
         }
     }
     sums_tested(out, &xs, c, a, bx);
@@ -193,11 +220,22 @@ fn linear_once(
     requires { ⌜ Once a c bx ⌝ }
     ensures { λ r. ⌜ now (out .exit) ≡ run (linearAt «start_time» duration c a) dt (length (now (out .entry))) time ⌝ }
 {
+    let steady = is_steady_for(out.len(), start_time, duration, dt);
     let mut i = 0usize;
     let mut t = time;
     while out.len() - i >= 16 {
         let e = i + 16;
-        t = linear_sixteen(&mut out[i..e], start_time, duration, c, a, bx, t, dt);
+        t = linear_sixteen(
+            &mut out[i..e],
+            steady,
+            start_time,
+            duration,
+            c,
+            a,
+            bx,
+            t,
+            dt,
+        );
         i = e;
     }
     linear_rest(&mut out[i..], start_time, duration, c, a, bx, t, dt);

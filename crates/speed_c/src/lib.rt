@@ -1,7 +1,7 @@
 // Blocks in a loop, for speed/run: the parameter of a state is read once, before the first block. The contract says nothing: it is safe, and ends.
 
-// Blocks one behind the other, `advance` apart, each on the parameter that the last one left, or `again` and again on the parameter as it was: the steps of the last.
-// The block is called from one place, so that the compiler can put it into the loop.
+// Blocks one behind the other, `advance` apart, each on the parameter that the last one left: the steps of the last.
+// The block is called from one place, so that the compiler can put it into the loop, and what it leaves is always taken: a test would cost a copy of the parameter.
 #[no_mangle]
 pub extern "C" fn speed_value(
     state: &[u64],
@@ -9,7 +9,6 @@ pub extern "C" fn speed_value(
     period: f64,
     count: usize,
     advance: f64,
-    again: bool,
     blocks: usize,
     input: &[f32],
     output: &mut [f32],
@@ -23,9 +22,7 @@ pub extern "C" fn speed_value(
     while i < blocks {
         let r = p.process(t, period, count, input, output, store);
         steps = r.steps;
-        if !again {
-            p = r.param;
-        }
+        p = r.param;
         t = t + advance;
         i += 1;
     }

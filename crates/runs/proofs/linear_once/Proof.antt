@@ -12,13 +12,13 @@ use Rattle.runs.proofs.linear_once.Statement.{statement}
 use Rattle.runs.proofs.linear_once.Tie as tie
 
 abbrev Inv-loop : tie.InvT-loop
-Inv-loop out₀ start-time duration «c» a bx time dt i₀ t₀ out i t = Filled (linearAt start-time duration «c» a) dt time out₀ out i t
+Inv-loop out₀ start-time duration «c» a bx time dt steady i₀ t₀ out i t = Filled (linearAt start-time duration «c» a) dt time out₀ out i t
 
 abbrev μ-loop : tie.MeasureT-loop
-μ-loop out₀ start-time duration «c» a bx time dt i₀ t₀ out i t = length out₀ - i
+μ-loop out₀ start-time duration «c» a bx time dt steady i₀ t₀ out i t = length out₀ - i
 
 abbrev start : tie.At-loop Inv-loop μ-loop → tie.Start Inv-loop μ-loop
-start a = a .before .before
+start a = a .before .before .before
 
 abbrev sample : tie.Start Inv-loop μ-loop → Float → Float
 sample s = let a = s .args in linearAt (a .start-time) (a .duration) (a .«c») (a .a)
@@ -30,7 +30,10 @@ sixteen : (i : ℕ) → i + 16 - i ≡ 16
 sixteen i = omega arith
 
 loop-holds : tie.Need-loop-holds Inv-loop μ-loop
-loop-holds c = let a = c .before .args in none-filled (sample (c .before)) (a .dt) (a .time) (a .out .now)
+loop-holds c = let a = c .before .before .args in none-filled (sample (c .before .before)) (a .dt) (a .time) (a .out .now)
+
+is-steady-for-requires : tie.Need-is-steady-for-requires Inv-loop μ-loop
+is-steady-for-requires c κs = search needs
 
 sub-loop : tie.Need-sub-loop Inv-loop μ-loop
 sub-loop c = omega (arith, kept c, c .loop .inv .within)
@@ -54,7 +57,7 @@ linear-sixteen-requires : tie.Need-linear-sixteen-requires Inv-loop μ-loop
 linear-sixteen-requires c κs =
     let i = c .before .before .loop .i in
     let l = c .before .before .loop .out in
-    let s = start (c .before .before) in (s .pre .0, (s .pre .1, mid-len i (i + 16) l (omega (arith, c .before .loop-test .taken)) ∙ sixteen i))
+    let s = start (c .before .before) in (s .pre .0, (s .pre .1, mid-len i (i + 16) l (omega (arith, c .before .loop-test .taken)) ∙ sixteen i, c .before .before .before .is-steady-for .ensures))
 
 loop-less : tie.Need-loop-less Inv-loop μ-loop
 loop-less c = omega (arith, kept (c .before .before .before .before .before), c .before .before .before .before .loop-test .taken)
@@ -100,6 +103,7 @@ linear-once-spec =
     (tie.spec
     Inv-loop
     μ-loop
+    is-steady-for-requires
     loop-holds
     sub-loop
     add-e

@@ -34,7 +34,7 @@ lanes f bx xs e r h i l =
     let a = s .args in
     subst (λ (ys : List Float). Within bx (getD ys i nan)) (sym e)
     (sixteen-within (a .start-time) (a .duration) (a .time) (a .dt)
-    (subst T (sym (s .good .1 .0 .1)) tt) (subst T (sym (s .good .1 .1 .0 .1)) tt) (subst T (sym (s .good .1 .1 .1 .1 .1 .1 .0 .1)) tt) (subst T (sym (s .good .1 .1 .1 .1 .1 .1 .1 .0 .1)) tt)
+    (subst T (sym (s .good .1 .1 .0 .1)) tt) (subst T (sym (s .good .1 .1 .1 .0 .1)) tt) (subst T (sym (s .good .1 .1 .1 .1 .1 .1 .1 .0 .1)) tt) (subst T (sym (s .good .1 .1 .1 .1 .1 .1 .1 .1 .0 .1)) tt)
     r bx (subst (λ (ys : List Float). Spans bx (getD ys 0 nan) (getD ys 15 nan)) e h) i l)
 
 samples : (f : tie.After-phases-from) (xs out : List Float) → xs ≡ ramp f → out ≡ each (phaseSum (start f .args .«c») (start f .args .a)) xs
@@ -47,8 +47,8 @@ samples f xs out e o =
 phases-from-requires : tie.Need-phases-from-requires
 phases-from-requires c κs = search needs
 
-rises-requires : tie.Need-rises-requires
-rises-requires c κs = search needs
+is-begun-requires : tie.Need-is-begun-requires
+is-begun-requires c κs = search needs
 
 array-read-spans : tie.Need-array-read-spans
 array-read-spans c = search needs
@@ -63,23 +63,23 @@ sums-within-requires : tie.Need-sums-within-requires
 sums-within-requires c κs =
     let t = c .before .before in
     let r = t .before .before in
-    let w = r .before in
-    let f = c .before .before .before .before .before .before in
+    let w = r .before .before in
+    let f = w .before in
     let s = start f in
     let e = f .phases-from .ensures .0 in
-    (s .pre .0, (s .pre .1 .0, s .pre .1 .1, sixteen f _ e, lanes f _ _ e (w .rises .ensures (r .if1 .taken)) (t .before .spans .ensures (t .if2 .taken))))
+    (s .pre .0, (s .pre .1 .0, s .pre .1 .1, sixteen f _ e, lanes f _ _ e (record { steady = s .pre .1 .2 (w .if1 .taken); started = r .before .is-begun .ensures (r .if2 .taken) }) (t .before .spans .ensures (t .if3 .taken))))
 
 same-length : tie.Need-same-length
 same-length c = search needs
 
 returns : tie.Need-returns
 returns c =
-    let f = c .before .before .before .before .before .before .before .before .before in
+    let f = c .before .before .before .before .before .before .before .before .before .before in
     (samples f _ _ (f .phases-from .ensures .0) (c .before .before .sums-within .ensures), f .phases-from .ensures .1)
 
 sums-tested-requires : tie.Need-sums-tested-requires
 sums-tested-requires c κs =
-    let f = c .before .before .before .before in
+    let f = c .before .before .before in
     let s = start f in
     (s .pre .0, (s .pre .1 .0, s .pre .1 .1, sixteen f _ (f .phases-from .ensures .0)))
 
@@ -88,7 +88,7 @@ same-length-2 c = search needs
 
 returns-2 : tie.Need-returns-2
 returns-2 c =
-    let f = c .before .before .before .before .before .before .before in
+    let f = c .before .before .before .before .before .before in
     (samples f _ _ (f .phases-from .ensures .0) (c .before .before .sums-tested .ensures), f .phases-from .ensures .1)
 
 pub linear-sixteen-spec : {M : Type 1} → statement M
@@ -96,7 +96,7 @@ linear-sixteen-spec =
     tie.close
     (tie.spec
     phases-from-requires
-    rises-requires
+    is-begun-requires
     array-read-spans
     array-read-spans-2
     spans-requires
