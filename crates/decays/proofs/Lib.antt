@@ -1,4 +1,5 @@
 -- The laws that the proofs of `decays` share. Assumes nothing.
+pub mod Range
 pub mod Window
 pub mod Fits
 pub mod Between

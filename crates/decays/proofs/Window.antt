@@ -1,13 +1,13 @@
 -- r over 2 ^ (32 + w), rounded to an f32, by an estimate e of r: where no midpoint of two f32 is near. Assumes nothing.
 use mathlib.Core.Path.{_≡_, refl, sym, ap, _∙_, subst}
-use mathlib.Core.Logic.{_⊎_, inl, inr}
+use mathlib.Core.Logic.{_⊎_, inr, ⊎-elim}
 use mathlib.Core.Bool.{Bool, false, not}
-use Prim.Native.Nat.{ℕ, suc, _+_, _-_, _*_, _/_, _%_, _^_, _≤_, _<_}
+use Prim.Native.Nat.{ℕ, zero, suc, _+_, _-_, _*_, _/_, _%_, _^_, _≤_, _<_}
 use native.Mathlib.Nat.{add-assoc, mul-assoc, mul-one, zero-add, mul-div-cancel, mul-mod-left, mod-eq-of-lt}
 use native.Mathlib.Omega.{arith}
-use lib.Dec.{T, lit<}
+use lib.Dec.{T, lit<, lit≤}
 use lib.Pow.{pow-add, pow-pos}
-use lib.Ieee.{Float, binary32, binary64, round, ofBits, toBits, nanBits}
+use lib.Ieee.{binary32, binary64, round, ofBits, toBits, nanBits}
 use lib.Ieee.Bits.{toBits-ofBits, nanBits-is}
 use lib.Ieee.Scale.{round-same}
 use lib.Ieee.Nearest.{closest}
@@ -17,8 +17,10 @@ use Rattle.rules.specs.Samples.{decayOf}
 use Rattle.rounding_laws.proofs.Closest.{near-lt}
 use Rattle.rounding_laws.proofs.At.{pack-at, no-nan}
 use Rattle.rounding_laws.specs.Cut.{evenCut}
-use Rattle.rounding_laws.proofs.Cut.{plain-law, even-sum-law, even-nan}
-use Rattle.decays.specs.Told.{Told}
+use Rattle.rounding_laws.proofs.Cut.{plain-law, even-sum-law, even-nan, nan-below}
+use Rattle.rounding_laws.proofs.Powers.{or-less}
+use Rattle.decays.specs.Told.{Told, Steps, Shows, shown, stepsIn}
+use Rattle.decays.proofs.Range.{falling-low, falling-high, falling-set, falling-zero}
 
 -- a multiple rounds to itself
 closest-exact : (n m : ℕ) → 0 < m → closest (n * m) m ≡ n
@@ -94,7 +96,7 @@ near-nan e w h g =
     subst (λ (n : ℕ). T (not (nanBits binary64 n))) (zero-add n) (no-nan binary64 false n (omega arith))
 
 -- the factor after p steps
-pub steps-near : (p e : ℕ) → falling (p % parts) ≤ e → e ≤ falling (p % parts) + 20 → (e + 107) % 256 ≤ 234 → 2147483668 ≤ e → e < 4294967296 → p / parts ≤ 124
+steps-near : (p e : ℕ) → falling (p % parts) ≤ e → e ≤ falling (p % parts) + 20 → (e + 107) % 256 ≤ 234 → 2147483668 ≤ e → e < 4294967296 → p / parts ≤ 124
     → Told (p / parts) ((1021 - p / parts) * 2 ^ 52 + (e + 107) / 256 * 2 ^ 29) (narrowed (decayOf p))
 unfolding decayOf narrowed
 steps-near p e a b c d f g =
@@ -106,7 +108,7 @@ steps-near p e a b c d f g =
     }
 
 -- and by its falling power
-pub steps-even : (p d : ℕ) → d ≡ falling (p % parts) → 2147483648 ≤ d → d < 4294967296 → p / parts ≤ 124 → Told (p / parts) (evenCut ((1021 - p / parts) * 2 ^ 52 + d * 2 ^ 21)) (narrowed (decayOf p))
+steps-even : (p d : ℕ) → d ≡ falling (p % parts) → 2147483648 ≤ d → d < 4294967296 → p / parts ≤ 124 → Told (p / parts) (evenCut ((1021 - p / parts) * 2 ^ 52 + d * 2 ^ 21)) (narrowed (decayOf p))
 unfolding decayOf narrowed
 steps-even p d i l h g =
     let o : suc (31 + p / parts) ≡ 32 + p / parts = omega arith in
@@ -116,5 +118,85 @@ steps-even p d i l h g =
       high = even-at d (p / parts) l h g .1;
     }
 
-pub told-more : (w few n : ℕ) (y : Float) → w ≤ few → Told w n y → Told few n y
-told-more w few n y h t = record { holds = t .holds; low = omega (arith, t .low); high = t .high }
+-- ---- by what b shows
+
+-- 2 ^ 32 over 2 ^ (32 + w) is the f32 2 ^ -w
+rounds-whole : (w : ℕ) → w ≤ 124 → ofBits binary64 ((1023 - w) * 2 ^ 52) ≡ round binary32 false (2 ^ 32) (2 ^ (32 + w))
+rounds-whole zero h = unfold ofBits round in refl
+rounds-whole (suc v) h =
+    let e : (1023 - suc v) * 2 ^ 52 ≡ (1021 - v) * 2 ^ 52 + 2 ^ 23 * 2 ^ 29 = omega arith in
+    let i : 31 + (32 + suc v) ≡ 32 + (32 + v) = omega arith in
+    ap (ofBits binary64) e ∙ rounds (2 ^ 31) v (lit≤ tt) (lit< tt) (omega arith) (2 ^ 23) (lit< tt) (lit< tt)
+    ∙ round-same binary32 false (2 ^ 31) (2 ^ (32 + v)) (2 ^ 32) (2 ^ (32 + suc v)) (pow-pos (32 + v)) (pow-pos (32 + suc v))
+    (sym (pow-add 2 31 (32 + suc v)) ∙ ap (λ (x : ℕ). 2 ^ x) i ∙ pow-add 2 32 (32 + v))
+
+steps-whole : (p : ℕ) → falling (p % parts) ≡ 2 ^ 32 → p / parts ≤ 124 → Told (p / parts) ((1023 - p / parts) * 2 ^ 52) (narrowed (decayOf p))
+unfolding decayOf narrowed
+steps-whole p i g =
+    let o : suc (31 + p / parts) ≡ 32 + p / parts = omega arith in
+    let n = (1023 - p / parts) * 2 ^ 52 in
+    record {
+      holds = (rw (mul-one (falling (p % parts)), o, i) (rounds-whole (p / parts) g), nan-below n (omega arith));
+      low = omega arith;
+      high = omega arith;
+    }
+
+-- the code sums before d is shifted: the cut is the same
+cut-at : (k d : ℕ) → evenCut (k * 2 ^ 52 + d * 2 ^ 21) ≡ k * 2 ^ 52 + (d + 127 + d / 256 % 2) / 256 * 2 ^ 29
+cut-at k d =
+    let p : (k * 2 ^ 52 + d * 2 ^ 21) / 2 ^ 29 % 2 ≡ d / 256 % 2 = omega arith in
+    rw p (go (d / 256 % 2) (omega arith))
+  where
+    go : (p : ℕ) → p < 2
+        → k * 2 ^ 52 + d * 2 ^ 21 + 268435455 + p - (k * 2 ^ 52 + d * 2 ^ 21 + 268435455 + p) % 2 ^ 29 ≡ k * 2 ^ 52 + (d + 127 + p) / 256 * 2 ^ 29
+    go p h = omega arith
+
+module _ (b : ℕ) (s : Steps b) where
+  abbrev p : ℕ
+  p = stepsIn b
+
+  few : p / parts ≤ 124
+  few = omega (arith, s .lo, s .hi)
+
+  pub last-steps : b / 2 ^ 18 % 2 ^ 24 ≡ p % parts
+  last-steps = omega (arith, s .lo, s .hi)
+
+  shown-at : (u : ℕ) → (1021 - p / parts) * 2 ^ 52 + u / 256 * 2 ^ 29 ≡ shown b u
+  shown-at u =
+      let e : 1021 - p / parts ≡ 1083901 - b / 2 ^ 42 = omega (arith, s .lo, s .hi) in
+      ap (λ (k : ℕ). k * 2 ^ 52 + u / 256 * 2 ^ 29) e
+
+  shows : (n u : ℕ) → n ≡ (1021 - p / parts) * 2 ^ 52 + u / 256 * 2 ^ 29 → Told (p / parts) n (narrowed (decayOf p)) → Shows b u
+  shows n u e t = subst (λ (m : ℕ). Told (p / parts) m (narrowed (decayOf p))) (e ∙ shown-at u) t
+
+  shows-whole : (u : ℕ) → u / 256 ≡ 2 ^ 24 → falling (p % parts) ≡ 2 ^ 32 → Shows b u
+  shows-whole u e i = shows ((1023 - p / parts) * 2 ^ 52) u (let f = few in omega arith) (steps-whole p i few)
+
+  -- an estimate of 2 ^ 32 is of 2 ^ 32: no other falling power is near
+  none-near : 4294967276 ≤ falling (p % parts) → falling (p % parts) ≡ 2 ^ 32
+  none-near h = go (p % parts) (omega arith) h
+    where
+      go : (a : ℕ) → a < parts → 4294967276 ≤ falling a → falling a ≡ 2 ^ 32
+      go zero l g = falling-zero
+      go (suc a) l g = absurd (omega (arith, falling-set (suc a) l (λ z. omega arith)))
+
+  pub shows-near : (e : ℕ) → falling (p % parts) ≤ e → e ≤ falling (p % parts) + 20 → e ≤ 2 ^ 32 → (e + 107) % 256 ≤ 234 → Shows b (e + 107)
+  shows-near e l h m c = ⊎-elim whole below (or-less (2 ^ 32) e)
+    where
+      whole : 2 ^ 32 ≤ e → Shows b (e + 107)
+      whole k = shows-whole (e + 107) (omega arith) (none-near (omega arith))
+
+      below : e < 2 ^ 32 → Shows b (e + 107)
+      below k = shows _ (e + 107) refl (steps-near p e l h c (omega (arith, falling-low (p % parts))) k few)
+
+  pub shows-even : (d : ℕ) → d ≡ falling (p % parts) → Shows b (d + 127 + d / 256 % 2)
+  shows-even d i = ⊎-elim whole below (or-less (2 ^ 32) d)
+    where
+      f : falling (p % parts) ≤ 2 ^ 32
+      f = falling-high (p % parts)
+
+      whole : 2 ^ 32 ≤ d → Shows b (d + 127 + d / 256 % 2)
+      whole k = let e : d ≡ 2 ^ 32 = omega (arith, f) in shows-whole (d + 127 + d / 256 % 2) (rw e) (sym i ∙ e)
+
+      below : d < 2 ^ 32 → Shows b (d + 127 + d / 256 % 2)
+      below k = shows _ (d + 127 + d / 256 % 2) (cut-at (1021 - p / parts) d) (steps-even p d i (omega (arith, falling-low (p % parts))) k few)

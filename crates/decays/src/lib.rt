@@ -1,16 +1,15 @@
 // Target and exponential samples by a table: where both ends of its estimate of the falling power round alike, so does the falling power between them.
 ghost use mathlib.Core.Path.{_≡_};
 ghost use mathlib.Core.Logic.{_⊎_};
-ghost use Prim.Native.Nat.{_*_, _/_, _^_, _≤_, _<_};
+ghost use Prim.Native.Nat.{_*_, _/_, _%_, _^_, _≤_, _<_};
 ghost use lib.Dec.{T};
 ghost use lib.Ieee.{binary32, binary64, fits, mul};
 ghost use lib.Ieee.Scale.{finite};
 ghost use Rattle.rules.specs.Numbers.{narrowed, fused};
-ghost use Rattle.rules.specs.Samples.{decayOf, decay, factorOf};
+ghost use Rattle.rules.specs.Samples.{decay, factorOf};
 ghost use Rattle.powers.specs.Estimates.{estimates};
-ghost use Rattle.phases.specs.Patterns.{Holds};
 ghost use Rattle.decays.specs.Cell.{Cell, Grown};
-ghost use Rattle.decays.specs.Told.{Told};
+ghost use Rattle.decays.specs.Told.{Steps, shown, Shows};
 
 // The factor of a target at y.
 fn decay_by(table: &[u32; 768], y: f64) -> f32
@@ -25,57 +24,56 @@ fn decay_by(table: &[u32; 768], y: f64) -> f32
     rounding::norm32(false, d, 331 - p / 16777216)
 }
 
-// The pattern of a target's factor after p steps, or 0 where the falling power has not 32 digits.
-fn decay_exact(table: &[u32; 768], p: u64) -> u64
-    requires { ⌜ (now table ≡ estimates) × (p < 125 * 2 ^ 24) ⌝ }
-    ensures { λ r. ⌜ (r ≡ 0) ⊎ Told (p / 2 ^ 24) r (narrowed (decayOf p)) ⌝ }
+// What shows a target's factor after the steps of b, an `f32` of 24 digits, where its last eight digits are at most 234: else one of the last 20 places up to the estimate may hold a midpoint of two.
+pub fn near_of(table: &[u32; 768], b: u64) -> u64
+    requires { ⌜ (now table ≡ estimates) × Steps b ⌝ }
+    ensures { λ r. ⌜ (r % 256 ≤ 234 → Shows b r) ⌝ }
 {
-    let d = powers::falling_by(table, p % 16777216);
-    if d >= 2147483648 {
-        if d < 4294967296 {
-            let n = (1021 - p / 16777216) * 0x10_0000_0000_0000 + d * 0x20_0000;
-            let r = n + 0xfff_ffff + n / 0x2000_0000 % 2;
-            return r - r % 0x2000_0000;
-        }
-    }
-    0
+    powers::falling_near(table, b / 0x4_0000 % 16777216) + 107
 }
 
-// The pattern of a target's factor at y, or 0 where it is below 2^-(few + 1) or not found at once. The factor is an `f32` of 24 digits, so the estimate tells it unless one of the last 20 places up to it holds a midpoint of two.
-pub fn decay_near(table: &[u32; 768], y: f64, few: u64) -> u64
-    requires { ⌜ (now table ≡ estimates) × (few ≤ 124) ⌝ }
-    ensures { λ r. ⌜ (r ≡ 0) ⊎ Told few r (decay y) ⌝ }
+// What shows it in every case, by the falling power itself.
+pub fn exact_of(table: &[u32; 768], b: u64) -> u64
+    requires { ⌜ (now table ≡ estimates) × Steps b ⌝ }
+    ensures { λ r. ⌜ Shows b r ⌝ }
+{
+    let d = powers::falling_by(table, b / 0x4_0000 % 16777216);
+    d + 127 + d / 256 % 2
+}
+
+// What shows it by the estimate, if that tells.
+fn told_of(table: &[u32; 768], b: u64) -> u64
+    requires { ⌜ (now table ≡ estimates) × Steps b ⌝ }
+    ensures { λ r. ⌜ Shows b r ⌝ }
+{
+    let u = near_of(table, b);
+    if u % 256 <= 234 {
+        return u;
+    }
+    exact_of(table, b)
+}
+
+// The pattern of the factor that u shows.
+pub fn shown_by(b: u64, u: u64) -> u64
+    requires { ⌜ Steps b × (shown b u ≤ 1023 * 2 ^ 52) ⌝ }
+    ensures { λ r. ⌜ r ≡ shown b u ⌝ }
+{
+    (1083901 - b / 0x400_0000_0000) * 0x10_0000_0000_0000 + u / 256 * 0x2000_0000
+}
+
+// A target's factor at y.
+pub fn decay_at(table: &[u32; 768], y: f64) -> f64
+    requires { ⌜ now table ≡ estimates ⌝ }
+    ensures { λ r. ⌜ r ≡ decay y ⌝ }
 {
     if y >= 160.0 {
-        return 0;
+        return 0.0;
     }
     let b = phases::raised(y * 16777216.0);
     if b != 0 {
-        let p = (b - 0x4218_0000_0000_0000) / 0x4_0000;
-        let w = p / 16777216;
-        if w <= few {
-            let e = powers::falling_near(table, p % 16777216);
-            let u = e + 107;
-            if u % 256 <= 234 {
-                if e >= 2147483668 {
-                    if e < 4294967296 {
-                        return (1021 - w) * 0x10_0000_0000_0000 + u / 256 * 0x2000_0000;
-                    }
-                }
-            }
-            return decay_exact(table, p);
+        if b < 0x4219_f400_0000_0000 {
+            return f64::from_bits(shown_by(b, told_of(table, b)));
         }
-    }
-    0
-}
-
-// A target's factor at y, where n is its pattern, or 0 where that is not known.
-pub fn decay_told(table: &[u32; 768], y: f64, n: u64) -> f64
-    requires { ⌜ (now table ≡ estimates) × ((n ≡ 0) ⊎ Holds n (decay y)) ⌝ }
-    ensures { λ r. ⌜ r ≡ decay y ⌝ }
-{
-    if n != 0 {
-        return f64::from_bits(n);
     }
     decay_by(table, y) as f64
 }

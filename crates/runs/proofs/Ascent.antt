@@ -120,7 +120,7 @@ rounded-is a c t = round-val binary64 a c (round-under binary64 a c t)
 pub rounded-mono : (a b d n k : ℕ) → 0 < d → a ≤ b → Is (round binary64 false a d) n → Is (round binary64 false b d) k → n ≤ k
 rounded-mono a b d n k D h v w = le-is (round binary64 false a d) (round binary64 false b d) n k v w (round-mono binary64 a d b d D D (mul-le-mul-right d h))
 
-add-is : (x y : Float) (a b : ℕ) → Is x a → Is y b → add binary64 x y ≡ round binary64 false (a + b) (2 ^ 1074)
+pub add-is : (x y : Float) (a b : ℕ) → Is x a → Is y b → add binary64 x y ≡ round binary64 false (a + b) (2 ^ 1074)
 unfolding sum
 add-is x y a b v w = add-value binary64 false false a b (2 ^ 1074) (pow-pos 1074) x y v w
 

@@ -1,7 +1,7 @@
 -- Times none of which lies before the start; and P of each number. Assumes nothing.
 use mathlib.Core.Path.{_≡_, refl, sym, ap, _∙_}
 use mathlib.Core.Bool.{Bool, true, false, not, _&&_, cond, true≢false}
-use mathlib.Core.List.{List, [], _∷_, _++_}
+use mathlib.Core.List.{List, [], _∷_}
 use Prim.Native.Nat.{ℕ, zero, suc, _<_}
 use native.Mathlib.Nat.{le-of-suc-le-suc}
 use native.Mathlib.Omega.{arith}
@@ -55,17 +55,7 @@ module _ (P : Float → Type 0) where
   every-at (x ∷ xs) e zero h d = e .0
   every-at (x ∷ xs) e (suc i) h d = every-at xs (e .1) i (le-of-suc-le-suc h) d
 
-  pub every-last : (xs : List Float) (v : Float) → every P xs → P v → every P (xs ++ (v ∷ []))
-  unfolding every
-  every-last [] v e p = (p, tt)
-  every-last (x ∷ xs) v e p = (e .0, every-last xs v (e .1) p)
-
   pub every-each : (g : Float → Float) (xs : List Float) → ((x : Float) → P (g x)) → every P (each g xs)
   unfolding every each
   every-each g [] h = tt
   every-each g (x ∷ xs) h = (h x, every-each g xs h)
-
-pub every-map : (P Q : Float → Type 0) (g : Float → Float) (xs : List Float) → ((x : Float) → P (g x) → Q (g x)) → every P (each g xs) → every Q (each g xs)
-unfolding every each
-every-map P Q g [] h e = tt
-every-map P Q g (x ∷ xs) h e = (h x (e .0), every-map P Q g xs h (e .1))

@@ -39,7 +39,7 @@ pub counted : (n : ℕ) → n ≤ 4096 → T (inFloat binary64 (pos n))
 unfolding inFloat
 counted n h = rw (le-leb n (2 ^ 53) (le-trans h (lit≤ tt))) tt
 
-whole-is : (x : Float) (n : ℕ) → Is x n → n / 2 ^ 1074 ≤ 2 ^ 64 - 1 → wholePart x ≡ n / 2 ^ 1074
+pub whole-is : (x : Float) (n : ℕ) → Is x n → n / 2 ^ 1074 ≤ 2 ^ 64 - 1 → wholePart x ≡ n / 2 ^ 1074
 unfolding wholePart toUnsigned
 whole-is nan n v h = absurd v
 whole-is (inf s) n v h = absurd v

@@ -3,6 +3,11 @@ pub mod Ascent
 pub mod Begun
 pub mod Climb
 pub mod Factors
+pub mod Telling
+pub mod Placing
+pub mod Places
+pub mod Later
+pub mod Shown
 pub mod Filling
 pub mod Fine
 pub mod Passing

@@ -1,3 +1,4 @@
 pub mod After
 pub mod Passes
 pub mod Rising
+pub mod Placed

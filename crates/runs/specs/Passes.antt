@@ -1,9 +1,9 @@
 -- What a pass makes of the numbers of the one before.
 use mathlib.Core.Bool.{Bool, true, not, _&&_}
 use mathlib.Core.List.{List, [], _∷_}
-use Prim.Native.Nat.{ℕ, zero, suc, _-_, _*_, _^_, _≤_, _<_}
+use Prim.Native.Nat.{ℕ, zero, suc, _-_, _<_}
 use lib.ListN.{length, getD}
-use lib.Ieee.{Float, nan, binary32, binary64, add, lt, toBits}
+use lib.Ieee.{Float, nan, binary32, binary64, add, lt}
 use Rattle.rules.specs.Numbers.{fused, narrowed}
 use Rattle.rules.specs.Walk.{fromStart}
 
@@ -38,7 +38,3 @@ noted R xs ns = (k : ℕ) → k < length xs → R (getD xs k nan) (getD ns k 0)
 unfoldable pub begun : Float → Float → ℕ → Float → Bool
 begun start period zero t = true
 begun start period (suc n) t = not (lt t start) && begun start period n (add binary64 t period)
-
--- a pattern from that of 2 ^ -(few + 1) up to that of 1
-abbrev pub Ranged : ℕ → Float → Type 0
-Ranged few f = ((1022 - few) * 2 ^ 52 ≤ toBits binary64 f) × (toBits binary64 f ≤ 1023 * 2 ^ 52)

@@ -3,20 +3,22 @@
 ghost use mathlib.Core.Path.{_≡_};
 ghost use mathlib.Core.Bool.{true, not};
 ghost use mathlib.Core.Logic.{_⊎_};
-ghost use Prim.Native.Nat.{ℕ, _-_, _*_, _^_, _≤_, _<_};
+ghost use Prim.Native.Nat.{ℕ, _+_, _-_, _*_, _%_, _^_, _≤_, _<_};
 ghost use lib.Dec.{T};
 ghost use lib.ListN.{length, getD};
-ghost use lib.Ieee.{Float, nan, binary32, binary64, fits, sub, mul, lt, isNan};
+ghost use lib.Ieee.{Float, nan, binary32, binary64, fits, sub, mul, lt, isNan, ofBits};
 ghost use lib.Ieee.Scale.{finite};
-ghost use Rattle.rules.specs.Numbers.{wide, narrowed, run, fused};
+ghost use Rattle.rules.specs.Numbers.{plusZero, wide, narrowed, run, fused};
 ghost use Rattle.rules.specs.Samples.{phaseOf, factorOf, curveSample, log2e, decay};
 ghost use Rattle.rules.specs.Walk.{fromStart};
 ghost use Rattle.powers.specs.Estimates.{estimates};
 ghost use Rattle.phases.specs.Once.{Once, Within, Served};
 ghost use Rattle.samples.specs.At.{linearAt, exponentialAt, exponentialOver, targetAt};
 ghost use Rattle.decays.specs.Cell.{Grown};
+ghost use Rattle.decays.specs.Told.{Steps, shown, Shows};
 ghost use Rattle.runs.specs.After.{after};
-ghost use Rattle.runs.specs.Passes.{each, timed, phaseSum, every, noted, begun, heldAt, Ranged};
+ghost use Rattle.runs.specs.Passes.{each, timed, phaseSum, every, noted, begun, heldAt};
+ghost use Rattle.runs.specs.Placed.{Placed, Stands, Listed, Factor};
 ghost use Rattle.runs.specs.Rising.{Plain, Steady, Started, Rises, Spans, Between, Climbs, positionOf, atPosition};
 
 // A linear ramp's run.
@@ -469,39 +471,19 @@ fn target_run(
     }
 }
 
-// The second pass of a target: the phases become its factors. Whether each is at least 2^-(few + 1).
-fn factors_of(xs: &mut [f64], table: &[u32; 768], few: u64) -> bool
-    requires { ⌜ (now table ≡ estimates) × (few ≤ 124) ⌝ }
-    ensures { λ r. ⌜ (now (xs .exit) ≡ each (λ x. decay (mul binary64 x log2e)) (now (xs .entry))) × (r ≡ true → every (Ranged few) (now (xs .exit))) ⌝ }
+// Where not all steps are seen: the phases become a target's factors, one by one.
+fn factors_of(xs: &mut [f64], table: &[u32; 768])
+    requires { ⌜ now table ≡ estimates ⌝ }
+    ensures { λ r. ⌜ now (xs .exit) ≡ each (λ x. decay (mul binary64 x log2e)) (now (xs .entry)) ⌝ }
 {
-    let mut all = true;
     let mut i = 0usize;
     while i < xs.len() {
-        let y = xs[i] * 1.4426950408889634;
-        let n = decays::decay_near(table, y, few);
-        if n == 0 {
-            all = false;
-        }
-        xs[i] = decays::decay_told(table, y, n);
-        i += 1;
-    }
-    all
-}
-
-// The third pass: each factor's sum, where nothing of it is left to test.
-fn faded_once(out: &mut [f32], fs: &[f64], a: f64, c: f64)
-    requires { ⌜ (length (now out) ≡ length (now fs)) × every (Served a c) (now fs) ⌝ }
-    requires { ⌜ T (fits binary32 a) × T (fits binary32 c) × T (finite a) × T (finite c) ⌝ }
-    ensures { λ r. ⌜ now (out .exit) ≡ each (λ f. fused binary32 a f c) (now (fs .entry)) ⌝ }
-{
-    let mut i = 0usize;
-    while i < out.len() {
-        out[i] = phases::sum_once(a, fs[i], c);
+        xs[i] = decays::decay_at(table, xs[i] * 1.4426950408889634);
         i += 1;
     }
 }
 
-// The third pass for any factors.
+// And the sum with each.
 fn faded_any(out: &mut [f32], fs: &[f64], a: f64, c: f64)
     requires { ⌜ (length (now out) ≡ length (now fs)) × every (λ f. T (fits binary32 f) × T (not (isNan f))) (now fs) ⌝ }
     requires { ⌜ T (fits binary32 a) × T (fits binary32 c) × T (finite a) × T (finite c) ⌝ }
@@ -514,16 +496,7 @@ fn faded_any(out: &mut [f32], fs: &[f64], a: f64, c: f64)
     }
 }
 
-// The last phase, or 0.
-fn last_of(xs: &[f64]) -> f64 {
-    let n = xs.len();
-    if n > 0 {
-        return xs[n - 1];
-    }
-    0.0
-}
-
-// How many times factors may halve: where sums are exact from the exponent's field b on, as often as that allows, if the last phase x lies before (1.5 is more than log2(e)).
+// How many times factors may halve: where sums are exact from the exponent's field b on, as often as that allows, if the phase x lies before (1.5 is more than log2(e)).
 fn few_from(b: u64, x: f64) -> u64
     ensures { λ r. ⌜ r ≤ 124 ⌝ }
 {
@@ -537,24 +510,277 @@ fn few_from(b: u64, x: f64) -> u64
     124
 }
 
-// Both passes at the phases xs: to c, from a more.
+// x, or 0 where it is not below `top`; a NaN is not.
+fn below(x: f64, top: f64) -> f64
+    ensures { λ r. ⌜ ((r ≡ x) × (lt x top ≡ true)) ⊎ (r ≡ plusZero) ⌝ }
+{
+    if x < top {
+        return x;
+    }
+    0.0
+}
+
+// x, or 0 where it is not above 0.
+fn from_zero(x: f64) -> f64
+    ensures { λ r. ⌜ ((r ≡ x) × (lt plusZero x ≡ true)) ⊎ (r ≡ plusZero) ⌝ }
+{
+    if x > 0.0 {
+        return x;
+    }
+    0.0
+}
+
+// The pattern that shows the steps of a target's factor at the phase x, where they are fewer than `top`; else one that ends in 18 zeros.
+fn placed(x: f64, few: u64, top: f64) -> u64
+    requires { ⌜ (few ≤ 124) × (top ≡ wide ((few + 1) * 2 ^ 24)) ⌝ }
+    ensures { λ r. ⌜ (r % 2 ^ 18 ≡ 0) ⊎ Placed few x r ⌝ }
+{
+    let y = x * 1.4426950408889634;
+    let z = from_zero(below(y * 16777216.0, top));
+    f64::to_bits(z + 25769803776.0)
+}
+
+// Sixteen phases placed from the place `at` on, and whether each shows its steps.
+fn places_of(bs: &mut [u64; 128], at: usize, xs: &[f64; 16], few: u64, top: f64) -> bool
+    requires { ⌜ (few ≤ 124) × (top ≡ wide ((few + 1) * 2 ^ 24)) ⌝ }
+    requires { ⌜ (length (now bs) ≡ 128) × (length (now xs) ≡ 16) × (at + 16 ≤ 128) ⌝ }
+    ensures { λ r. ⌜ Stands at (now (bs .entry)) (now (bs .exit)) × (r ≡ true → (k : ℕ) → k < 16 → Placed few (getD (now (xs .entry)) k nan) (getD (now (bs .exit)) (at + k) 0)) ⌝ }
+{
+    let mut all = true;
+    let mut i = 0usize;
+    while i < 16 {
+        let b = placed(xs[i], few, top);
+        if b % 0x4_0000 == 0 {
+            all = false;
+        }
+        bs[at + i] = b;
+        i += 1;
+    }
+    all
+}
+
+// The same of the phases at times, from the place `at` up to n.
+fn places_rest(
+    bs: &mut [u64; 128],
+    at: usize,
+    n: usize,
+    few: u64,
+    top: f64,
+    start_time: f64,
+    duration: f64,
+    time: f64,
+    dt: f64,
+) -> bool
+    requires { ⌜ (few ≤ 124) × (top ≡ wide ((few + 1) * 2 ^ 24)) ⌝ }
+    requires { ⌜ (length (now bs) ≡ 128) × (at ≤ n) × (n ≤ 128) ⌝ }
+    ensures { λ r. ⌜ Stands at (now (bs .entry)) (now (bs .exit)) × (r ≡ true → (k : ℕ) → at + k < n → Placed few (phaseOf «start_time» duration (after dt k time)) (getD (now (bs .exit)) (at + k) 0)) ⌝ }
+{
+    let mut all = true;
+    let mut i = at;
+    let mut t = time;
+    while i < n {
+        let b = placed((t - start_time) / duration, few, top);
+        if b % 0x4_0000 == 0 {
+            all = false;
+        }
+        bs[i] = b;
+        t = t + dt;
+        i += 1;
+    }
+    all
+}
+
+// The first pass of a target: the steps at each time, and whether all are seen.
+fn places_at(
+    bs: &mut [u64; 128],
+    n: usize,
+    few: u64,
+    top: f64,
+    start_time: f64,
+    duration: f64,
+    time: f64,
+    dt: f64,
+) -> bool
+    requires { ⌜ (few ≤ 124) × (top ≡ wide ((few + 1) * 2 ^ 24)) ⌝ }
+    requires { ⌜ (length (now bs) ≡ 128) × (n ≤ 128) ⌝ }
+    ensures { λ r. ⌜ (length (now (bs .exit)) ≡ 128) × (r ≡ true → (k : ℕ) → k < n → Placed few (phaseOf «start_time» duration (after dt k time)) (getD (now (bs .exit)) k 0)) ⌝ }
+{
+    let mut all = true;
+    let mut i = 0usize;
+    let mut t = time;
+    while n - i >= 16 {
+        let mut xs = [0.0; 16];
+        t = phases_from(&mut xs, start_time, duration, t, dt);
+        if !places_of(bs, i, &xs, few, top) {
+            all = false;
+        }
+        i += 16;
+    }
+    if places_rest(bs, i, n, few, top, start_time, duration, t, dt) {
+        return all;
+    }
+    false
+}
+
+// The second pass: what shows each factor but for those in `slow`; how many these are is given back. Nothing is chosen by a branch, which a processor would have to foresee.
+fn tell(
+    us: &mut [u64; 128],
+    slow: &mut [usize; 128],
+    bs: &[u64; 128],
+    n: usize,
+    table: &[u32; 768],
+) -> usize
+    requires { ⌜ (length (now us) ≡ 128) × (length (now slow) ≡ 128) × (length (now bs) ≡ 128) × (n ≤ 128) × (now table ≡ estimates) ⌝ }
+    requires { ⌜ ((k : ℕ) → k < n → Steps (getD (now bs) k 0)) ⌝ }
+    ensures { λ r. ⌜ (length (now (us .exit)) ≡ 128) × (length (now (slow .exit)) ≡ 128) × (r ≤ n) × ((j : ℕ) → j < r → getD (now (slow .exit)) j 0 < n) × ((k : ℕ) → k < n → Shows (getD (now (bs .entry)) k 0) (getD (now (us .exit)) k 0) ⊎ Listed (now (slow .exit)) 0 r k) ⌝ }
+{
+    let mut count = 0usize;
+    let mut i = 0usize;
+    while i < n {
+        let u = decays::near_of(table, bs[i]);
+        slow[count] = i;
+        if u % 256 > 234 {
+            count += 1;
+        }
+        us[i] = u;
+        i += 1;
+    }
+    count
+}
+
+// The third pass: those in `slow` by the falling power itself, one behind the other, so that a processor works at several.
+fn settle(
+    us: &mut [u64; 128],
+    slow: &[usize; 128],
+    count: usize,
+    bs: &[u64; 128],
+    n: usize,
+    table: &[u32; 768],
+)
+    requires { ⌜ (length (now us) ≡ 128) × (length (now slow) ≡ 128) × (length (now bs) ≡ 128) × (n ≤ 128) × (count ≤ n) × (now table ≡ estimates) ⌝ }
+    requires { ⌜ ((k : ℕ) → k < n → Steps (getD (now bs) k 0)) × ((j : ℕ) → j < count → getD (now slow) j 0 < n) × ((k : ℕ) → k < n → Shows (getD (now bs) k 0) (getD (now us) k 0) ⊎ Listed (now slow) 0 count k) ⌝ }
+    ensures { λ r. ⌜ (length (now (us .exit)) ≡ 128) × ((k : ℕ) → k < n → Shows (getD (now (bs .entry)) k 0) (getD (now (us .exit)) k 0)) ⌝ }
+{
+    let mut j = 0usize;
+    while j < count {
+        let i = slow[j];
+        us[i] = decays::exact_of(table, bs[i]);
+        j += 1;
+    }
+}
+
+// The last pass: the sum with each factor that is shown, where nothing of it is left to test.
+fn faded_by(out: &mut [f32], us: &[u64; 128], bs: &[u64; 128], a: f64, c: f64)
+    requires { ⌜ T (fits binary32 a) × T (fits binary32 c) × T (finite a) × T (finite c) ⌝ }
+    requires { ⌜ (length (now out) ≤ 128) × (length (now us) ≡ 128) × (length (now bs) ≡ 128) × ((k : ℕ) → k < length (now out) → Factor (getD (now bs) k 0) (getD (now us) k 0) × Served a c (ofBits binary64 (shown (getD (now bs) k 0) (getD (now us) k 0)))) ⌝ }
+    ensures { λ r. ⌜ ((k : ℕ) → k < length (now (out .entry)) → getD (now (out .exit)) k nan ≡ fused binary32 a (ofBits binary64 (shown (getD (now (bs .entry)) k 0) (getD (now (us .entry)) k 0))) c) ⌝ }
+{
+    let mut i = 0usize;
+    while i < out.len() {
+        let n = decays::shown_by(bs[i], us[i]);
+        out[i] = phases::sum_once(a, f64::from_bits(n), c);
+        i += 1;
+    }
+}
+
+// The last pass for any factors that are shown.
+fn faded_wide(out: &mut [f32], us: &[u64; 128], bs: &[u64; 128], a: f64, c: f64)
+    requires { ⌜ T (fits binary32 a) × T (fits binary32 c) × T (finite a) × T (finite c) ⌝ }
+    requires { ⌜ (length (now out) ≤ 128) × (length (now us) ≡ 128) × (length (now bs) ≡ 128) × ((k : ℕ) → k < length (now out) → Factor (getD (now bs) k 0) (getD (now us) k 0)) ⌝ }
+    ensures { λ r. ⌜ ((k : ℕ) → k < length (now (out .entry)) → getD (now (out .exit)) k nan ≡ fused binary32 a (ofBits binary64 (shown (getD (now (bs .entry)) k 0) (getD (now (us .entry)) k 0))) c) ⌝ }
+{
+    let mut i = 0usize;
+    while i < out.len() {
+        let n = decays::shown_by(bs[i], us[i]);
+        out[i] = rounding::fused_wide(a, f64::from_bits(n), c);
+        i += 1;
+    }
+}
+
+// As many steps as halve a factor `few` times and once more.
+fn steps_of(few: u64) -> f64
+    requires { ⌜ few ≤ 124 ⌝ }
+    ensures { λ r. ⌜ r ≡ wide ((few + 1) * 2 ^ 24) ⌝ }
+{
+    (((few + 1) * 16777216) as i64) as f64
+}
+
+// A target's samples by these passes, where all steps are seen and factors halve `few` times at most; `exact` says that sums are exact down to there.
+fn target_shown(
+    out: &mut [f32],
+    table: &[u32; 768],
+    start_time: f64,
+    constant: f64,
+    c: f64,
+    a: f64,
+    few: u64,
+    exact: bool,
+    time: f64,
+    dt: f64,
+) -> bool
+    requires { ⌜ (length (now out) ≤ 128) × (now table ≡ estimates) × (few ≤ 124) × (exact ≡ true → Once a c ((1022 - few) * 2 ^ 52)) ⌝ }
+    requires { ⌜ T (fits binary32 a) × T (fits binary32 c) × T (finite a) × T (finite c) ⌝ }
+    ensures { λ r. ⌜ (r ≡ true → now (out .exit) ≡ run (targetAt «start_time» constant c a) dt (length (now (out .entry))) time) ⌝ }
+{
+    let n = out.len();
+    let mut bs = [0u64; 128];
+    if !places_at(
+        &mut bs,
+        n,
+        few,
+        steps_of(few),
+        start_time,
+        constant,
+        time,
+        dt,
+    ) {
+        return false;
+    }
+    let mut us = [0u64; 128];
+    let mut slow = [0usize; 128];
+    let count = tell(&mut us, &mut slow, &bs, n, table);
+    settle(&mut us, &slow, count, &bs, n, table);
+    if exact {
+        faded_by(out, &us, &bs, a, c);
+        return true;
+    }
+    faded_wide(out, &us, &bs, a, c);
+    true
+}
+
+// The same from behind the start on. A sample at the start, which shows no steps, is left to the passes below.
+fn target_told(
+    out: &mut [f32],
+    table: &[u32; 768],
+    start_time: f64,
+    constant: f64,
+    c: f64,
+    a: f64,
+    time: f64,
+    dt: f64,
+) -> bool
+    requires { ⌜ (length (now out) ≤ 128) × (now table ≡ estimates) ⌝ }
+    requires { ⌜ T (fits binary32 a) × T (fits binary32 c) × T (finite a) × T (finite c) ⌝ }
+    ensures { λ r. ⌜ (r ≡ true → (v : Float) → now (out .exit) ≡ run (fromStart «start_time» v (targetAt «start_time» constant c a)) dt (length (now (out .entry))) time) ⌝ }
+{
+    let b = phases::once_from(a, c) / 0x10_0000_0000_0000;
+    if rises(start_time, constant, time, dt) {
+        if start_time < time {
+            let few = few_from(b, (time - start_time + dt * 128.0) / constant);
+            let exact = few + b == 1022;
+            return target_shown(out, table, start_time, constant, c, a, few, exact, time, dt);
+        }
+    }
+    false
+}
+
+// Both at the phases xs: to c, from a more.
 fn target_over(out: &mut [f32], xs: &mut [f64], table: &[u32; 768], c: f64, a: f64)
     requires { ⌜ (length (now out) ≡ length (now xs)) × (now table ≡ estimates) ⌝ }
     requires { ⌜ T (fits binary32 a) × T (fits binary32 c) × T (finite a) × T (finite c) ⌝ }
     ensures { λ r. ⌜ now (out .exit) ≡ each (λ x. fused binary32 a (decay (mul binary64 x log2e)) c) (now (xs .entry)) ⌝ }
 {
-    let bx = phases::once_from(a, c);
-    let b = bx / 0x10_0000_0000_0000;
-    let few = few_from(b, last_of(xs));
-    let all = factors_of(xs, table, few);
-    if all {
-        if bx != 0 {
-            if few + b == 1022 {
-                faded_once(out, xs, a, c);
-                return;
-            }
-        }
-    }
+    factors_of(xs, table);
     faded_any(out, xs, a, c);
 }
 
@@ -592,10 +818,13 @@ fn target_finite(
     requires { ⌜ T (fits binary32 a) × T (fits binary32 c) × T (finite a) × T (finite c) ⌝ }
     ensures { λ r. ⌜ now (out .exit) ≡ run (fromStart «start_time» intrinsic (targetAt «start_time» «time_constant» c a)) dt (length (now (out .entry))) time ⌝ }
 {
+    let table = powers::table();
+    if target_told(out, &table, start_time, time_constant, c, a, time, dt) {
+        return;
+    }
     let n = out.len();
     let mut xs = [0.0; 128];
     let begun = phases_of(&mut xs[..n], start_time, time_constant, time, dt);
-    let table = powers::table();
     target_over(out, &mut xs[..n], &table, c, a);
     if begun {
         return;
