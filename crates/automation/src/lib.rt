@@ -381,7 +381,7 @@ fn target_run(
     let end_time = hold_or(ended, infos.next);
     let end_index = samples::end_place_of(infos, end_time);
     let intrinsic = walk.intrinsic;
-    let filled = fills::fill_target(
+    let faded = fills::fill_target(
         infos,
         buffer,
         walk.filled,
@@ -391,10 +391,10 @@ fn target_run(
         from,
         value,
         constant,
+        end_time,
     );
-    let w = walk.with_filled(filled);
-    let diff = from - value;
-    let at_end = fills::target_value(time, intrinsic, constant, value, diff, end_time);
+    let w = walk.with_filled(faded.filled);
+    let at_end = faded.value;
     let MaybeTime::At(_) = ended else {
         return target_left(infos, w, buffer, head, value, at_end);
     };

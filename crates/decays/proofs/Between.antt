@@ -2,13 +2,13 @@
 use mathlib.Core.Path.{_≡_, refl, sym, ap, _∙_, subst}
 use mathlib.Core.Logic.{_⊎_, inl, inr, ⊎-elim}
 use mathlib.Core.Bool.{Bool, true, false, cond, not}
-use Prim.Native.Nat.{ℕ, suc, _+_, _-_, _*_, _/_, _%_, _^_, _≤_, _<_}
-use native.Mathlib.Nat.{le-trans, le-of-eq, lt-of-lt-of-le, lt-of-le-of-lt, lt-irrefl, mod-lt, mul-pos, eq-or-lt-of-le, mul-assoc, mul-comm, mul-left-comm, mul-right-comm, mul-le-mul-right, mul-lt-mul-of-pos-right}
+use Prim.Native.Nat.{ℕ, _+_, _-_, _*_, _/_, _%_, _^_, _≤_, _<_}
+use native.Mathlib.Nat.{le-trans, le-of-eq, lt-of-lt-of-le, lt-of-le-of-lt, lt-irrefl, mod-lt, mul-pos, eq-or-lt-of-le, mul-assoc, mul-right-comm, mul-le-mul-right, mul-lt-mul-of-pos-right}
 use native.Mathlib.Omega.{arith}
 use lib.Dec.{T, leb, lit<}
 use borrow.Author.Tests.{leb-true, leb-false}
 use lib.Pow.{pow-pos, pow-mono}
-use lib.Ieee.{Float, binary64, round, size, ofBits, toBits, isNan, nanBits}
+use lib.Ieee.{binary64, round, size, ofBits, toBits}
 use lib.Ieee.Bits.{toBits-ofBits, toBits-lt, nanBits-is}
 use lib.Ieee.Fits.{round-fits}
 use lib.Ieee.Nearest.{closest, closest-mono}

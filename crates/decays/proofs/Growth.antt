@@ -1,12 +1,12 @@
 -- An exponential sample by an estimate of the falling power in its factor. Assumes nothing.
 use mathlib.Core.Path.{_≡_, refl, sym, ap, _∙_, subst}
-use mathlib.Core.Bool.{Bool, true, false, cond, not, true≢false}
+use mathlib.Core.Bool.{Bool, true, false, not}
 use Prim.Native.Nat.{ℕ, suc, _+_, _-_, _*_, _/_, _%_, _^_, _≤_, _<_}
-use native.Mathlib.Nat.{le-trans, mul-assoc, mul-comm, mul-left-comm, mul-right-comm, mul-pos, mul-le-mul-left, mul-le-mul-right, mod-eq-of-lt, pos-of-ne-zero, zero-add}
+use native.Mathlib.Nat.{le-trans, mul-assoc, mul-comm, mul-left-comm, mul-pos, mul-le-mul-left, mul-le-mul-right, pos-of-ne-zero}
 use native.Mathlib.Omega.{arith}
-use borrow.Author.Tests.{lt-leb, leb-true, leb-false, ltb-true, ltb-false}
+use borrow.Author.Tests.{lt-leb, ltb-true, ltb-false}
 use lib.Dec.{T, leb, ltb, lit≤}
-use lib.IntN.{ℤ, pos, negsuc, subℕ, _+ℤ_}
+use lib.IntN.{ℤ, pos, negsuc, subℕ}
 use lib.Pow.{pow-add, pow-pos}
 use lib.Ieee.{Float, nan, inf, fin, binary64, up, down, unlike, round, mul, ofBits, toBits, nanBits}
 use lib.Ieee.Fits.{down-pos, mul-fits}
@@ -15,7 +15,7 @@ use lib.Ieee.Exact.{HasValue}
 use lib.Ieee.Scale.{finite}
 use Rattle.rules.specs.Numbers.{narrowed}
 use Rattle.rules.specs.Kernels.{parts, falling}
-use Rattle.rules.specs.Samples.{powerOf, power, factorOf}
+use Rattle.rules.specs.Samples.{power, factorOf}
 use Rattle.rounding_laws.proofs.Decode.{normal-value}
 use Rattle.rounding_laws.proofs.Fuse.{rescale}
 use Rattle.phases.proofs.Less.{neg-sub, pos-sub, sub-same, sub-value}

@@ -4,3 +4,5 @@ pub mod Window
 pub mod Fits
 pub mod Between
 pub mod Growth
+pub mod Shown
+pub mod Products

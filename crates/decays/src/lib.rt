@@ -1,14 +1,15 @@
 // Target and exponential samples by a table: where both ends of its estimate of the falling power round alike, so does the falling power between them.
 ghost use mathlib.Core.Path.{_≡_};
 ghost use mathlib.Core.Logic.{_⊎_};
-ghost use Prim.Native.Nat.{_*_, _/_, _%_, _^_, _≤_, _<_};
+ghost use Prim.Native.Nat.{_-_, _*_, _/_, _%_, _^_, _≤_, _<_};
 ghost use lib.Dec.{T};
-ghost use lib.Ieee.{binary32, binary64, fits, mul};
+ghost use lib.Ieee.{Float, binary64, mul, ofBits};
 ghost use lib.Ieee.Scale.{finite};
-ghost use Rattle.rules.specs.Numbers.{narrowed, fused};
+ghost use Rattle.rules.specs.Numbers.{narrowed};
 ghost use Rattle.rules.specs.Samples.{decay, factorOf};
 ghost use Rattle.powers.specs.Estimates.{estimates};
-ghost use Rattle.decays.specs.Cell.{Cell, Grown};
+ghost use Rattle.rounding_laws.specs.Cut.{plainCut};
+ghost use Rattle.decays.specs.Cell.{product, Cell, Lifts, Grown, Middle};
 ghost use Rattle.decays.specs.Told.{Steps, shown, Shows};
 
 // The factor of a target at y.
@@ -121,7 +122,7 @@ fn grown_slow(table: &[u32; 768], from: f64, x: f64) -> f32
 }
 
 // The pattern of an estimate of an exponential's factor for x = L * phase, from above, or 0 where there is none.
-pub fn grown_near(table: &[u32; 768], x: f64) -> u64
+fn grown_near(table: &[u32; 768], x: f64) -> u64
     requires { ⌜ now table ≡ estimates ⌝ }
     ensures { λ r. ⌜ (r ≡ 0) ⊎ Grown x r ⌝ }
 {
@@ -142,7 +143,7 @@ pub fn grown_near(table: &[u32; 768], x: f64) -> u64
 }
 
 // An exponential sample, the start value times the factor for x, narrowed; n is the estimate's pattern, or 0.
-pub fn grown_by(table: &[u32; 768], from: f64, x: f64, n: u64) -> f32
+fn grown_by(table: &[u32; 768], from: f64, x: f64, n: u64) -> f32
     requires { ⌜ (now table ≡ estimates) × T (finite from) × ((n ≡ 0) ⊎ Grown x n) ⌝ }
     ensures { λ r. ⌜ r ≡ narrowed (mul binary64 from (factorOf x)) ⌝ }
 {
@@ -153,4 +154,60 @@ pub fn grown_by(table: &[u32; 768], from: f64, x: f64, n: u64) -> f32
         }
     }
     grown_slow(table, from, x)
+}
+
+// An exponential sample for x.
+pub fn grown_at(table: &[u32; 768], from: f64, x: f64) -> f32
+    requires { ⌜ (now table ≡ estimates) × T (finite from) ⌝ }
+    ensures { λ r. ⌜ r ≡ narrowed (mul binary64 from (factorOf x)) ⌝ }
+{
+    grown_by(table, from, x, grown_near(table, x))
+}
+
+// The pattern of an estimate, from above, of the factor for what b shows.
+pub fn grown_of(table: &[u32; 768], b: u64) -> u64
+    requires { ⌜ (now table ≡ estimates) × (1082820 * 2 ^ 42 ≤ b) × (b < 1082940 * 2 ^ 42) ⌝ }
+    ensures { λ r. ⌜ (963 * 2 ^ 52 ≤ r) × (r ≤ 1083 * 2 ^ 52) × ((b / 2 ^ 18 % 2 ^ 24 ≡ 0 → ⊥) → (x : Float) → Lifts x b → Grown x r) ⌝ }
+{
+    let a = (16777216 - b / 0x4_0000 % 16777216) % 16777216;
+    let e = powers::falling_near(table, a);
+    (b / 0x400_0000_0000 - 1081858) * 0x10_0000_0000_0000 + e * 0x20_0000
+}
+
+// The pattern of a product by what n is the pattern of.
+pub fn product_of(from: f64, n: u64) -> u64
+    requires { ⌜ T (finite from) × (n ≤ 2046 * 2 ^ 52) ⌝ }
+    ensures { λ r. ⌜ r ≡ product from n ⌝ }
+{
+    f64::to_bits(from * f64::from_bits(n))
+}
+
+// That product narrowed, where both are of middle size.
+fn narrowed_of(from: f64, n: u64) -> f32
+    requires { ⌜ Middle from × (963 * 2 ^ 52 ≤ n) × (n ≤ 1083 * 2 ^ 52) ⌝ }
+    ensures { λ r. ⌜ r ≡ narrowed (mul binary64 from (ofBits binary64 n)) ⌝ }
+{
+    let h = product_of(from, n);
+    let r = h + 0xfff_ffff + h / 0x2000_0000 % 2;
+    f64::from_bits(r - r % 0x2000_0000) as f32
+}
+
+// An exponential sample for what b shows, by the falling power itself.
+pub fn grown_exact(table: &[u32; 768], from: f64, b: u64) -> f32
+    requires { ⌜ (now table ≡ estimates) × (1082820 * 2 ^ 42 ≤ b) × (b < 1082940 * 2 ^ 42) × Middle from ⌝ }
+    ensures { λ r. ⌜ ((b / 2 ^ 18 % 2 ^ 24 ≡ 0 → ⊥) → (x : Float) → Lifts x b → r ≡ narrowed (mul binary64 from (factorOf x))) ⌝ }
+{
+    let a = (16777216 - b / 0x4_0000 % 16777216) % 16777216;
+    let d = powers::falling_by(table, a);
+    let n = (b / 0x400_0000_0000 - 1081858) * 0x10_0000_0000_0000 + d * 0x20_0000;
+    narrowed_of(from, n)
+}
+
+// What a product of `from` and a number of such size rounds to, if no midpoint of two `f32` is near.
+pub fn cut_of(from: f64, n: u64, h: u64) -> f32
+    requires { ⌜ Middle from × (963 * 2 ^ 52 ≤ n) × (n ≤ 1083 * 2 ^ 52) × (h ≡ product from n) ⌝ }
+    ensures { λ r. ⌜ r ≡ ofBits binary64 (plainCut h) ⌝ }
+{
+    let r = h + 0x1000_0000;
+    f64::from_bits(r - r % 0x2000_0000) as f32
 }

@@ -12,6 +12,12 @@ use rules::AutomationRate;
 use rules::BlockInfos;
 use rules::Finished;
 
+// What `fill_target` gives back: how many places are filled then, and the target's value at its `end_time`.
+pub struct Faded {
+    pub filled: usize,
+    pub value: f32,
+}
+
 // ---- what the runs share
 
 // Whether a run writes nothing: at K-rate none writes.
@@ -49,14 +55,7 @@ pub fn exponential_value(from: Finished, duration: f64, log: i64, time: f64) -> 
 }
 
 // A target's value at a time; before its start it is the intrinsic one.
-pub fn target_value(
-    start: f64,
-    intrinsic: f32,
-    constant: f64,
-    target: f32,
-    diff: f32,
-    time: f64,
-) -> f32
+fn target_value(start: f64, intrinsic: f32, constant: f64, target: f32, diff: f32, time: f64) -> f32
     ensures { λ r. ⌜ r ≡ fromStart start intrinsic (targetAt start constant target diff) time ⌝ }
 {
     if time < start {
@@ -166,16 +165,18 @@ pub fn fill_target(
     from: f32,
     target: f32,
     constant: f64,
-) -> usize
+    end_time: f64,
+) -> Faded
     requires { ⌜ Room filled to (now buffer) ⌝ }
-    ensures { λ r. ⌜ Filled infos to (fromStart start intrinsic (targetSample from target start constant)) filled (now (buffer .entry)) r (now (buffer .exit)) ⌝ }
+    ensures { λ r. ⌜ Filled infos to (fromStart start intrinsic (targetSample from target start constant)) filled (now (buffer .entry)) (r .filled) (now (buffer .exit)) × (r .value ≡ fromStart start intrinsic (targetSample from target start constant) «end_time») ⌝ }
 {
-    if writes_none(infos, filled, to) {
-        return filled;
-    }
     let diff = from - target;
+    if writes_none(infos, filled, to) {
+        let value = target_value(start, intrinsic, constant, target, diff, end_time);
+        return Faded { filled, value };
+    }
     let time = time_at(infos, filled);
-    runs::compute_set_target_samples(
+    let value = runs::compute_set_target_samples(
         &mut buffer[filled..to],
         start,
         constant,
@@ -184,8 +185,9 @@ pub fn fill_target(
         intrinsic,
         time,
         infos.dt,
+        end_time,
     );
-    to
+    Faded { filled: to, value }
 }
 
 pub fn fill_curve(

@@ -18,6 +18,7 @@ use Rattle.rounding_laws.specs.Parts.{Parted}
 use Rattle.rounding_laws.proofs.Parts.{parted}
 use Rattle.rounding_laws.proofs.Wide.{add-no-nan}
 use Rattle.samples.proofs.Fading.{decay-left}
+use Rattle.phases.specs.Patterns.{Lifted}
 use Rattle.phases.proofs.Quick.{bits, lifts, whole-lifted}
 use Rattle.decays.specs.Told.{stepsIn}
 use Rattle.decays.proofs.Between.{bits-less, bits-small}
@@ -26,13 +27,15 @@ use Rattle.runs.specs.Rising.{Is}
 use Rattle.runs.proofs.Ascent.{le-is, lt-is, add-is}
 use Rattle.runs.proofs.Climb.{whole-is, wide-is}
 
--- ---- a number above 0, and below a finite one
+-- ---- a number above one, and below a finite one
 
-pub above-no-nan : (x : Float) → lt plusZero x ≡ true → T (not (isNan x))
+pub above-no-nan : (low x : Float) → lt low x ≡ true → T (not (isNan x))
 unfolding lt isNan
-above-no-nan nan h = absurd (false≢true h)
-above-no-nan (inf s) h = tt
-above-no-nan (fin s m e) h = tt
+above-no-nan low (inf s) h = tt
+above-no-nan low (fin s m e) h = tt
+above-no-nan nan nan h = absurd (false≢true h)
+above-no-nan (inf s) nan h = absurd (false≢true h)
+above-no-nan (fin s m e) nan h = absurd (false≢true h)
 
 inside-is : (x top : Float) (t : ℕ) → Is top t → T (fits binary64 x) → lt plusZero x ≡ true → lt x top ≡ true → (n : ℕ) × Is x n
 unfolding lt
@@ -86,6 +89,14 @@ module _ (top : Float) (t : ℕ) (w : Is top t) (few : t ≤ 125 * 2 ^ 24 * 2 ^ 
 
 -- ---- the pattern
 
+-- that of a fraction between two numbers lies between theirs
+module _ (num den lo hi : ℕ) (P : 0 < den) (over : lo * den ≤ num * 1) (under : num * 1 ≤ hi * den) (small : toBits binary64 (round binary64 false hi 1) % 2 ^ 63 < 2047 * 2 ^ 52) where
+  pub from-low : toBits binary64 (round binary64 false lo 1) ≤ toBits binary64 (round binary64 false num den)
+  from-low = bits-less false lo 1 num den (lit< tt) P over (bits-small false num den hi 1 P (lit< tt) under small)
+
+  pub to-high : toBits binary64 (round binary64 false num den) ≤ toBits binary64 (round binary64 false hi 1)
+  to-high = bits-less false num den hi 1 P (lit< tt) under small
+
 low-bits : toBits binary64 (round binary64 false (3 * 2 ^ 33) 1) ≡ 2115 * 2 ^ 51
 unfolding round toBits
 low-bits = refl
@@ -121,24 +132,36 @@ module _ (x : Float) (n : ℕ) (v : Is x n) (few : n ≤ 2 ^ 32 * 2 ^ 1074) wher
   top-small = omega (arith, high-bits)
 
   pattern-hi : bits x < 1058 * 2 ^ 52
-  pattern-hi = omega (arith, once, high-bits, bits-less false num (2 ^ 1074) (7 * 2 ^ 32) 1 (pow-pos 1074) (lit< tt) under top-small)
+  pattern-hi = omega (arith, once, high-bits, to-high num (2 ^ 1074) (3 * 2 ^ 33) (7 * 2 ^ 32) (pow-pos 1074) over under top-small)
 
   pattern-lo : 2115 * 2 ^ 51 ≤ bits x
-  pattern-lo = omega (arith, once, low-bits, bits-less false (3 * 2 ^ 33) 1 num (2 ^ 1074) (lit< tt) (pow-pos 1074) over (bits-small false num (2 ^ 1074) (7 * 2 ^ 32) 1 (pow-pos 1074) (lit< tt) under top-small))
+  pattern-lo = omega (arith, once, low-bits, from-low num (2 ^ 1074) (3 * 2 ^ 33) (7 * 2 ^ 32) (pow-pos 1074) over under top-small)
 
 -- what the last 18 digits of a pattern say
-tests : (b : ℕ) → 2115 * 2 ^ 51 ≤ b → b < 1058 * 2 ^ 52 → (b % 2 ^ 18 ≡ 0 → ⊥)
-    → (1057 * 2 ^ 52 < b) × ((b - 1057 * 2 ^ 52) % 2 ^ 18 ≡ 0 → ⊥) × (2 ^ 33 ≤ (b - 1057 * 2 ^ 52) / 2 ^ 18) × ((b - 1057 * 2 ^ 52) / 2 ^ 18 < 2 ^ 34)
-tests b l h n = (omega arith, (λ z. n (omega arith)), omega arith, omega arith)
+pub floor-lifted : (x : Float) → T (not (isNan x)) → 1057 * 2 ^ 52 < bits x → bits x < 1058 * 2 ^ 52 → (bits x % 2 ^ 18 ≡ 0 → ⊥) → Lifted x ((bits x - 1057 * 2 ^ 52) / 2 ^ 18)
+floor-lifted x some l h n = lifts x (record { some = add-no-nan binary64 x (fin false 3 (pos 33)) some tt; lo = l; hi = h; apart = λ z. n (same (bits x) l z) })
+  where
+    same : (b : ℕ) → 1057 * 2 ^ 52 < b → (b - 1057 * 2 ^ 52) % 2 ^ 18 ≡ 0 → b % 2 ^ 18 ≡ 0
+    same b l z = omega arith
+
+pub zero-or : {A : Type 0} (n : ℕ) → ((n ≡ 0 → ⊥) → A) → (n ≡ 0) ⊎ A
+zero-or {A} n f = go (eqb n 0) refl
+  where
+    go : (t : Bool) → eqb n 0 ≡ t → (n ≡ 0) ⊎ A
+    go true e = inl (eqb-true n 0 e)
+    go false e = inr (f (eqb-false n 0 e))
+
+tests : (b : ℕ) → 2115 * 2 ^ 51 ≤ b → b < 1058 * 2 ^ 52 → (1057 * 2 ^ 52 < b) × (2 ^ 33 ≤ (b - 1057 * 2 ^ 52) / 2 ^ 18) × ((b - 1057 * 2 ^ 52) / 2 ^ 18 < 2 ^ 34)
+tests b l h = (omega arith, omega arith, omega arith)
 
 same : (b : ℕ) → 2115 * 2 ^ 51 ≤ b → (b - 2115 * 2 ^ 51) / 2 ^ 18 ≡ (b - 1057 * 2 ^ 52) / 2 ^ 18 - 2 ^ 33
 same b l = omega arith
 
 whole-steps : (x : Float) → T (not (isNan x)) → 2115 * 2 ^ 51 ≤ bits x → bits x < 1058 * 2 ^ 52 → (bits x % 2 ^ 18 ≡ 0 → ⊥) → stepsIn (bits x) ≡ wholePart x
 whole-steps x some l h n =
-    let s = tests (bits x) l h n in
+    let s = tests (bits x) l h in
     same (bits x) l
-    ∙ whole-lifted x ((bits x - 1057 * 2 ^ 52) / 2 ^ 18) (lifts x (record { some = add-no-nan binary64 x (fin false 3 (pos 33)) some tt; lo = s .0; hi = h; apart = s .1 })) (s .2) (s .3)
+    ∙ whole-lifted x ((bits x - 1057 * 2 ^ 52) / 2 ^ 18) (floor-lifted x some (s .0) h n) (s .1) (s .2)
 
 -- ---- the steps at a phase
 
@@ -183,7 +206,7 @@ module _ (few : ℕ) (x : Float) (h : few ≤ 124) where
     shown : (bits v % 2 ^ 18 ≡ 0 → ⊥) → Placed few x (bits v)
     shown apart =
         let l = pattern-lo v n (found .1) fewer in
-        let e = whole-steps v (above-no-nan v lo) l (pattern-hi v n (found .1) fewer) apart in
+        let e = whole-steps v (above-no-nan plusZero v lo) l (pattern-hi v n (found .1) fewer) apart in
         record {
           lo = l;
           hi = small (bits v) l (lt-of-le-of-lt (le-of-eq e) whole-less);
@@ -194,34 +217,32 @@ module _ (few : ℕ) (x : Float) (h : few ≤ 124) where
         small b l h = omega arith
 
     pub placed-at : (bits v % 2 ^ 18 ≡ 0) ⊎ Placed few x (bits v)
-    placed-at = go (eqb (bits v % 2 ^ 18) 0) refl
-      where
-        go : (t : Bool) → eqb (bits v % 2 ^ 18) 0 ≡ t → (bits v % 2 ^ 18 ≡ 0) ⊎ Placed few x (bits v)
-        go true e = inl (eqb-true (bits v % 2 ^ 18) 0 e)
-        go false e = inr (shown (eqb-false (bits v % 2 ^ 18) 0 e))
+    placed-at = zero-or (bits v % 2 ^ 18) shown
 
--- ---- after both tests: what passes the first is u, what passes the second z
+-- ---- after two tests: what passes the first is u, what passes the second z
 
-abbrev Kept : Float → Float → Type 0
-Kept u z = ((z ≡ u) × (lt plusZero u ≡ true)) ⊎ (z ≡ plusZero)
+abbrev pub Below : Float → Float → Float → Type 0
+Below top v u = ((u ≡ v) × (lt v top ≡ true)) ⊎ (u ≡ plusZero)
 
-pub kept-no-nan : (u z : Float) → Kept u z → T (not (isNan (add binary64 z (fin false 3 (pos 33)))))
+abbrev pub Above : Float → Float → Float → Type 0
+Above low u z = ((z ≡ u) × (lt low u ≡ true)) ⊎ (z ≡ plusZero)
+
+-- R of 0, and of a number that passes both
+pub kept : (R : Float → Type 0) (low top v u z : Float) → R plusZero → (lt low v ≡ true → lt v top ≡ true → R v) → Below top v u → Above low u z → R z
+kept R low top v u z none some a b =
+    ⊎-elim
+    (λ p. ⊎-elim
+    (λ q. subst R (sym (p .0 ∙ q .0)) (some (ap (lt low) (sym (q .0)) ∙ p .1) (q .1)))
+    (λ e. subst R (sym (p .0 ∙ e)) none) a)
+    (λ e. subst R (sym e) none) b
+
+pub kept-no-nan : (low u z : Float) → Above low u z → T (not (isNan (add binary64 z (fin false 3 (pos 33)))))
 unfolding isNan
-kept-no-nan u z k =
+kept-no-nan low u z k =
     add-no-nan binary64 z (fin false 3 (pos 33))
-    (⊎-elim (λ p. subst (λ (w : Float). T (not (isNan w))) (sym (p .0)) (above-no-nan u (p .1))) (λ e. subst (λ (w : Float). T (not (isNan w))) (sym e) tt) k) tt
+    (⊎-elim (λ p. subst (λ (w : Float). T (not (isNan w))) (sym (p .0)) (above-no-nan low u (p .1))) (λ e. subst (λ (w : Float). T (not (isNan w))) (sym e) tt) k) tt
 
-module _ (few : ℕ) (x top u z : Float) (h : few ≤ 124) (is : top ≡ wide ((few + 1) * 2 ^ 24)) where
-  abbrev Good : Float → Type 0
-  Good w = (bits w % 2 ^ 18 ≡ 0) ⊎ Placed few x (bits w)
-
-  none : (w : Float) → w ≡ plusZero → Good w
-  none w e = inl (ap (λ (a : Float). bits a % 2 ^ 18) e ∙ zero-bits)
-
-  pub kept-placed : ((u ≡ steps (mul binary64 x log2e)) × (lt (steps (mul binary64 x log2e)) top ≡ true)) ⊎ (u ≡ plusZero) → Kept u z → Good z
-  kept-placed a b =
-      ⊎-elim
-      (λ p. ⊎-elim
-      (λ q. subst Good (sym (p .0 ∙ q .0)) (placed-at few x h (ap (lt plusZero) (sym (q .0)) ∙ p .1) (ap (lt (steps (mul binary64 x log2e))) (sym is) ∙ q .1)))
-      (λ e. none z (p .0 ∙ e)) a)
-      (none z) b
+pub kept-placed : (few : ℕ) (x top u z : Float) → few ≤ 124 → top ≡ wide ((few + 1) * 2 ^ 24) → Below top (steps (mul binary64 x log2e)) u → Above plusZero u z → (bits z % 2 ^ 18 ≡ 0) ⊎ Placed few x (bits z)
+kept-placed few x top u z h is =
+    let v = steps (mul binary64 x log2e) in
+    kept (λ (w : Float). (bits w % 2 ^ 18 ≡ 0) ⊎ Placed few x (bits w)) plusZero top v u z (inl zero-bits) (λ l t. placed-at few x h l (ap (lt v) (sym is) ∙ t))

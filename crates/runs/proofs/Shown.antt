@@ -1,15 +1,11 @@
 -- A target's factors as the passes show them: what sums ask of them, and that they are the factors. Assumes nothing.
 use mathlib.Core.Path.{_≡_, sym, _∙_, subst}
-use mathlib.Core.Logic.{⊎-elim}
 use mathlib.Core.Bool.{Bool, not}
-use mathlib.Core.List.{List}
 use Prim.Native.Nat.{ℕ, _+_, _-_, _*_, _/_, _%_, _^_, _≤_, _<_}
-use native.Mathlib.Nat.{le-trans, eq-or-lt-of-le}
+use native.Mathlib.Nat.{le-trans}
 use native.Mathlib.Omega.{arith}
 use lib.Dec.{T, lit≤}
-use lib.ListN.{length, getD, set}
-use lib.Seq.{getD-set-same, getD-set-other}
-use lib.Ieee.{Float, nan, binary32, binary64, fits, isNan, mul, ofBits, toBits, nanBits}
+use lib.Ieee.{Float, binary32, binary64, fits, isNan, mul, ofBits, toBits, nanBits}
 use lib.Ieee.Bits.{toBits-ofBits, nanBits-is}
 use Rattle.rules.specs.Samples.{log2e, decay}
 use Rattle.phases.specs.Once.{Once, Served}
@@ -58,15 +54,3 @@ shown-nan {b} {u} f = small-nan (shown b u) (le-trans (f .most) (lit≤ tt))
 
 pub no-nan : {b u : ℕ} → Factor b u → T (not (isNan (ofBits binary64 (shown b u))))
 no-nan {b} {u} f = subst (λ (t : Bool). T (not t)) (nanBits-is binary64 (shown b u)) (shown-nan f)
-
--- ---- one place more of a list of sums
-
-pub one-summed : (sum : ℕ → Float) (out : List Float) (i : ℕ) (v : Float) → i < length out → v ≡ sum i → ((k : ℕ) → k < i → getD out k nan ≡ sum k) → (k : ℕ) → k < i + 1 → getD (set out i v) k nan ≡ sum k
-one-summed sum out i v l e h k g =
-    ⊎-elim
-    (λ (q : k ≡ i). subst (λ (n : ℕ). getD (set out i v) n nan ≡ sum n) (sym q) (getD-set-same out i v nan l ∙ e))
-    (λ (q : k < i). getD-set-other out i k v nan (λ e. omega arith) ∙ h k q)
-    (eq-or-lt-of-le (upto k i g))
-  where
-    upto : (k i : ℕ) → k < i + 1 → k ≤ i
-    upto k i h = omega arith

@@ -1,9 +1,8 @@
 -- What a pass makes of the numbers of the one before.
 use mathlib.Core.Bool.{Bool, true, not, _&&_}
 use mathlib.Core.List.{List, [], _∷_}
-use Prim.Native.Nat.{ℕ, zero, suc, _-_, _<_}
-use lib.ListN.{length, getD}
-use lib.Ieee.{Float, nan, binary32, binary64, add, lt}
+use Prim.Native.Nat.{ℕ, zero, suc, _-_}
+use lib.Ieee.{Float, binary32, binary64, add, lt}
 use Rattle.rules.specs.Numbers.{fused, narrowed}
 use Rattle.rules.specs.Walk.{fromStart}
 
@@ -29,10 +28,6 @@ heldAt start intrinsic time x = fromStart start intrinsic (λ t. x) time
 unfoldable pub every : (Float → Type 0) → List Float → Type 0
 every P [] = Unit {0}
 every P (x ∷ xs) = P x × every P xs
-
--- R of each number and what was noted for it
-abbrev pub noted : (Float → ℕ → Type 0) → List Float → List ℕ → Type 0
-noted R xs ns = (k : ℕ) → k < length xs → R (getD xs k nan) (getD ns k 0)
 
 -- whether none of n times lies before the start: the first is t, each next one a period later
 unfoldable pub begun : Float → Float → ℕ → Float → Bool

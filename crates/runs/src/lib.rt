@@ -3,22 +3,22 @@
 ghost use mathlib.Core.Path.{_≡_};
 ghost use mathlib.Core.Bool.{true, not};
 ghost use mathlib.Core.Logic.{_⊎_};
-ghost use Prim.Native.Nat.{ℕ, _+_, _-_, _*_, _%_, _^_, _≤_, _<_};
+ghost use Prim.Native.Nat.{ℕ, _+_, _-_, _*_, _/_, _%_, _^_, _≤_, _<_};
 ghost use lib.Dec.{T};
 ghost use lib.ListN.{length, getD};
 ghost use lib.Ieee.{Float, nan, binary32, binary64, fits, sub, mul, lt, isNan, ofBits};
 ghost use lib.Ieee.Scale.{finite};
-ghost use Rattle.rules.specs.Numbers.{plusZero, wide, narrowed, run, fused};
-ghost use Rattle.rules.specs.Samples.{phaseOf, factorOf, curveSample, log2e, decay};
+ghost use Rattle.rules.specs.Numbers.{plusZero, wide, run, fused};
+ghost use Rattle.rules.specs.Samples.{phaseOf, curveSample, log2e, decay};
 ghost use Rattle.rules.specs.Walk.{fromStart};
 ghost use Rattle.powers.specs.Estimates.{estimates};
 ghost use Rattle.phases.specs.Once.{Once, Within, Served};
 ghost use Rattle.samples.specs.At.{linearAt, exponentialAt, exponentialOver, targetAt};
-ghost use Rattle.decays.specs.Cell.{Grown};
+ghost use Rattle.decays.specs.Cell.{Lifts, Middle};
 ghost use Rattle.decays.specs.Told.{Steps, shown, Shows};
 ghost use Rattle.runs.specs.After.{after};
-ghost use Rattle.runs.specs.Passes.{each, timed, phaseSum, every, noted, begun, heldAt};
-ghost use Rattle.runs.specs.Placed.{Placed, Stands, Listed, Factor};
+ghost use Rattle.runs.specs.Passes.{each, timed, phaseSum, every, begun, heldAt};
+ghost use Rattle.runs.specs.Placed.{Placed, Stands, Listed, Factor, InLifts, InGrown, Grows, Celled, Ordered, OneCell, Grew};
 ghost use Rattle.runs.specs.Rising.{Plain, Steady, Started, Rises, Spans, Between, Climbs, positionOf, atPosition};
 
 // A linear ramp's run.
@@ -327,31 +327,284 @@ fn exponential_run(
     }
 }
 
-// The second pass of an exponential ramp: the estimate of each phase's factor.
-fn growths_of(ns: &mut [u64], xs: &[f64], table: &[u32; 768], l: f64)
-    requires { ⌜ (length (now ns) ≡ length (now xs)) × (now table ≡ estimates) ⌝ }
-    ensures { λ r. ⌜ noted (λ x n. (n ≡ 0) ⊎ Grown (mul binary64 l x) n) (now (xs .entry)) (now (ns .exit)) ⌝ }
+// x, or 0 where it is not below `top`; a NaN is not.
+fn below(x: f64, top: f64) -> f64
+    ensures { λ r. ⌜ ((r ≡ x) × (lt x top ≡ true)) ⊎ (r ≡ plusZero) ⌝ }
 {
-    let mut i = 0usize;
-    while i < ns.len() {
-        ns[i] = decays::grown_near(table, l * xs[i]);
-        i += 1;
+    if x < top {
+        return x;
     }
+    0.0
 }
 
-// The third pass: from a finite value, by the estimates ns at the phases xs.
-fn exponential_over(out: &mut [f32], xs: &[f64], ns: &[u64], table: &[u32; 768], from: f64, l: f64)
-    requires { ⌜ (length (now out) ≡ length (now xs)) × (length (now ns) ≡ length (now xs)) × (now table ≡ estimates) × T (finite from) ⌝ }
-    requires { ⌜ noted (λ x n. (n ≡ 0) ⊎ Grown (mul binary64 l x) n) (now xs) (now ns) ⌝ }
-    ensures { λ r. ⌜ now (out .exit) ≡ each (λ x. narrowed (mul binary64 from (factorOf (mul binary64 l x)))) (now (xs .entry)) ⌝ }
+// x, or 0 where it is not above `low`.
+fn above(x: f64, low: f64) -> f64
+    ensures { λ r. ⌜ ((r ≡ x) × (lt low x ≡ true)) ⊎ (r ≡ plusZero) ⌝ }
+{
+    if x > low {
+        return x;
+    }
+    0.0
+}
+
+// The pattern that shows the floor of x, where x is less than 60 * 2^24 - 1 from 0; else one that ends in 18 zeros.
+fn lifted_at(x: f64) -> u64
+    ensures { λ r. ⌜ (1082820 * 2 ^ 42 ≤ r) × (r < 1082940 * 2 ^ 42) × ((r % 2 ^ 18 ≡ 0) ⊎ Lifts x r) ⌝ }
+{
+    let z = above(below(x, 1006632959.0), -1006632959.0);
+    f64::to_bits(z + 25769803776.0)
+}
+
+// Sixteen phases' x = L * phase from the place `at` on, and whether each is seen.
+fn lifts_of(bs: &mut [u64; 128], at: usize, xs: &[f64; 16], l: f64) -> bool
+    requires { ⌜ (length (now bs) ≡ 128) × (length (now xs) ≡ 16) × (at + 16 ≤ 128) ⌝ }
+    ensures { λ r. ⌜ Stands at (now (bs .entry)) (now (bs .exit)) × ((k : ℕ) → k < 16 → InLifts (getD (now (bs .exit)) (at + k) 0)) × (r ≡ true → (k : ℕ) → k < 16 → Lifts (mul binary64 l (getD (now (xs .entry)) k nan)) (getD (now (bs .exit)) (at + k) 0)) ⌝ }
+{
+    let mut all = true;
+    let mut i = 0usize;
+    while i < 16 {
+        let b = lifted_at(l * xs[i]);
+        if b % 0x4_0000 == 0 {
+            all = false;
+        }
+        bs[at + i] = b;
+        i += 1;
+    }
+    all
+}
+
+// The same at times, from the place `at` up to n.
+fn lifts_rest(
+    bs: &mut [u64; 128],
+    at: usize,
+    n: usize,
+    l: f64,
+    start_time: f64,
+    duration: f64,
+    time: f64,
+    dt: f64,
+) -> bool
+    requires { ⌜ (length (now bs) ≡ 128) × (at ≤ n) × (n ≤ 128) ⌝ }
+    ensures { λ r. ⌜ Stands at (now (bs .entry)) (now (bs .exit)) × ((k : ℕ) → at + k < n → InLifts (getD (now (bs .exit)) (at + k) 0)) × (r ≡ true → (k : ℕ) → at + k < n → Lifts (mul binary64 l (phaseOf «start_time» duration (after dt k time))) (getD (now (bs .exit)) (at + k) 0)) ⌝ }
+{
+    let mut all = true;
+    let mut i = at;
+    let mut t = time;
+    while i < n {
+        let b = lifted_at(l * ((t - start_time) / duration));
+        if b % 0x4_0000 == 0 {
+            all = false;
+        }
+        bs[i] = b;
+        t = t + dt;
+        i += 1;
+    }
+    all
+}
+
+// The first pass of an exponential ramp: x at each time, and whether all are seen.
+fn lifts_at(
+    bs: &mut [u64; 128],
+    n: usize,
+    l: f64,
+    start_time: f64,
+    duration: f64,
+    time: f64,
+    dt: f64,
+) -> bool
+    requires { ⌜ (length (now bs) ≡ 128) × (n ≤ 128) ⌝ }
+    ensures { λ r. ⌜ (length (now (bs .exit)) ≡ 128) × ((k : ℕ) → k < n → InLifts (getD (now (bs .exit)) k 0)) × (r ≡ true → (k : ℕ) → k < n → Lifts (mul binary64 l (phaseOf «start_time» duration (after dt k time))) (getD (now (bs .exit)) k 0)) ⌝ }
+{
+    let mut all = true;
+    let mut i = 0usize;
+    let mut t = time;
+    while n - i >= 16 {
+        let mut xs = [0.0; 16];
+        t = phases_from(&mut xs, start_time, duration, t, dt);
+        if !lifts_of(bs, i, &xs, l) {
+            all = false;
+        }
+        i += 16;
+    }
+    if lifts_rest(bs, i, n, l, start_time, duration, t, dt) {
+        return all;
+    }
+    false
+}
+
+// The second pass: the estimate of each factor, and whether each tells.
+fn growths_by(ns: &mut [u64; 128], bs: &[u64; 128], n: usize, table: &[u32; 768]) -> bool
+    requires { ⌜ (length (now ns) ≡ 128) × (length (now bs) ≡ 128) × (n ≤ 128) × (now table ≡ estimates) ⌝ }
+    requires { ⌜ ((k : ℕ) → k < n → InLifts (getD (now bs) k 0)) ⌝ }
+    ensures { λ r. ⌜ (length (now (ns .exit)) ≡ 128) × ((k : ℕ) → k < n → InGrown (getD (now (ns .exit)) k 0)) × (r ≡ true → (k : ℕ) → k < n → Grows (getD (now (bs .entry)) k 0) (getD (now (ns .exit)) k 0)) ⌝ }
+{
+    let mut all = true;
+    let mut i = 0usize;
+    while i < n {
+        let b = bs[i];
+        if b / 0x4_0000 % 16777216 == 0 {
+            all = false;
+        }
+        ns[i] = decays::grown_of(table, b);
+        i += 1;
+    }
+    all
+}
+
+// The third pass: the products by the estimates and by what lies 20 * 2^21 below, and what the higher ones round to.
+fn cells_of(out: &mut [f32], hs: &mut [u64; 128], ls: &mut [u64; 128], ns: &[u64; 128], from: f64)
+    requires { ⌜ (length (now out) ≤ 128) × (length (now hs) ≡ 128) × (length (now ls) ≡ 128) × (length (now ns) ≡ 128) × Middle from ⌝ }
+    requires { ⌜ ((k : ℕ) → k < length (now out) → InGrown (getD (now ns) k 0)) ⌝ }
+    ensures { λ r. ⌜ (length (now (hs .exit)) ≡ 128) × (length (now (ls .exit)) ≡ 128) × ((k : ℕ) → k < length (now (out .entry)) → Celled «from» (getD (now (ns .entry)) k 0) (getD (now (hs .exit)) k 0) (getD (now (ls .exit)) k 0) (getD (now (out .exit)) k nan)) ⌝ }
 {
     let mut i = 0usize;
     while i < out.len() {
-        out[i] = decays::grown_by(table, from, l * xs[i], ns[i]);
+        let n = ns[i];
+        let high = decays::product_of(from, n);
+        hs[i] = high;
+        ls[i] = decays::product_of(from, n - 0x280_0000);
+        out[i] = decays::cut_of(from, n, high);
         i += 1;
     }
 }
 
+// Those between whose two products a midpoint of two `f32` may lie go into `slow`; how many these are is given back.
+fn unsure_of(slow: &mut [usize; 128], hs: &[u64; 128], ls: &[u64; 128], n: usize) -> usize
+    requires { ⌜ (length (now slow) ≡ 128) × (length (now hs) ≡ 128) × (length (now ls) ≡ 128) × (n ≤ 128) ⌝ }
+    requires { ⌜ ((k : ℕ) → k < n → Ordered (getD (now hs) k 0) (getD (now ls) k 0)) ⌝ }
+    ensures { λ r. ⌜ (length (now (slow .exit)) ≡ 128) × (r ≤ n) × ((j : ℕ) → j < r → getD (now (slow .exit)) j 0 < n) × ((k : ℕ) → k < n → OneCell (getD (now (hs .entry)) k 0) (getD (now (ls .entry)) k 0) ⊎ Listed (now (slow .exit)) 0 r k) ⌝ }
+{
+    let mut count = 0usize;
+    let mut i = 0usize;
+    while i < n {
+        let high = hs[i];
+        slow[count] = i;
+        if (high + 0x1000_0000) % 0x2000_0000 <= high - ls[i] {
+            count += 1;
+        }
+        i += 1;
+    }
+    count
+}
+
+// The last pass: those by the falling power itself.
+fn grown_settle(
+    out: &mut [f32],
+    slow: &[usize; 128],
+    count: usize,
+    bs: &[u64; 128],
+    table: &[u32; 768],
+    from: f64,
+)
+    requires { ⌜ (length (now out) ≤ 128) × (length (now slow) ≡ 128) × (length (now bs) ≡ 128) × (count ≤ length (now out)) × (now table ≡ estimates) × Middle from ⌝ }
+    requires { ⌜ ((k : ℕ) → k < length (now out) → InLifts (getD (now bs) k 0) × (getD (now bs) k 0 / 2 ^ 18 % 2 ^ 24 ≡ 0 → ⊥)) × ((j : ℕ) → j < count → getD (now slow) j 0 < length (now out)) × ((k : ℕ) → k < length (now out) → Grew «from» (getD (now bs) k 0) (getD (now out) k nan) ⊎ Listed (now slow) 0 count k) ⌝ }
+    ensures { λ r. ⌜ ((k : ℕ) → k < length (now (out .entry)) → Grew «from» (getD (now (bs .entry)) k 0) (getD (now (out .exit)) k nan)) ⌝ }
+{
+    let mut j = 0usize;
+    while j < count {
+        let i = slow[j];
+        out[i] = decays::grown_exact(table, from, bs[i]);
+        j += 1;
+    }
+}
+
+// Whether a start value's size is from 2^-60 to 2^60.
+fn is_middle(from: f64) -> bool
+    requires { ⌜ T (finite from) ⌝ }
+    ensures { λ r. ⌜ (r ≡ true → Middle «from») ⌝ }
+{
+    let m = f64::to_bits(from) % 0x8000_0000_0000_0000;
+    if m >= 0x3c30_0000_0000_0000 {
+        if m <= 0x43b0_0000_0000_0000 {
+            return true;
+        }
+    }
+    false
+}
+
+// An exponential ramp's run by these passes, where all is seen.
+fn exponential_told(
+    out: &mut [f32],
+    table: &[u32; 768],
+    start_time: f64,
+    duration: f64,
+    from: f64,
+    l: f64,
+    time: f64,
+    dt: f64,
+) -> bool
+    requires { ⌜ (length (now out) ≤ 128) × (now table ≡ estimates) × T (finite from) ⌝ }
+    ensures { λ r. ⌜ (r ≡ true → now (out .exit) ≡ run (exponentialOver «start_time» duration «from» l) dt (length (now (out .entry))) time) ⌝ }
+{
+    let n = out.len();
+    let mut bs = [0u64; 128];
+    if !is_middle(from) {
+        return false;
+    }
+    if !lifts_at(&mut bs, n, l, start_time, duration, time, dt) {
+        return false;
+    }
+    let mut ns = [0u64; 128];
+    if !growths_by(&mut ns, &bs, n, table) {
+        return false;
+    }
+    let mut hs = [0u64; 128];
+    let mut ls = [0u64; 128];
+    cells_of(out, &mut hs, &mut ls, &ns, from);
+    let mut slow = [0usize; 128];
+    let count = unsure_of(&mut slow, &hs, &ls, n);
+    grown_settle(out, &slow, count, &bs, table, from);
+    true
+}
+
+// Where not all is seen: each sample by itself.
+fn exponential_each(
+    out: &mut [f32],
+    table: &[u32; 768],
+    start_time: f64,
+    duration: f64,
+    from: f64,
+    l: f64,
+    time: f64,
+    dt: f64,
+)
+    requires { ⌜ (now table ≡ estimates) × T (finite from) ⌝ }
+    ensures { λ r. ⌜ now (out .exit) ≡ run (exponentialOver «start_time» duration «from» l) dt (length (now (out .entry))) time ⌝ }
+{
+    let mut i = 0usize;
+    let mut t = time;
+    while i < out.len() {
+        out[i] = decays::grown_at(table, from, l * ((t - start_time) / duration));
+        t = t + dt;
+        i += 1;
+    }
+}
+
+// By these passes, which are not worth their arrays for a few samples, or else each sample by itself.
+fn exponential_rest(
+    out: &mut [f32],
+    table: &[u32; 768],
+    start_time: f64,
+    duration: f64,
+    from: f64,
+    l: f64,
+    time: f64,
+    dt: f64,
+)
+    requires { ⌜ (length (now out) ≤ 128) × (now table ≡ estimates) × T (finite from) ⌝ }
+    ensures { λ r. ⌜ now (out .exit) ≡ run (exponentialOver «start_time» duration «from» l) dt (length (now (out .entry))) time ⌝ }
+{
+    if out.len() < 16 {
+        exponential_each(out, table, start_time, duration, from, l, time, dt);
+        return;
+    }
+    if exponential_told(out, table, start_time, duration, from, l, time, dt) {
+        return;
+    }
+    exponential_each(out, table, start_time, duration, from, l, time, dt);
+}
+
+// A sample at the start itself, whose x is 0 and shows nothing, is taken alone.
 fn exponential_finite(
     out: &mut [f32],
     start_time: f64,
@@ -362,15 +615,27 @@ fn exponential_finite(
     dt: f64,
 )
     requires { ⌜ (length (now out) ≤ 128) × T (finite from) ⌝ }
-    ensures { λ r. ⌜ now (out .exit) ≡ run (exponentialOver «start_time» duration from l) dt (length (now (out .entry))) time ⌝ }
+    ensures { λ r. ⌜ now (out .exit) ≡ run (exponentialOver «start_time» duration «from» l) dt (length (now (out .entry))) time ⌝ }
 {
-    let n = out.len();
-    let mut xs = [0.0; 128];
-    phases_of(&mut xs[..n], start_time, duration, time, dt);
     let table = powers::table();
-    let mut ns = [0u64; 128];
-    growths_of(&mut ns[..n], &xs[..n], &table, l);
-    exponential_over(out, &xs[..n], &ns[..n], &table, from, l);
+    if out.len() > 0 {
+        if time == start_time {
+            out[0] = decays::grown_at(&table, from, l * ((time - start_time) / duration));
+            let next = time + dt;
+            exponential_rest(
+                &mut out[1..],
+                &table,
+                start_time,
+                duration,
+                from,
+                l,
+                next,
+                dt,
+            );
+            return;
+        }
+    }
+    exponential_rest(out, &table, start_time, duration, from, l, time, dt);
 }
 
 // The time 128 places on.
@@ -508,16 +773,6 @@ fn few_from(b: u64, x: f64) -> u64
         }
     }
     124
-}
-
-// x, or 0 where it is not below `top`; a NaN is not.
-fn below(x: f64, top: f64) -> f64
-    ensures { λ r. ⌜ ((r ≡ x) × (lt x top ≡ true)) ⊎ (r ≡ plusZero) ⌝ }
-{
-    if x < top {
-        return x;
-    }
-    0.0
 }
 
 // x, or 0 where it is not above 0.
@@ -709,7 +964,7 @@ fn steps_of(few: u64) -> f64
 fn target_shown(
     out: &mut [f32],
     table: &[u32; 768],
-    start_time: f64,
+    start: f64,
     constant: f64,
     c: f64,
     a: f64,
@@ -720,20 +975,11 @@ fn target_shown(
 ) -> bool
     requires { ⌜ (length (now out) ≤ 128) × (now table ≡ estimates) × (few ≤ 124) × (exact ≡ true → Once a c ((1022 - few) * 2 ^ 52)) ⌝ }
     requires { ⌜ T (fits binary32 a) × T (fits binary32 c) × T (finite a) × T (finite c) ⌝ }
-    ensures { λ r. ⌜ (r ≡ true → now (out .exit) ≡ run (targetAt «start_time» constant c a) dt (length (now (out .entry))) time) ⌝ }
+    ensures { λ r. ⌜ (r ≡ true → now (out .exit) ≡ run (targetAt start constant c a) dt (length (now (out .entry))) time) ⌝ }
 {
     let n = out.len();
     let mut bs = [0u64; 128];
-    if !places_at(
-        &mut bs,
-        n,
-        few,
-        steps_of(few),
-        start_time,
-        constant,
-        time,
-        dt,
-    ) {
+    if !places_at(&mut bs, n, few, steps_of(few), start, constant, time, dt) {
         return false;
     }
     let mut us = [0u64; 128];
@@ -748,7 +994,7 @@ fn target_shown(
     true
 }
 
-// The same from behind the start on. A sample at the start, which shows no steps, is left to the passes below.
+// The same from behind the start on, for sixteen samples at least. A sample at the start, which shows no steps, is left to the passes below.
 fn target_told(
     out: &mut [f32],
     table: &[u32; 768],
@@ -764,11 +1010,13 @@ fn target_told(
     ensures { λ r. ⌜ (r ≡ true → (v : Float) → now (out .exit) ≡ run (fromStart «start_time» v (targetAt «start_time» constant c a)) dt (length (now (out .entry))) time) ⌝ }
 {
     let b = phases::once_from(a, c) / 0x10_0000_0000_0000;
-    if rises(start_time, constant, time, dt) {
-        if start_time < time {
-            let few = few_from(b, (time - start_time + dt * 128.0) / constant);
-            let exact = few + b == 1022;
-            return target_shown(out, table, start_time, constant, c, a, few, exact, time, dt);
+    if is_steady_for(out.len(), start_time, constant, dt) {
+        if is_begun(start_time, time) {
+            if start_time < time {
+                let few = few_from(b, (time - start_time + dt * 128.0) / constant);
+                let exact = few + b == 1022;
+                return target_shown(out, table, start_time, constant, c, a, few, exact, time, dt);
+            }
         }
     }
     false
@@ -804,6 +1052,29 @@ fn hold_before(out: &mut [f32], start_time: f64, intrinsic: f32, time: f64, dt: 
     }
 }
 
+// A target's value at a time by the table, or the intrinsic value before the start.
+fn target_by(
+    table: &[u32; 768],
+    start_time: f64,
+    constant: f64,
+    c: f64,
+    a: f64,
+    intrinsic: f32,
+    time: f64,
+) -> f32
+    requires { ⌜ now table ≡ estimates ⌝ }
+    requires { ⌜ T (fits binary32 a) × T (fits binary32 c) × T (finite a) × T (finite c) ⌝ }
+    ensures { λ r. ⌜ r ≡ fromStart «start_time» intrinsic (targetAt «start_time» constant c a) time ⌝ }
+{
+    if time < start_time {
+        return intrinsic;
+    }
+    let x = (time - start_time) / constant;
+    let f = decays::decay_at(table, x * 1.4426950408889634);
+    rounding::fused_wide(a, f, c)
+}
+
+// A target's run of up to 128 places, and its value at `end_time`.
 fn target_finite(
     out: &mut [f32],
     start_time: f64,
@@ -813,23 +1084,26 @@ fn target_finite(
     intrinsic: f32,
     time: f64,
     dt: f64,
-)
+    end_time: f64,
+) -> f32
     requires { ⌜ length (now out) ≤ 128 ⌝ }
     requires { ⌜ T (fits binary32 a) × T (fits binary32 c) × T (finite a) × T (finite c) ⌝ }
-    ensures { λ r. ⌜ now (out .exit) ≡ run (fromStart «start_time» intrinsic (targetAt «start_time» «time_constant» c a)) dt (length (now (out .entry))) time ⌝ }
+    ensures { λ r. ⌜ (now (out .exit) ≡ run (fromStart «start_time» intrinsic (targetAt «start_time» «time_constant» c a)) dt (length (now (out .entry))) time) × (r ≡ fromStart «start_time» intrinsic (targetAt «start_time» «time_constant» c a) «end_time») ⌝ }
 {
     let table = powers::table();
+    let value = target_by(&table, start_time, time_constant, c, a, intrinsic, end_time);
     if target_told(out, &table, start_time, time_constant, c, a, time, dt) {
-        return;
+        return value;
     }
     let n = out.len();
     let mut xs = [0.0; 128];
     let begun = phases_of(&mut xs[..n], start_time, time_constant, time, dt);
     target_over(out, &mut xs[..n], &table, c, a);
     if begun {
-        return;
+        return value;
     }
     hold_before(out, start_time, intrinsic, time, dt);
+    value
 }
 
 // By parts, as those of an exponential ramp.
@@ -842,52 +1116,46 @@ fn target_parts(
     intrinsic: f32,
     time: f64,
     dt: f64,
-)
+    end: f64,
+) -> f32
     requires { ⌜ T (fits binary32 a) × T (fits binary32 c) × T (finite a) × T (finite c) ⌝ }
-    ensures { λ r. ⌜ now (out .exit) ≡ run (fromStart start intrinsic (targetAt start constant c a)) dt (length (now (out .entry))) time ⌝ }
+    ensures { λ r. ⌜ (now (out .exit) ≡ run (fromStart start intrinsic (targetAt start constant c a)) dt (length (now (out .entry))) time) × (r ≡ fromStart start intrinsic (targetAt start constant c a) end) ⌝ }
 {
     let mut i = 0usize;
     let mut t = time;
     while out.len() - i > 128 {
         let e = i + 128;
         let next = part_later(t, dt);
-        target_finite(&mut out[i..e], start, constant, c, a, intrinsic, t, dt);
+        target_finite(&mut out[i..e], start, constant, c, a, intrinsic, t, dt, end);
         t = next;
         i = e;
     }
-    target_finite(&mut out[i..], start, constant, c, a, intrinsic, t, dt);
+    target_finite(&mut out[i..], start, constant, c, a, intrinsic, t, dt, end)
 }
 
+// A target's run, and its value at `end`: the table is at hand for both.
 pub fn compute_set_target_samples(
     out: &mut [f32],
-    start_time: f64,
-    time_constant: f64,
-    end_value: f32,
+    start: f64,
+    constant: f64,
+    target: f32,
     diff: f32,
     intrinsic: f32,
     time: f64,
     dt: f64,
-)
-    ensures { λ r. ⌜ now (out .exit) ≡ run (fromStart «start_time» intrinsic (targetAt «start_time» «time_constant» «end_value» diff)) dt (length (now (out .entry))) time ⌝ }
+    end: f64,
+) -> f32
+    ensures { λ r. ⌜ (now (out .exit) ≡ run (fromStart start intrinsic (targetAt start constant target diff)) dt (length (now (out .entry))) time) × (r ≡ fromStart start intrinsic (targetAt start constant target diff) end) ⌝ }
 {
-    if floats::is_finite32(end_value) {
+    if floats::is_finite32(target) {
         if floats::is_finite32(diff) {
-            let c = end_value as f64;
+            let c = target as f64;
             let a = diff as f64;
-            target_parts(out, start_time, time_constant, c, a, intrinsic, time, dt);
-            return;
+            return target_parts(out, start, constant, c, a, intrinsic, time, dt, end);
         }
     }
-    target_run(
-        out,
-        start_time,
-        time_constant,
-        end_value,
-        diff,
-        intrinsic,
-        time,
-        dt,
-    );
+    target_run(out, start, constant, target, diff, intrinsic, time, dt);
+    target_from(start, constant, target, diff, intrinsic, end)
 }
 
 // A curve's sample, or the intrinsic value before the start.

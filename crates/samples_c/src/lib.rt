@@ -66,6 +66,7 @@ pub extern "C" fn samples_target(
         intrinsic,
         time,
         dt,
+        time,
     );
 }
 

@@ -1,7 +1,6 @@
 -- `target_run` meets its contract: it ends, snaps or stays. Assumes nothing.
 use Rattle.rules.specs.Samples.{targetSample}
 use Rattle.rules.specs.Walk.{fromStart}
-use Rattle.samples.specs.At.{targetAt}
 use Rattle.automation.proofs.Bodies.{ready-room, filled-at, Targeted, target-ends, target-leaves}
 use borrow.Author.Needs.{needs}
 use Rattle.automation.proofs.target_run.Statement.{statement}
@@ -24,9 +23,9 @@ module _ (k : tie.After-with-filled) where
       (k .before .before .before .fill-target .last .1 .0)
   targets =
       record {
-        n = k .before .before .before .fill-target .result;
+        n = k .before .before .before .fill-target .result .filled;
         end-is = k .before .before .before .before .before .before .hold-or .ensures;
-        filled = filled-at (k .before .before .before .before .before .end-place-of .ensures) (k .before .before .before .fill-target .ensures);
+        filled = filled-at (k .before .before .before .before .before .end-place-of .ensures) (k .before .before .before .fill-target .ensures .0);
         walk-is = k .with-filled .ensures;
       }
 
@@ -42,9 +41,6 @@ fill-target-requires c κs = ready-room (c .before .before .before .before .pre)
 with-filled-requires : tie.Need-with-filled-requires
 with-filled-requires c κs = search needs
 
-target-value-requires : tie.Need-target-value-requires
-target-value-requires c κs = search needs
-
 enum-told : tie.Need-enum-told
 enum-told c = search needs
 
@@ -52,24 +48,26 @@ enum-told-2 : tie.Need-enum-told-2
 enum-told-2 c = search needs
 
 target-left-requires : tie.Need-target-left-requires
-target-left-requires c κs = rw (c .before .before .before .before .with-filled .ensures) (c .before .before .before .before .before .before .before .fill-target .ensures .small)
+target-left-requires c κs = rw (c .before .before .before .with-filled .ensures) (c .before .before .before .before .before .before .fill-target .ensures .0 .small)
 
 same-length : tie.Need-same-length
 same-length c = search needs
 
 returns : tie.Need-returns
-unfolding targetSample targetAt
-returns c = target-leaves (targets (c .before .before .before .before .before .before .before)) (c .before .before .before .before .before .before .target-value .ensures) (c .before .before .before .before .enum-told2 .given .1) _ _ (c .before .before .target-left .ensures)
+returns c =
+    let k = c .before .before .before .before .before .before in
+    target-leaves (targets k) (k .before .before .before .fill-target .ensures .1) (c .before .before .before .before .enum-told2 .given .1) _ _ (c .before .before .target-left .ensures)
 
 consume-requires : tie.Need-consume-requires
-consume-requires c κs = rw (c .before .before .before .with-filled .ensures) (start (c .before .before .before) .pre .finished)
+consume-requires c κs = rw (c .before .before .with-filled .ensures) (start (c .before .before) .pre .finished)
 
 same-length-2 : tie.Need-same-length-2
 same-length-2 c = search needs
 
 returns-2 : tie.Need-returns-2
-unfolding targetSample targetAt
-returns-2 c = rw (c .consume .ensures) (target-ends (targets (c .before .before .before .before)) (c .before .before .before .target-value .ensures) (c .before .enum-told .given .1) _ _)
+returns-2 c =
+    let k = c .before .before .before in
+    rw (c .consume .ensures) (target-ends (targets k) (k .before .before .before .fill-target .ensures .1) (c .before .enum-told .given .1) _ _)
 
 pub target-run-spec : {M : Type 1} → statement M
 target-run-spec =
@@ -79,7 +77,6 @@ target-run-spec =
     end-place-of-requires
     fill-target-requires
     with-filled-requires
-    target-value-requires
     enum-told
     enum-told-2
     target-left-requires

@@ -9,8 +9,14 @@ use Rattle.fills.proofs.fill_target.Tie as tie
 writes-none-requires : tie.Need-writes-none-requires
 writes-none-requires c κs = search needs
 
+target-value-requires : tie.Need-target-value-requires
+target-value-requires c κs = search needs
+
 returns : tie.Need-returns
-returns c = none (c .before .before .before .args .infos) (c .before .before .before .pre) (c .before .writes-none .ensures) (c .if1 .taken)
+unfolding targetSample targetAt
+returns c =
+    let s = c .before .before .before .before in
+    (none (s .args .infos) (s .pre) (c .before .before .writes-none .ensures) (c .before .if1 .taken), c .target-value .ensures)
 
 time-at-requires : tie.Need-time-at-requires
 time-at-requires c κs = search needs
@@ -36,13 +42,17 @@ same-length c = search needs
 returns-2 : tie.Need-returns-2
 unfolding targetSample targetAt
 returns-2 c =
-    lent (c .before .before .before .before .before .before .before .before .args .infos) (c .before .before .before .before .before .before .before .before .pre) (c .before .before .before .before .before .before .writes-none .ensures) (c .before .before .before .before .before .if1 .left) (c .before .before .before .before .time-at .ensures) (c .before .before .compute-set-target-samples .ensures)
+    let p = c .before .before .before .before in
+    let r = c .before .before .compute-set-target-samples .ensures in
+    let s = p .before .before .before .before in
+    (lent (s .args .infos) (s .pre) (p .before .before .writes-none .ensures) (p .before .if1 .left) (p .time-at .ensures) (r .0), r .1)
 
 pub fill-target-spec : {M : Type 1} → statement M
 fill-target-spec =
     tie.close
     (tie.spec
     writes-none-requires
+    target-value-requires
     returns
     time-at-requires
     mul-compute-set-target-samples

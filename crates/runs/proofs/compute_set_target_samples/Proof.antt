@@ -1,6 +1,6 @@
 -- `runs::compute_set_target_samples` meets its contract. Assumes nothing.
 use borrow.Author.Needs.{needs}
-use mathlib.Core.Path.{_≡_, sym, _∙_, subst}
+use mathlib.Core.Path.{sym, _∙_, subst}
 use lib.Dec.{T}
 use Rattle.floats.proofs.Compared.{finite-held}
 use Rattle.runs.proofs.Fine.{Fine, asked}
@@ -8,7 +8,7 @@ use Rattle.runs.proofs.compute_set_target_samples.Statement.{statement}
 use Rattle.runs.proofs.compute_set_target_samples.Tie as tie
 
 -- both values are finite there
-fine : (t : tie.Then2) → Fine (t .before .before .before .before .before .args .end-value) (t .before .before .before .before .before .args .diff)
+fine : (t : tie.Then2) → Fine (t .before .before .before .before .before .args .target) (t .before .before .before .before .before .args .diff)
 fine t =
     let s = t .before .before .before .before .before in
     record {
@@ -42,6 +42,9 @@ returns c = search needs
 target-run-requires : tie.Need-target-run-requires
 target-run-requires c κs = search needs
 
+target-from-requires : tie.Need-target-from-requires
+target-from-requires c κs = search needs
+
 same-length-2 : tie.Need-same-length-2
 same-length-2 c = search needs
 
@@ -60,5 +63,6 @@ compute-set-target-samples-spec =
     same-length
     returns
     target-run-requires
+    target-from-requires
     same-length-2
     returns-2)

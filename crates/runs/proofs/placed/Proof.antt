@@ -1,6 +1,7 @@
 -- `runs::placed` meets its contract. Assumes nothing.
 use borrow.Author.Needs.{needs}
 use lib.Ieee.{ofBits}
+use Rattle.rules.specs.Numbers.{plusZero}
 use Rattle.runs.proofs.Placing.{kept-no-nan, kept-placed}
 use Rattle.runs.proofs.placed.Statement.{statement}
 use Rattle.runs.proofs.placed.Tie as tie
@@ -13,7 +14,7 @@ from-zero-requires c κs = search needs
 
 float-to-bits-result : tie.Need-float-to-bits-result
 unfolding ofBits
-float-to-bits-result c = kept-no-nan (c .before .below .result) (c .from-zero .result) (c .from-zero .ensures)
+float-to-bits-result c = kept-no-nan plusZero (c .before .below .result) (c .from-zero .result) (c .from-zero .ensures)
 
 returns : tie.Need-returns
 unfolding ofBits

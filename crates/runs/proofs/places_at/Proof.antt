@@ -1,21 +1,20 @@
 -- `runs::places_at` meets its contract. Assumes nothing.
 use borrow.Author.Tests.{not-false}
-use mathlib.Core.Path.{_≡_, refl, sym, _∙_, subst}
+use mathlib.Core.Path.{_≡_, refl, sym, _∙_}
 use mathlib.Core.Logic.{inl, inr}
 use mathlib.Core.Bool.{true, true≢false}
 use Prim.Native.Nat.{ℕ, _+_, _-_, _≤_, _<_}
 use native.Mathlib.Omega.{arith}
 use lib.ListN.{length, getD}
-use lib.Ieee.{Float}
 use Rattle.rules.specs.Samples.{phaseOf}
 use Rattle.runs.specs.After.{after}
 use Rattle.runs.specs.Placed.{Placed}
-use Rattle.runs.proofs.Places.{Timed, run-long, run-there, after-on, timed-on, some-seen}
+use Rattle.runs.proofs.Places.{Timed, run-long, after-on, timed-on, timed-there, some-seen}
 use Rattle.runs.proofs.places_at.Statement.{statement}
 use Rattle.runs.proofs.places_at.Tie as tie
 
 abbrev Inv-loop : tie.InvT-loop
-Inv-loop bs₀ n few top start-time duration time dt all₀ i₀ t₀ bs all i t = (length bs ≡ 128) × (i ≤ n) × (t ≡ after dt i time) × (all ≡ true → (k : ℕ) → k < i → Timed few start-time duration dt time k (getD bs k 0))
+Inv-loop bs₀ n few top start-time duration time dt all₀ i₀ t₀ bs all i t = (length bs ≡ 128) × (i ≤ n) × (t ≡ after dt i time) × (all ≡ true → (k : ℕ) → k < i → Timed (Placed few) start-time duration dt time k (getD bs k 0))
 
 abbrev μ-loop : tie.MeasureT-loop
 μ-loop bs₀ n few top start-time duration time dt all₀ i₀ t₀ bs all i t = n - i
@@ -62,7 +61,7 @@ loop-again c =
     let r = c .before .places-of .ensures in
     let bs = c .before .places-of .last .0 in
     let p = c .before .before .before .before .phases-from in
-    let P = Timed (x .few) (x .start-time) (x .duration) (x .dt) (x .time) in (
+    let P = Timed (Placed (x .few)) (x .start-time) (x .duration) (x .dt) (x .time) in (
       r .0 .0 ∙ l .inv .0,
       room k,
       p .ensures .1 ∙ after-on (x .dt) (x .time) (l .i) 16 (l .t) (l .inv .2),
@@ -73,8 +72,7 @@ loop-again c =
                 some-seen P (l .i) (l .i + 16) (l .bs) bs (l .inv .3 (sym (w .1) ∙ t)) (r .0)
                 (λ j h.
                 let few : j < 16 = omega arith in
-                timed-on (x .few) (x .start-time) (x .duration) (x .dt) (x .time) (l .i) j (l .t) (getD bs (l .i + j) 0) (l .inv .2)
-                (subst (λ (u : Float). Placed (x .few) u (getD bs (l .i + j) 0)) (run-there (phaseOf (x .start-time) (x .duration)) (x .dt) 16 (l .t) (p .last .0) (p .ensures .0) j few) (r .1 (not-false _ (w .0 .left)) j few)))
+                timed-there (Placed (x .few)) (x .start-time) (x .duration) (x .dt) (x .time) (l .i) 16 j (l .t) (p .last .0) (getD bs (l .i + j) 0) (l .inv .2) (p .ensures .0) few (r .1 (not-false _ (w .0 .left)) j few))
           ],
     )
 
@@ -92,8 +90,8 @@ returns c =
     let bs = c .before .places-rest .last .0 in (
       r .0 .0 ∙ l .inv .0,
       λ e.
-          some-seen (Timed (x .few) (x .start-time) (x .duration) (x .dt) (x .time)) (l .i) (x .n) (l .bs) bs (l .inv .3 e) (r .0)
-          (λ j h. timed-on (x .few) (x .start-time) (x .duration) (x .dt) (x .time) (l .i) j (l .t) (getD bs (l .i + j) 0) (l .inv .2) (r .1 (c .if2 .taken) j h)),
+          some-seen (Timed (Placed (x .few)) (x .start-time) (x .duration) (x .dt) (x .time)) (l .i) (x .n) (l .bs) bs (l .inv .3 e) (r .0)
+          (λ j h. timed-on (Placed (x .few)) (x .start-time) (x .duration) (x .dt) (x .time) (l .i) j (l .t) (getD bs (l .i + j) 0) (l .inv .2) (r .1 (c .if2 .taken) j h)),
     )
 
 returns-2 : tie.Need-returns-2 Inv-loop μ-loop

@@ -2,7 +2,7 @@
 use borrow.Author.Needs.{needs}
 use mathlib.Core.Path.{_≡_, refl, sym, _∙_}
 use mathlib.Core.Logic.{inl, inr}
-use mathlib.Core.Bool.{true, true≢false}
+use mathlib.Core.Bool.{true≢false}
 use mathlib.Core.List.{List}
 use Prim.Native.Nat.{ℕ, _+_, _-_, _%_, _≤_, _<_}
 use native.Mathlib.Omega.{arith}
@@ -10,7 +10,7 @@ use lib.ListN.{length, getD}
 use lib.Ieee.{Float, nan}
 use Rattle.phases.proofs.Seen.{seen}
 use Rattle.runs.specs.Placed.{Placed, Stands}
-use Rattle.runs.proofs.Places.{Seen, none-seen, one-seen, set-stands}
+use Rattle.runs.proofs.Places.{Seen, none-yet, one-seen, set-stands}
 use Rattle.runs.proofs.places_of.Statement.{statement}
 use Rattle.runs.proofs.places_of.Tie as tie
 
@@ -25,7 +25,7 @@ abbrev μ-loop : tie.MeasureT-loop
 μ-loop bs₀ at xs few top all₀ i₀ bs all i = 16 - i
 
 loop-holds : tie.Need-loop-holds Inv-loop μ-loop
-loop-holds c = ((refl, λ k h. refl), omega arith, none-seen (At (c .args .few) (c .args .xs .now)) (c .args .at) (c .args .bs .now) true)
+loop-holds c = ((refl, λ k h. refl), omega arith, λ t. none-yet (At (c .args .few) (c .args .xs .now)) (c .args .at) (c .args .bs .now))
 
 mul-placed : tie.Need-mul-placed Inv-loop μ-loop
 mul-placed c = search needs

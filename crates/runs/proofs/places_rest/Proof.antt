@@ -16,7 +16,7 @@ use Rattle.runs.proofs.places_rest.Statement.{statement}
 use Rattle.runs.proofs.places_rest.Tie as tie
 
 abbrev Inv-loop : tie.InvT-loop
-Inv-loop bs₀ at n few top start-time duration time dt all₀ i₀ t₀ bs all i t = Stands at bs₀ bs × (at ≤ i) × (i ≤ n) × (t ≡ after dt (i - at) time) × Seen (Timed few start-time duration dt time) at bs all (i - at)
+Inv-loop bs₀ at n few top start-time duration time dt all₀ i₀ t₀ bs all i t = Stands at bs₀ bs × (at ≤ i) × (i ≤ n) × (t ≡ after dt (i - at) time) × Seen (Timed (Placed few) start-time duration dt time) at bs all (i - at)
 
 abbrev μ-loop : tie.MeasureT-loop
 μ-loop bs₀ at n few top start-time duration time dt all₀ i₀ t₀ bs all i t = n - i
@@ -55,7 +55,7 @@ loop-again c =
     let s = a .before in
     let x = s .args in
     let v = c .before .placed .result in
-    let P = Timed (x .few) (x .start-time) (x .duration) (x .dt) (x .time) in
+    let P = Timed (Placed (x .few)) (x .start-time) (x .duration) (x .dt) (x .time) in
     let h = l .inv .1 in
     let e : l .i + 1 - x .at ≡ l .i - x .at + 1 = omega arith in
     let f : l .i + 1 - x .at ≡ suc (l .i - x .at) = omega arith in

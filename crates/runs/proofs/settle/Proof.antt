@@ -9,7 +9,7 @@ use Rattle.runs.proofs.settle.Statement.{statement}
 use Rattle.runs.proofs.settle.Tie as tie
 
 abbrev Inv-loop : tie.InvT-loop
-Inv-loop us₀ slow count bs n table j₀ us j = (length us ≡ 128) × (j ≤ count) × Settling (λ k u. Shows (getD bs k 0) u) us slow count n j
+Inv-loop us₀ slow count bs n table j₀ us j = (length us ≡ 128) × (j ≤ count) × Settling 0 (λ k u. Shows (getD bs k 0) u) us slow count n j
 
 abbrev μ-loop : tie.MeasureT-loop
 μ-loop us₀ slow count bs n table j₀ us j = count - j
@@ -61,14 +61,14 @@ loop-again c =
     let s = m .before .before in (
       length-set (l .us) _ _ ∙ l .inv .0,
       omega (arith, m .loop-test .taken),
-      one-settled (λ k u. Shows (getD (s .args .bs .now) k 0) u) (l .us) (s .args .slow .now) (s .args .count) (s .args .n) (l .j) (l .inv .2) _ refl (omega (arith, within m, l .inv .0)) (c .exact-of .result) (c .exact-of .ensures),
+      one-settled 0 (λ k u. Shows (getD (s .args .bs .now) k 0) u) (l .us) (s .args .slow .now) (s .args .count) (s .args .n) (l .j) (l .inv .2) _ refl (omega (arith, within m, l .inv .0)) (c .exact-of .result) (c .exact-of .ensures),
     )
 
 returns : tie.Need-returns Inv-loop μ-loop
 returns c =
     let l = c .before .loop in
     let s = c .before .before in
-    (l .inv .0, all-settled (λ k u. Shows (getD (s .args .bs .now) k 0) u) (l .us) (s .args .slow .now) (s .args .count) (s .args .n) (l .j) (l .inv .2) (omega (arith, c .loop-test)))
+    (l .inv .0, all-settled 0 (λ k u. Shows (getD (s .args .bs .now) k 0) u) (l .us) (s .args .slow .now) (s .args .count) (s .args .n) (l .j) (l .inv .2) (omega (arith, c .loop-test)))
 
 pub settle-spec : {M : Type 1} → statement M
 settle-spec =

@@ -21,6 +21,9 @@ use Rattle.runs.proofs.target_finite.Tie as tie
 table-requires : tie.Need-table-requires
 table-requires c κs = search needs
 
+target-by-requires : tie.Need-target-by-requires
+target-by-requires c κs = search needs
+
 target-told-requires : tie.Need-target-told-requires
 target-told-requires c κs = search needs
 
@@ -28,7 +31,9 @@ same-length : tie.Need-same-length
 same-length c = search needs
 
 returns : tie.Need-returns
-returns c = let t = c .before .before .before in t .target-told .ensures (c .if1 .taken) (t .before .before .before .before .before .args .intrinsic)
+returns c =
+    let t = c .before .before .before in
+    (t .target-told .ensures (c .if1 .taken) (t .before .before .before .before .before .before .before .args .intrinsic), t .before .before .before .target-by .ensures)
 
 -- what the passes below begin with
 module _ (f : tie.After-phases-of) where
@@ -36,7 +41,7 @@ module _ (f : tie.After-phases-of) where
   told = f .before .before .before .before .before
 
   abbrev start : tie.Start
-  start = told .before .before .before .before .before
+  start = told .before .before .before .before .before .before .before
 
   abbrev n : ℕ
   n = length (told .target-told .last .0)
@@ -47,6 +52,9 @@ module _ (f : tie.After-phases-of) where
   few : n ≤ 128
   few = le-trans (le-of-eq as-came) (start .pre .0)
 
+  at-end : told .before .before .before .target-by .result ≡ fromStart (start .args .start-time) (start .args .intrinsic) (targetAt (start .args .start-time) (start .args .time-constant) (start .args .«c») (start .args .a)) (start .args .end-time)
+  at-end = told .before .before .before .target-by .ensures
+
   abbrev phases : Float → Float
   phases = phaseOf (start .args .start-time) (start .args .time-constant)
 
@@ -56,7 +64,7 @@ array-borrow-prefix-xs c = search needs
 slice-aggregate-phases-of : tie.Need-slice-aggregate-phases-of
 slice-aggregate-phases-of c =
     let t = c .before .before .before .before in
-    prefix-length _ _ (le-trans (le-of-eq (t .target-told .kept .0)) (t .before .before .before .before .before .pre .0))
+    prefix-length _ _ (le-trans (le-of-eq (t .target-told .kept .0)) (t .before .before .before .before .before .before .before .pre .0))
 
 phases-of-requires : tie.Need-phases-of-requires
 phases-of-requires c κs = search needs
@@ -70,7 +78,7 @@ slice-aggregate-target-over c = let f = c .before .before .before in as-many (ph
 target-over-requires : tie.Need-target-over-requires
 target-over-requires c κs =
     let f = c .before .before .before .before in
-    ((as-many (phases f) (start f .args .dt) (n f) (start f .args .time) _ _ (few f) (f .phases-of .ensures .0), told f .before .before .before .table .ensures), start f .pre .1)
+    ((as-many (phases f) (start f .args .dt) (n f) (start f .args .time) _ _ (few f) (f .phases-of .ensures .0), told f .before .before .before .before .before .table .ensures), start f .pre .1)
 
 same-length-2 : tie.Need-same-length-2
 same-length-2 c = search needs
@@ -97,7 +105,7 @@ returns-2 c =
     let a = start (f t) .args in
     let begins : begun (a .start-time) (a .dt) (length (a .out .now)) (a .time) ≡ true =
     ap (λ (k : ℕ). begun (a .start-time) (a .dt) k (a .time)) (sym (as-came (f t)) ∙ prefix-length _ _ (few (f t))) ∙ sym (f t .phases-of .ensures .1) ∙ c .if2 .taken in
-    whole t ∙ sym (run-begun (a .start-time) (a .dt) (a .intrinsic) (λ u. sample t (phases (f t) u)) (length (a .out .now)) (a .time) begins)
+    (whole t ∙ sym (run-begun (a .start-time) (a .dt) (a .intrinsic) (λ u. sample t (phases (f t) u)) (length (a .out .now)) (a .time) begins), at-end (f t))
 
 hold-before-requires : tie.Need-hold-before-requires
 hold-before-requires c κs = search needs
@@ -109,15 +117,18 @@ returns-3 : tie.Need-returns-3
 unfolding heldAt fromStart targetAt
 returns-3 c =
     let t = c .before .before .before .before .before .before .before .before in
-    let a = start (f t) .args in
-    c .before .before .hold-before .ensures ∙ ap (λ (l : List Float). timed (heldAt (a .start-time) (a .intrinsic)) (a .dt) l (a .time)) (whole t)
-    ∙ timed-run (heldAt (a .start-time) (a .intrinsic)) (a .dt) (λ u. sample t (phases (f t) u)) (length (a .out .now)) (a .time)
+    let a = start (f t) .args in (
+      c .before .before .hold-before .ensures ∙ ap (λ (l : List Float). timed (heldAt (a .start-time) (a .intrinsic)) (a .dt) l (a .time)) (whole t)
+          ∙ timed-run (heldAt (a .start-time) (a .intrinsic)) (a .dt) (λ u. sample t (phases (f t) u)) (length (a .out .now)) (a .time),
+      at-end (f t),
+    )
 
 pub target-finite-spec : {M : Type 1} → statement M
 target-finite-spec =
     tie.close
     (tie.spec
     table-requires
+    target-by-requires
     target-told-requires
     same-length
     returns

@@ -14,11 +14,11 @@ use Rattle.runs.proofs.target_parts.Statement.{statement}
 use Rattle.runs.proofs.target_parts.Tie as tie
 
 abbrev Inv-loop : tie.InvT-loop
-Inv-loop out₀ start-time time-constant «c» a intrinsic time dt i₀ t₀ out i t =
+Inv-loop out₀ start-time time-constant «c» a intrinsic time dt end-time i₀ t₀ out i t =
     Filled (fromStart start-time intrinsic (targetAt start-time time-constant «c» a)) dt time out₀ out i t
 
 abbrev μ-loop : tie.MeasureT-loop
-μ-loop out₀ start-time time-constant «c» a intrinsic time dt i₀ t₀ out i t = length out₀ - i
+μ-loop out₀ start-time time-constant «c» a intrinsic time dt end-time i₀ t₀ out i t = length out₀ - i
 
 abbrev start : tie.At-loop Inv-loop μ-loop → tie.Start Inv-loop μ-loop
 start a = a .before .before
@@ -73,7 +73,7 @@ loop-again c =
     let r = c .before .before .target-finite in
     rw (part (l .i), c .before .before .before .before .part-later .ensures)
     (some-more (sample s) (s .args .dt) (s .args .time) (l .inv) 128 (omega (arith, kept (n .before), n .loop-test .taken)) (r .last .0)
-    (r .ensures ∙ rw (mid-len (l .i) (l .i + 128) (l .out) (omega (arith, n .loop-test .taken)) ∙ part (l .i))))
+    (r .ensures .0 ∙ rw (mid-len (l .i) (l .i + 128) (l .out) (omega (arith, n .loop-test .taken)) ∙ part (l .i))))
 
 mul-target-finite-2 : tie.Need-mul-target-finite-2 Inv-loop μ-loop
 mul-target-finite-2 c = omega (arith, kept (c .before), c .before .loop .inv .within, start (c .before) .good)
@@ -98,13 +98,13 @@ same-length : tie.Need-same-length Inv-loop μ-loop
 same-length c =
     let a = c .before .before .before .before .before in
     let s = start a in
-    filled-length (sample s) (s .args .dt) (s .args .time) (rest-filled (sample s) (s .args .dt) (s .args .time) (a .loop .inv) (c .before .before .target-finite2 .last .0) (c .before .before .target-finite2 .ensures))
+    filled-length (sample s) (s .args .dt) (s .args .time) (rest-filled (sample s) (s .args .dt) (s .args .time) (a .loop .inv) (c .before .before .target-finite2 .last .0) (c .before .before .target-finite2 .ensures .0))
 
 returns : tie.Need-returns Inv-loop μ-loop
 returns c =
     let a = c .before .before .before .before .before in
     let s = start a in
-    all-filled (sample s) (s .args .dt) (s .args .time) (rest-filled (sample s) (s .args .dt) (s .args .time) (a .loop .inv) (c .before .before .target-finite2 .last .0) (c .before .before .target-finite2 .ensures)) (omega (arith, kept a, a .loop .inv .within))
+    (all-filled (sample s) (s .args .dt) (s .args .time) (rest-filled (sample s) (s .args .dt) (s .args .time) (a .loop .inv) (c .before .before .target-finite2 .last .0) (c .before .before .target-finite2 .ensures .0)) (omega (arith, kept a, a .loop .inv .within)), c .before .before .target-finite2 .ensures .1)
 
 pub target-parts-spec : {M : Type 1} → statement M
 target-parts-spec =

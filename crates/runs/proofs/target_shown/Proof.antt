@@ -30,7 +30,7 @@ start p = p .before .before .before .before
 
 -- what the first pass placed
 placed : (p : tie.After-places-at) → p .places-at .result ≡ true → (k : ℕ) → k < length (start p .args .out .now)
-    → Placed (start p .args .few) (phaseOf (start p .args .start-time) (start p .args .constant) (after (start p .args .dt) k (start p .args .time))) (getD (p .places-at .last .0) k 0)
+    → Placed (start p .args .few) (phaseOf (start p .args .start) (start p .args .constant) (after (start p .args .dt) k (start p .args .time))) (getD (p .places-at .last .0) k 0)
 placed p t = p .places-at .ensures .1 t
 
 -- and in the second pass each of these is told or waits
@@ -70,7 +70,7 @@ module _ (z : tie.After-settle) where
   abbrev u : ℕ → ℕ
   u k = getD (z .settle .last .0) k 0
 
-  place : (k : ℕ) → k < length (s .args .out .now) → Placed (s .args .few) (phaseOf (s .args .start-time) (s .args .constant) (after (s .args .dt) k (s .args .time))) (b k)
+  place : (k : ℕ) → k < length (s .args .out .now) → Placed (s .args .few) (phaseOf (s .args .start) (s .args .constant) (after (s .args .dt) k (s .args .time))) (b k)
   place = placed places (taken (told .before))
 
   shows : (k : ℕ) → k < length (s .args .out .now) → Shows (b k) (u k)
@@ -79,12 +79,12 @@ module _ (z : tie.After-settle) where
   -- the sums with these factors are the samples
   samples : (out : List Float) → length out ≡ length (s .args .out .now)
       → ((k : ℕ) → k < length (s .args .out .now) → getD out k nan ≡ fused binary32 (s .args .a) (ofBits binary64 (shown (b k) (u k))) (s .args .«c»))
-      → out ≡ run (targetAt (s .args .start-time) (s .args .constant) (s .args .«c») (s .args .a)) (s .args .dt) (length (s .args .out .now)) (s .args .time)
+      → out ≡ run (targetAt (s .args .start) (s .args .constant) (s .args .«c») (s .args .a)) (s .args .dt) (length (s .args .out .now)) (s .args .time)
   unfolding targetAt
   samples out e h =
       let a = s .args in
       let n = length (a .out .now) in
-      let sample = targetAt (a .start-time) (a .constant) (a .«c») (a .a) in
+      let sample = targetAt (a .start) (a .constant) (a .«c») (a .a) in
       ext-getD nan out (run sample (a .dt) n (a .time)) (e ∙ sym (run-length sample (a .dt) n (a .time)))
       (λ k l.
       let m : k < n = subst (λ (i : ℕ). k < i) e l in

@@ -13,6 +13,7 @@ use Rattle.rules.specs.Walk.{fromStart}
 use Rattle.samples.specs.At.{targetAt}
 use Rattle.phases.specs.Once.{Once}
 use Rattle.phases.proofs.Seen.{seen}
+use Rattle.runs.specs.Rising.{Rises}
 use Rattle.runs.proofs.Filling.{run-same}
 use Rattle.runs.proofs.Later.{not-before}
 use Rattle.runs.proofs.target_told.Statement.{statement}
@@ -37,8 +38,11 @@ once-cut a c bx few w f e = go (seen bx w (λ z. some bx few f e z))
 once-from-requires : tie.Need-once-from-requires
 once-from-requires c κs = search needs
 
-rises-requires : tie.Need-rises-requires
-rises-requires c κs = search needs
+is-steady-for-requires : tie.Need-is-steady-for-requires
+is-steady-for-requires c κs = search needs
+
+is-begun-requires : tie.Need-is-begun-requires
+is-begun-requires c κs = search needs
 
 few-from-requires : tie.Need-few-from-requires
 few-from-requires c κs = search needs
@@ -49,7 +53,7 @@ add-exact c = search needs
 target-shown-requires : tie.Need-target-shown-requires
 target-shown-requires c κs =
     let f = c .before .few-from in
-    let o = c .before .before .before .before .before in
+    let o = c .before .before .before .before .before .before .before in
     let s = o .before .before in
     ((s .pre .0 .0, s .pre .0 .1, f .ensures, λ e. once-cut _ _ (o .once-from .result) (f .result) (o .once-from .ensures) (f .ensures) (eqb-true _ _ e)), s .pre .1)
 
@@ -60,10 +64,11 @@ returns : tie.Need-returns
 unfolding fromStart
 returns c = λ t v.
     let g = c .before .before in
-    let q = g .before .before .before .before in
-    let s = q .before .before .before .before in
+    let begun = g .before .before .before .before .before in
+    let steady = begun .before .before in
+    let s = steady .before .before .before in
     let a = s .args in
-    let r = q .before .rises .ensures (q .if1 .taken) in
+    let r : Rises (a .start-time) (a .constant) (a .time) (a .dt) = record { steady = steady .is-steady-for .ensures (begun .before .if1 .taken); started = begun .is-begun .ensures (g .before .before .before .before .if2 .taken) } in
     let sample = targetAt (a .start-time) (a .constant) (a .«c») (a .a) in
     g .target-shown .ensures t
     ∙ run-same sample (fromStart (a .start-time) v sample) (a .dt) (length (a .out .now)) (a .time)
@@ -75,16 +80,21 @@ returns-2 c = λ t. absurd (true≢false (sym t))
 returns-3 : tie.Need-returns-3
 returns-3 c = λ t. absurd (true≢false (sym t))
 
+returns-4 : tie.Need-returns-4
+returns-4 c = λ t. absurd (true≢false (sym t))
+
 pub target-told-spec : {M : Type 1} → statement M
 target-told-spec =
     tie.close
     (tie.spec
     once-from-requires
-    rises-requires
+    is-steady-for-requires
+    is-begun-requires
     few-from-requires
     add-exact
     target-shown-requires
     same-length
     returns
     returns-2
-    returns-3)
+    returns-3
+    returns-4)

@@ -10,7 +10,7 @@ use Rattle.runs.proofs.tell.Statement.{statement}
 use Rattle.runs.proofs.tell.Tie as tie
 
 abbrev Inv-loop : tie.InvT-loop
-Inv-loop us₀ slow₀ bs n table count₀ i₀ us slow count i = (length us ≡ 128) × (length slow ≡ 128) × (i ≤ n) × Telling (λ k u. Shows (getD bs k 0) u) us slow count i
+Inv-loop us₀ slow₀ bs n table count₀ i₀ us slow count i = (length us ≡ 128) × (length slow ≡ 128) × (i ≤ n) × Telling 0 (λ k u. Shows (getD bs k 0) u) us slow count i
 
 abbrev μ-loop : tie.MeasureT-loop
 μ-loop us₀ slow₀ bs n table count₀ i₀ us slow count i = n - i
@@ -19,7 +19,7 @@ abbrev R : tie.Start Inv-loop μ-loop → ℕ → ℕ → Type 0
 R s k u = Shows (getD (s .args .bs .now) k 0) u
 
 loop-holds : tie.Need-loop-holds Inv-loop μ-loop
-loop-holds c = (c .pre .0 .0, c .pre .0 .1, omega arith, none-told (R c) (c .args .us .now) (c .args .slow .now))
+loop-holds c = (c .pre .0 .0, c .pre .0 .1, omega arith, none-told 0 (R c) (c .args .us .now) (c .args .slow .now))
 
 within : (c : tie.In-loop Inv-loop μ-loop) → c .before .loop .i < 128
 within c = omega (arith, c .loop-test .taken, c .before .before .pre .0 .3)
@@ -67,7 +67,7 @@ loop-again c =
       length-set (l .us) (l .i) (u .result) ∙ l .inv .0,
       length-set (l .slow) (l .count) (l .i) ∙ l .inv .1,
       omega (arith, m .loop-test .taken),
-      one-told (R s) (l .us) (l .slow) (l .count) (l .i) (l .inv .3) (omega (arith, within m, l .inv .0)) (omega (arith, room m, l .inv .1)) (u .result) (c .if1 .count)
+      one-told 0 (R s) (l .us) (l .slow) (l .count) (l .i) (l .inv .3) (omega (arith, within m, l .inv .0)) (omega (arith, room m, l .inv .1)) (u .result) (c .if1 .count)
           (elim (c .if1 .came) [
             | inl w ↦ inr (w .1)
             | inr w ↦ inl (w .1, u .ensures (omega (arith, w .0 .left)))
@@ -79,7 +79,7 @@ returns c =
     let l = c .before .loop in
     let s = c .before .before in
     let e : l .i ≡ s .args .n = omega (arith, l .inv .2, c .loop-test) in
-    let t : Telling (R s) (l .us) (l .slow) (l .count) (s .args .n) = subst (λ (n : ℕ). Telling (R s) (l .us) (l .slow) (l .count) n) e (l .inv .3) in
+    let t : Telling 0 (R s) (l .us) (l .slow) (l .count) (s .args .n) = subst (λ (n : ℕ). Telling 0 (R s) (l .us) (l .slow) (l .count) n) e (l .inv .3) in
     (l .inv .0, l .inv .1, t .fewer, t .places, t .told)
 
 pub tell-spec : {M : Type 1} → statement M
