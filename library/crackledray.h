@@ -3,10 +3,24 @@
  * The caller owns all memory: a state of 395 numbers and a curve store of 4,096 floats, both for one parameter. Neither is
  * allocated, kept or freed here; a state can be copied, stored and compared like any array of numbers.
  *
- * Every function answers 0, or why it is refused: a number of document 01 (they stand below), or 100 where the
- * state is none of a parameter: its length is not 395, or these calls could not have left it. Where a call is refused nothing
- * changes; crackledray_make is the exception that its own comment names. No number that is passed is out of bounds for a
- * function: each is answered or refused.
+ * Every function but crackledray_version answers 0, or why it is refused: a number of document 01, or 100 (enum
+ * crackledray_answer). Where a call is refused nothing changes; the exceptions are crackledray_make's state and crackledray_block's
+ * steps, current and one, as their comments say. No number that is passed is out of bounds for a function: each is answered or
+ * refused.
+ *
+ * 100: the state has not 395 numbers, or they fail the test that is made of them at every call (README.md beside this file, "The
+ * state", lists it: the rate word is 0 or 1, at most 64 events wait, in order of time, values are finite, times are not below 0, ..).
+ * The test is the parameter's invariant. Every state that these calls leave passes it; a state that passes it need not have been
+ * left by calls, and is answered as what stands in it.
+ *
+ * For firmware:
+ * - There is no allocation and no data that is written to but the caller's: constants alone. From outside the archive wants memcpy
+ *   and memset, and nothing else. So every function is reentrant, and calls on different states and stores may run at the same time
+ *   on different threads; two on the same state or store may not.
+ * - No function waits, calls itself, or calls the caller back. All of them are proved to end.
+ * - Stack: enum crackledray_stack has the most that each call takes.
+ * - Everything that a pointer leads to is initialised by the caller, whatever to, also what is only written: the state that is made,
+ *   the output, the store, and steps, current and one (false or true) of a block.
  *
  * Assumed, and not tested: an x86-64 program; floats rounded to nearest, ties to even, with subnormals on (MXCSR as a program
  * starts with it: no flush to zero, no denormals are zero); each pointer is good for as many numbers as the length behind it
@@ -19,9 +33,24 @@
 #include <stddef.h>
 #include <stdint.h>
 
+/* A length is 64 bits, as a number of a state. */
+#if defined(__cplusplus) && __cplusplus >= 201103L
+static_assert(sizeof(size_t) == 8, "crackledray is for 64 bits");
+#elif !defined(__cplusplus) && defined(__STDC_VERSION__) && __STDC_VERSION__ >= 201112L
+_Static_assert(sizeof(size_t) == 8, "crackledray is for 64 bits");
+#else
+typedef char crackledray_is_for_64_bits[sizeof(size_t) == 8 ? 1 : -1];
+#endif
+
 #ifdef __cplusplus
 extern "C" {
 #endif
+
+/* Major, minor and patch, 8 bits each. */
+#define CRACKLEDRAY_VERSION 0x000200u
+
+/* The same number, of the archive: not this one where header and archive do not belong together. */
+uint32_t crackledray_version(void);
 
 enum {
     CRACKLEDRAY_STATE = 395,  /* numbers of a state */
@@ -30,9 +59,17 @@ enum {
     CRACKLEDRAY_COUNT = 128   /* samples of a block, at most */
 };
 
-/* What a call answers. Where several apply, the lowest is given. */
-enum {
-    CRACKLEDRAY_ANSWERED = 0,
+/* Bytes of stack that a call takes at most in the x86-64 archive, its return address counted, memcpy's and memset's own not.
+ * library/stack reads the exact numbers out of an archive; library/test holds them to these. */
+enum crackledray_stack {
+    CRACKLEDRAY_STACK_MAKE = 16384, /* crackledray_make */
+    CRACKLEDRAY_STACK_HOLD = 40960, /* crackledray_hold */
+    CRACKLEDRAY_STACK_CALL = 32768  /* each of the others */
+};
+
+/* What a call answers. Where several apply, 100 is given, else the lowest. The other numbers are given by no function. */
+enum crackledray_answer {
+    CRACKLEDRAY_ANSWERED = 0,      /* done */
     CRACKLEDRAY_BOUNDS = 1,        /* a bound or the default is not finite, or not min <= default <= max */
     CRACKLEDRAY_NOT_FINITE = 2,    /* a value, time, time constant, duration or curve number is not finite */
     CRACKLEDRAY_BEFORE_ZERO = 3,   /* a scheduled or cancel time is below 0 */
@@ -44,11 +81,12 @@ enum {
     CRACKLEDRAY_BAD_BLOCK = 9,     /* block time, sample period, count, or the lengths of input and output */
     CRACKLEDRAY_OUT_OF_ORDER = 10, /* a block before the last answered one */
     CRACKLEDRAY_BAD_STORE = 14,    /* the curve store has not 4,096 floats */
-    CRACKLEDRAY_BAD_STATE = 100    /* the state is none of a parameter (not document 01's) */
+    CRACKLEDRAY_BAD_STATE = 100    /* the state's length, or the test of a state (not document 01's) */
 };
 
-/* Makes a parameter; K-rate where k_rate, else A-rate. The state may hold anything before. Refused by 1 the state is that of an
- * A-rate parameter with all numbers 0; by 100 it stays as it is. The curve store of a new parameter may hold anything. */
+/* Makes a parameter; K-rate where k_rate, else A-rate. The state may hold anything before. Refused by 1 the state IS written: it is
+ * that of an A-rate parameter with all numbers 0, which other calls accept. Refused by 100 it stays as it is. The curve store of a
+ * new parameter may hold anything. */
 uint32_t crackledray_make(uint64_t *state, size_t state_length, float min, float default_value, float max, bool k_rate);
 
 /* An immediate set: a step at time 0. */
@@ -71,12 +109,14 @@ uint32_t crackledray_curve(uint64_t *state, size_t state_length, const float *va
 /* Removes every event at the time or later. */
 uint32_t crackledray_cancel(uint64_t *state, size_t state_length, double time, float *store, size_t store_length);
 
-/* The same, but what runs at the time is held there. */
+/* Removes every event later than the time, and holds what leads there at its level at the time: a ramp, if the first of those events is one
+ * (it stays, also where a curve runs), else the target or curve that runs. */
 uint32_t crackledray_hold(uint64_t *state, size_t state_length, double time, float *store, size_t store_length);
 
 /* One block: count samples (1 to 128) from the time on, a sample period apart, into the first places of the output; the other
  * places stay. The input is mixed in: count numbers, or none for silence. steps: events walked, at most 129. current: the value
- * before the block. one: all samples are one value. Refused, these are 0, 0 and false, and by 100 they stay as they are. */
+ * before the block. one: all samples are one value. Refused, these are 0, 0 and false, and by 100 they stay as they are; so the
+ * caller initialises them. */
 uint32_t crackledray_block(uint64_t *state, size_t state_length, double time, double period, size_t count, const float *input,
                            size_t input_length, float *output, size_t output_length, float *store, size_t store_length,
                            size_t *steps, float *current, bool *one);

@@ -25,9 +25,9 @@ static int schedule(void) {
 }
 
 static int play(double time) {
-    float output[16], silence[1] = {0}, current;
-    size_t steps;
-    bool one;
+    float output[16] = {0}, silence[1] = {0}, current = 0;
+    size_t steps = 0;
+    bool one = false;
     if (!done("block", crackledray_block(state, CRACKLEDRAY_STATE, time, 0.01, 16, silence, 0, output, 16, store,
                                          CRACKLEDRAY_STORE, &steps, &current, &one)))
         return 0;
@@ -38,4 +38,10 @@ static int play(double time) {
     return 1;
 }
 
-int main(void) { return schedule() && play(0) && play(0.16) && play(0.32) ? 0 : 1; }
+int main(void) {
+    if (crackledray_version() != CRACKLEDRAY_VERSION) {
+        printf("the archive is not the header's: %06x, %06x\n", (unsigned)crackledray_version(), CRACKLEDRAY_VERSION);
+        return 1;
+    }
+    return schedule() && play(0) && play(0.16) && play(0.32) ? 0 : 1;
+}

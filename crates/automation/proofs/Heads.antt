@@ -1,8 +1,7 @@
 -- The walk as a loop over heads: what holds before each, and what each does of the rules' walk. Assumes nothing.
 use mathlib.Core.Path.{_≡_, refl, sym, ap, _∙_}
-use mathlib.Core.Bool.{true}
 use mathlib.Core.List.{List, [], _∷_}
-use Prim.Native.Nat.{ℕ, zero, suc, _+_, _-_, _*_, _≤_, _<_, _^_}
+use Prim.Native.Nat.{ℕ, _+_, _-_, _*_, _≤_, _<_, _^_}
 use native.Mathlib.Numerals.{add-one}
 use native.Mathlib.Omega.{arith}
 use lib.ListN.{length, take, drop, set, length-drop, length-set}
@@ -18,12 +17,12 @@ use Rattle.rules.specs.declared.Head.the-variants as Head
 use Rattle.rules.specs.declared.LastEvent.{LastEvent}
 use Rattle.rules.specs.declared.BlockInfos.{BlockInfos}
 use Rattle.rules.specs.Numbers.{storeLength}
-use Rattle.rules.specs.Queue.{Waiting, headOf, lengthOf, lengthsOf, attached, filedUnder}
+use Rattle.rules.specs.Queue.{Waiting, headOf, lengthOf, lengthsOf, attached}
 use Rattle.rules.specs.Walk as Rules
 use Rattle.rules.specs.Walk.{on, turn, turnOf, walked, ended, counted, withLast, withTurned, withValues, withIntrinsic, fill, consumed}
 use Rattle.rules.specs.Block.{walkFrom, valuesBefore}
-use Rattle.laws.specs.Sound.{isClear, endsClear, areClear, isNumber, isNumberIfAny, SoundQueue}
-use Rattle.laws.proofs.Tests.{both}
+use Rattle.laws.specs.Sound.{isClear, SoundQueue}
+use Rattle.laws.proofs.Clear.{all-parts, all-drop, curve-parts}
 use Rattle.laws.proofs.Events.{lengths-split}
 use Rattle.laws.proofs.Store.{attached-drop, no-numbers}
 use Rattle.laws.proofs.Walks as Carried
@@ -58,18 +57,6 @@ unfolding firstOf
 first-none [] h = refl
 first-none (x ∷ es) h = let z : _≡_ {A = ℕ} 0 1 = cc in absurd (omega arith)
 
-clear-drop : (n : ℕ) (es : List Event) → areClear es ≡ true → areClear (drop n es) ≡ true
-unfolding areClear
-clear-drop zero es h = h
-clear-drop (suc n) [] h = h
-clear-drop (suc n) (e ∷ es) h = clear-drop n es (both (isClear e) (areClear es) h .1)
-
-clear-curve : (s d : Float) (n : ℕ) (h : MaybeTime) → isClear (Event.Curve s d n h) ≡ true → 2 ≤ n
-unfolding isClear endsClear
-clear-curve s d n h c =
-    let e = both (isNumber (filedUnder (Event.Curve s d n h))) _ c .1 in
-    leb-true 2 n (both (isNumberIfAny h) _ (both (isNumber _) _ e .1) .1)
-
 -- an event that is no curve has no numbers
 pub bare : {e : Event} {xs : List Float} → Numbered e xs → (d : Event) → e ≡ d → lengthOf d ≡ 0 → xs ≡ []
 bare {e} {xs} n d is z = no-numbers xs (n .fits ∙ ap lengthOf is ∙ z)
@@ -84,7 +71,7 @@ module _ {e : Event} {xs : List Float} (n : Numbered e xs) {s d : Float} {k : �
   curve-is = is ∙ ap (λ (m : ℕ). Event.Curve s d m h) (sym curve-size)
 
   pub curve-enough : 2 ≤ length xs
-  curve-enough = rw curve-size (clear-curve s d k h (sym (ap isClear is) ∙ n .clear))
+  curve-enough = rw curve-size (leb-true 2 k (curve-parts s d k h (sym (ap isClear is) ∙ n .clear) .enough))
 
   pub curve-few : length xs ≤ storeLength
   curve-few = rw (n .fits) (n .few)
@@ -248,12 +235,11 @@ module _ {f : BlockInfos} {es : List Event} {store : List Float} {w₀ : Rules.W
         (ap (λ (l : List Waiting). waitingAs e numbers ∷ l) (attached-drop (at + 1) es store))
 
     pub numbered : SoundQueue es → lengthsOf es ≤ length store → Numbered e numbers
-    unfolding areClear
     numbered s l =
         record {
           fits = length-take-le (lengthOf e) (drop offset store) (rw (length-drop offset store) (omega (arith, past-most)));
           few = omega (arith, past-most, s .room);
-          clear = both (isClear e) _ (rw here at (clear-drop at es (s .clear))) .0;
+          clear = all-parts isClear e _ (rw here at (all-drop isClear at es (s .clear))) .0;
         }
 
     -- what is behind it is the rules' next head

@@ -4,6 +4,7 @@ ghost use mathlib.Core.List.{[]};
 ghost use Prim.Native.Nat.{ℕ, _+_, _≤_, _<_, _^_};
 ghost use lib.ListN.{length};
 ghost use lib.Ieee.{binary64, add, sub};
+ghost use Rattle.rules.specs.Numbers.{storeLength};
 ghost use Rattle.rules.specs.Queue.{alone, lengthOf};
 ghost use Rattle.rules.specs.Samples.{isRatio, ratioLog, targetSample, curveSample, lastNumber};
 ghost use Rattle.rules.specs.Walk.{stepTime, lastOr, holdOr, endByNext, endByHold, snaps as snapsTo, fromStart, spanTurn, targetLeft, targetRun, stepTurn, linearTurn, exponentialTurn, targetTurn, curveTurn, turnOf, turn};
@@ -442,7 +443,7 @@ fn curve_span(
     hold: MaybeTime,
     values: &[f32],
 ) -> Turn
-    requires { ⌜ Ready infos walk (now buffer) × (2 ≤ length (now values)) × (length (now values) ≤ 4096) ⌝ }
+    requires { ⌜ Ready infos walk (now buffer) × (2 ≤ length (now values)) × (length (now values) ≤ storeLength) ⌝ }
     ensures { λ r. ⌜ Turns (now (buffer .entry)) (now (values .entry)) (spanTurn infos (walkIs walk (now (buffer .entry))) (waitingAs head (now (values .entry))) (add binary64 start duration) (lastNumber (now (values .entry))) hold (fromStart start (walk .intrinsic) (curveSample (now (values .entry)) start duration))) r (now (buffer .exit)) ⌝ }
 {
     let end_time = hold_or(hold, start + duration);
@@ -480,7 +481,7 @@ pub fn compute_set_value_curve_automation(
     hold: MaybeTime,
     values: &[f32],
 ) -> Turn
-    requires { ⌜ Ready infos walk (now buffer) × (2 ≤ length (now values)) × (length (now values) ≤ 4096) ⌝ }
+    requires { ⌜ Ready infos walk (now buffer) × (2 ≤ length (now values)) × (length (now values) ≤ storeLength) ⌝ }
     ensures { λ r. ⌜ Turns (now (buffer .entry)) (now (values .entry)) (curveTurn infos (walkIs walk (now (buffer .entry))) (waitingAs (Event.Curve start duration (length (now (values .entry))) hold) (now (values .entry))) start duration hold) r (now (buffer .exit)) ⌝ }
 {
     let head = Event::Curve {

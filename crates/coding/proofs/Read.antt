@@ -2,12 +2,13 @@
 use mathlib.Core.Path.{_≡_, refl, sym, ap, _∙_}
 use mathlib.Core.Bool.{Bool, true, false, cond, _&&_}
 use mathlib.Core.List.{List}
-use Prim.Native.Nat.{ℕ, _≤_}
+use Prim.Native.Nat.{ℕ, _≤_, _<_}
 use native.Mathlib.Omega.{arith}
 use lib.Dec.{leb, eqb}
 use lib.ListN.{length, getD}
-use borrow.Author.Tests.{leb-true, le-leb, eq-eqb, ne-eqb}
+use borrow.Author.Tests.{leb-true, le-leb, lt-leb, eq-eqb, ne-eqb}
 use Rattle.rules.specs.declared.Bounds.{Bounds}
+use Rattle.rules.specs.declared.AutomationRate.{AutomationRate}
 use Rattle.rules.specs.declared.AutomationRate.the-variants as Rate
 use Rattle.rules.specs.declared.Event.{Event}
 use Rattle.rules.specs.declared.Verdict.the-variants as Verdict
@@ -22,7 +23,7 @@ use Rattle.param.specs.declared.AudioParam.{AudioParam}
 use Rattle.param.specs.declared.Outcome.{Outcome}
 use Rattle.param.specs.Param.{paramOf, structOf, SoundParam, Makes, unmade, partsOf, isWhole, Restores}
 use Rattle.param.proofs.Calls.{whole}
-use Rattle.coding.specs.Coding.{stateLength, paramIn, isState, stateOf, Queues, Decodes, Encodes}
+use Rattle.coding.specs.Coding.{stateLength, isRate, rateWord, paramIn, isState, stateOf, Queues, Decodes, Encodes}
 
 -- ---- refused
 
@@ -38,9 +39,14 @@ module _ (s : List ℕ) where
   unfolding isState
   decodes-none h e f = record { gives = rw (ne-eqb (length s) stateLength h) e; sound = f }
 
+  -- a rate that is none
+  pub decodes-no-rate : {r : Outcome} → length s ≡ stateLength → 1 < getD s 3 0 → r ≡ unmade → SoundParam (r .param) → Decodes s r
+  unfolding isState isRate
+  decodes-no-rate long h e f = record { gives = rw (eq-eqb (length s) stateLength long, lt-leb (getD s 3 0) 1 h) e; sound = f }
+
   -- ---- accepted where the parts are
 
-  module _ (q : AudioParamEventTimeline) (long : length s ≡ stateLength) (h : Queues s q) where
+  module _ (q : AudioParamEventTimeline) (long : length s ≡ stateLength) (rated : getD s 3 0 ≤ 1) (h : Queues s q) where
     abbrev parts : AudioParam
     parts =
         partsOf (paramIn s .bounds) (paramIn s .rate) (paramIn s .intrinsic) q (paramIn s .lastBlock) (paramIn s .last)
@@ -49,10 +55,10 @@ module _ (s : List ℕ) where
     read t = ap (λ (es : List Event). withQueue es (paramIn s)) (h .events (leb-true (q .len) mostEvents t))
 
     accepted : isWhole parts ≡ isState s
-    unfolding isWhole isState
+    unfolding isWhole isState isRate
     accepted =
         go (leb (q .len) mostEvents) refl
-        ∙ rw (eq-eqb (length s) stateLength long) (ap (λ (n : ℕ). leb n mostEvents && isSound (paramIn s)) (h .many))
+        ∙ rw (eq-eqb (length s) stateLength long, le-leb (getD s 3 0) 1 rated) (ap (λ (n : ℕ). leb n mostEvents && isSound (paramIn s)) (h .many))
       where
         go : (b : Bool) → leb (q .len) mostEvents ≡ b → (b && isSound (paramOf parts)) ≡ (b && isSound (paramIn s))
         go true e = ap isSound (read e)
@@ -72,17 +78,33 @@ module _ (s : List ℕ) where
 
 pub accepted-sound : (s : List ℕ) → isState s ≡ true → Sound (paramIn s)
 unfolding isState
-accepted-sound s h = tested (paramIn s) (both (leb (getD s 10 0) mostEvents) _ (both (eqb (length s) stateLength) _ h .1) .1)
+accepted-sound s h =
+    let a = both (eqb (length s) stateLength) _ h in
+    let b = both (isRate (getD s 3 0)) _ (a .1) in
+    tested (paramIn s) (both (leb (getD s 10 0) mostEvents) _ (b .1) .1)
 
 count-in : (p : Param) (s : List ℕ) → getD (stateOf p s) 10 0 ≡ length (p .queue)
 unfolding stateOf
 count-in p s = refl
 
+rate-in : (p : Param) (s : List ℕ) → isRate (getD (stateOf p s) 3 0) ≡ true
+unfolding stateOf
+rate-in p s = go (p .rate)
+  where
+    go : (r : AutomationRate) → isRate (rateWord r) ≡ true
+    go Rate.A = unfold isRate rateWord in refl
+    go Rate.K = unfold isRate rateWord in refl
+
 pub encoded-accepted : {p : AudioParam} {s after : List ℕ} → SoundParam p → length after ≡ stateLength → Encodes p s after → isState after ≡ true
 unfolding isState
 encoded-accepted {p} {s} {after} f long e =
     let few : length (paramOf p .queue) ≤ mostEvents = f .sound .waiting .few in
-    and (eq-eqb (length after) stateLength long) (and (le-leb (getD after 10 0) mostEvents (omega (arith, ap (λ (l : List ℕ). getD l 10 0) (e .is) ∙ count-in (paramOf p) s))) (rw (e .back) (passes-test (paramOf p) (f .sound))))
+    let many : getD after 10 0 ≡ length (paramOf p .queue) = ap (λ (l : List ℕ). getD l 10 0) (e .is) ∙ count-in (paramOf p) s in
+    and
+    (eq-eqb (length after) stateLength long)
+    (and
+    (ap (λ (l : List ℕ). isRate (getD l 3 0)) (e .is) ∙ rate-in (paramOf p) s)
+    (and (le-leb (getD after 10 0) mostEvents (omega arith)) (rw (e .back) (passes-test (paramOf p) (f .sound)))))
 
 pub decoded-encoded : {p : AudioParam} {s after : List ℕ} {r : Outcome} → SoundParam p → length after ≡ stateLength → Encodes p s after → Decodes after r
     → r ≡ record { verdict = Verdict.Answered; param = p }

@@ -57,10 +57,14 @@ timeIn flag t = cond (eqb flag 0) MaybeTime.Missing (MaybeTime.At (doubleIn t))
 unfoldable pub lastIn : ℕ → ℕ → ℕ → LastEvent
 lastIn flag t v = cond (eqb flag 0) LastEvent.None (LastEvent.Done (record { time = doubleIn t; value = singleIn v }))
 
+-- 0 for A-rate, 1 for K-rate
 unfoldable pub rateIn : ℕ → AutomationRate
 rateIn n = cond (eqb n 0) Rate.A Rate.K
 
--- by its kind: 0 step, 1 linear, 2 exponential, 3 target, 4 curve. What has no kind is read as a curve of no numbers, and no parameter has one.
+unfoldable pub isRate : ℕ → Bool
+isRate n = leb n 1
+
+-- by its kind: 0 step, 1 linear, 2 exponential, 3 target, 4 curve; a number that a kind has not is not read. What has no kind is read as a curve of no numbers, and no parameter has one.
 unfoldable pub eventOf : ℕ → ℕ → ℕ → ℕ → MaybeTime → Event
 eventOf kind value time other hold =
     cond (eqb kind 0) (Event.Step (singleIn value) (doubleIn time))
@@ -90,9 +94,9 @@ paramIn s =
       last = lastIn (getD s 7 0) (getD s 8 0) (getD s 9 0);
     }
 
--- whether a state is one of a parameter that the calls could have left
+-- whether a state is one of a parameter: its rate is known, and what it has passes the tests of the invariant
 unfoldable pub isState : List ℕ → Bool
-isState s = eqb (length s) stateLength && (leb (getD s 10 0) mostEvents && isSound (paramIn s))
+isState s = eqb (length s) stateLength && (isRate (getD s 3 0) && (leb (getD s 10 0) mostEvents && isSound (paramIn s)))
 
 -- ---- what is written
 

@@ -92,6 +92,9 @@ pub fn decode(state: &[u64]) -> Outcome
     if state.len() != LENGTH {
         return none();
     }
+    if 1 < state[3] {
+        return none();
+    }
     let bounds = Bounds {
         min: single_in(state[0]),
         default: single_in(state[1]),

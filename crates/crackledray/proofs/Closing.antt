@@ -11,9 +11,11 @@ use borrow.Author.Tests.{eqb-true, eq-eqb, ne-eqb}
 use Rattle.rules.specs.declared.AutomationRate.{AutomationRate}
 use Rattle.rules.specs.declared.Bounds.{Bounds}
 use Rattle.rules.specs.declared.Refusal.{Refusal}
+use Rattle.rules.specs.declared.Refusal.the-variants as Refusal
 use Rattle.rules.specs.declared.Verdict.{Verdict}
 use Rattle.rules.specs.declared.Verdict.the-variants as Verdict
 use Rattle.rules.specs.Numbers.{mostEvents}
+use Rattle.rules.specs.Refusals.{numberOf}
 use Rattle.rules.specs.Block.{Param, made, Command, Called, called, Call, Answer, answered}
 use Rattle.laws.proofs.Tests.{clash, both}
 use Rattle.param.specs.declared.AudioParam.{AudioParam}
@@ -29,6 +31,24 @@ use Rattle.coding.proofs.Words.{words-length}
 use Rattle.coding.proofs.Read.{encoded-accepted}
 use Rattle.crackledray.specs.Exported.{badState, numberAs, stateAfter, told, Played, played, Begins, Tells, Plays, Closes}
 
+-- ---- numbers
+
+-- 0 is no refusal's number
+zero-answers : (v : Verdict) → numberAs v ≡ 0 → v ≡ Verdict.Answered
+unfolding numberAs numberOf
+zero-answers Verdict.Answered h = refl
+zero-answers (Verdict.Refused Refusal.Bounds) h = absurd (omega (arith, h))
+zero-answers (Verdict.Refused Refusal.NotFinite) h = absurd (omega (arith, h))
+zero-answers (Verdict.Refused Refusal.BeforeZero) h = absurd (omega (arith, h))
+zero-answers (Verdict.Refused Refusal.NotAbove) h = absurd (omega (arith, h))
+zero-answers (Verdict.Refused Refusal.ZeroTarget) h = absurd (omega (arith, h))
+zero-answers (Verdict.Refused Refusal.ShortCurve) h = absurd (omega (arith, h))
+zero-answers (Verdict.Refused Refusal.QueueFull) h = absurd (omega (arith, h))
+zero-answers (Verdict.Refused Refusal.StoreFull) h = absurd (omega (arith, h))
+zero-answers (Verdict.Refused Refusal.BadBlock) h = absurd (omega (arith, h))
+zero-answers (Verdict.Refused Refusal.OutOfOrder) h = absurd (omega (arith, h))
+zero-answers (Verdict.Refused Refusal.BadStore) h = absurd (omega (arith, h))
+
 -- ---- the state of a parameter
 
 accepted-long : (s : List ℕ) → isState s ≡ true → length s ≡ stateLength
@@ -43,14 +63,15 @@ module _ {p : AudioParam} {s after : List ℕ} (f : SoundParam p) (long : length
   pub reads-back : (isState after ≡ true) × (paramIn after ≡ paramOf p)
   reads-back = (encoded-accepted f (ap length (e .is) ∙ written-long (paramOf p) s (f .sound .waiting .few) long) e, e .back)
 
-  pub closes-answered : {v : Verdict} → v ≡ Verdict.Answered → Closes v (paramOf p) s 0 after
-  unfolding numberAs stateAfter
-  closes-answered h = record { number = rw h; state = rw h (e .is); reads = λ t. reads-back }
+  pub closes-answered : (v : Verdict) {n : ℕ} → n ≡ numberAs v → n ≡ 0 → Closes v (paramOf p) s n after
+  unfolding stateAfter
+  closes-answered v h z = record { number = h; state = rw (zero-answers v (sym h ∙ z)) (e .is); reads = λ t. reads-back }
 
-pub closes-refused : {v : Verdict} {why : Refusal} {n : ℕ} (p : Param) (s : List ℕ) → v ≡ Verdict.Refused why → n ≡ numberAs v → Closes v p s n s
-unfolding stateAfter
-closes-refused p s h e =
-    record { number = e; state = rw h; reads = λ t. let z : _≡_ {A = ℕ} 0 1 = cc in absurd (omega arith) }
+pub closes-refused : (v : Verdict) {n : ℕ} (p : Param) (s : List ℕ) → n ≡ numberAs v → (n ≡ 0 → ⊥) → Closes v p s n s
+unfolding numberAs stateAfter
+closes-refused Verdict.Answered p s h z = absurd (z h)
+closes-refused (Verdict.Refused why) p s h z =
+    record { number = h; state = refl; reads = λ t. let z : _≡_ {A = ℕ} 0 1 = cc in absurd (omega arith) }
 
 -- ---- the constructor
 

@@ -32,7 +32,7 @@ tells-settled x y =
 pub plays-settled : {s : List ℕ} {store : List Float} {c : Call} {before after other : Played} → Plays s store c before after → Plays s store c before other → after ≡ other
 plays-settled x y = x .says ∙ sym (y .says)
 
--- ---- a state that is none of a parameter
+-- ---- a state that fails its test
 
 module _ (s : List ℕ) (bad : isState s ≡ false) where
   pub call-changes-nothing : {store left : List Float} {c : Command} {n : ℕ} {after : List ℕ} → Tells s store c n after left

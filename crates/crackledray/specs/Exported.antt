@@ -1,4 +1,4 @@
--- What the exported calls answer: of a state that is one of a parameter, what document 01's call answers; of any other, a number of its own and no change.
+-- What the exported calls answer: of a state that passes its test, what document 01's call answers; of any other, a number of its own and no change.
 use mathlib.Core.Path.{_≡_}
 use mathlib.Core.Bool.{Bool, true, false, cond}
 use mathlib.Core.List.{List}
@@ -17,7 +17,11 @@ use Rattle.coding.specs.Coding.{stateLength, paramIn, isState, stateOf}
 
 -- ---- numbers
 
--- the number for a state that is none of a parameter: none of document 01's
+-- 0.2.0 of the calls and of the state: 65,536 × major + 256 × minor + patch
+abbrev pub version : ℕ
+version = 512
+
+-- the number for a state that fails the test: none of document 01's
 abbrev pub badState : ℕ
 badState = 100
 
@@ -44,7 +48,7 @@ pub record Told : Type 0 where
   pub state : List ℕ
   pub store : List Float
 
--- by whether the state is one of a parameter, and what the call on that parameter answers
+-- by whether the state passes, and what the call on its parameter answers
 unfoldable pub told : Bool → List ℕ → List Float → Called → Told
 told false s store k = record { number = badState; state = s; store = store }
 told true s store k = record { number = numberAs (k .verdict); state = stateAfter (k .verdict) (k .param) s; store = k .store }

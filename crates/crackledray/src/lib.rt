@@ -1,5 +1,6 @@
 // The parameter for programs in Rust or C: each call over a state, an array of plain numbers that the caller keeps, and the curve store.
-// A call gives 0, document 01's number of its refusal, or 100 where the state is none of a parameter; then nothing changes.
+// A call gives 0, document 01's number of its refusal, or 100 where the state fails its test (coding's isState). Refused, nothing changes,
+// but that a make refused by 1 writes its empty parameter, and a refused block its 0 steps, current value 0 and not one-valued.
 ghost use mathlib.Core.Path.{_≡_};
 ghost use mathlib.Core.List.{[]};
 ghost use lib.ListN.{length};
@@ -7,11 +8,13 @@ ghost use Rattle.rules.specs.Block.{set, step, linear, exponential, target, cur
 ghost use Rattle.block.specs.Asked.{asked};
 ghost use Rattle.param.specs.Param.{paramOf, SoundParam};
 ghost use Rattle.coding.specs.Coding.{stateLength};
-ghost use Rattle.crackledray.specs.Exported.{badState, rateOf, numberAs, Begins, Tells, Plays, Closes};
+ghost use Rattle.crackledray.specs.Exported.{version, badState, rateOf, numberAs, Begins, Tells, Plays, Closes};
 use param::AudioParam;
 use rules::AutomationRate;
 use rules::Bounds;
 use rules::Verdict;
+
+const VERSION: u32 = 0x00_0200;
 
 const BAD_STATE: u32 = 100;
 
@@ -40,13 +43,19 @@ fn close(verdict: Verdict, p: AudioParam, state: &mut [u64]) -> u32
     requires { ⌜ SoundParam p × (length (now state) ≡ stateLength) ⌝ }
     ensures { λ r. ⌜ Closes verdict (paramOf p) (now (state .entry)) r (now (state .exit)) ⌝ }
 {
-    match verdict {
-        Verdict::Answered => {
-            coding::encode(p, state);
-            0
-        }
-        Verdict::Refused(_) => number_of(verdict),
+    let number = number_of(verdict);
+    if number == 0 {
+        coding::encode(p, state);
     }
+    number
+}
+
+// The library's own version, for a caller to hold against the header that it was compiled with.
+#[no_mangle]
+pub extern "C" fn crackledray_version() -> u32
+    ensures { λ r. ⌜ r ≡ version ⌝ }
+{
+    VERSION
 }
 
 #[no_mangle]
@@ -204,7 +213,7 @@ pub extern "C" fn crackledray_hold(state: &mut [u64], time: f64, store: &mut [f3
     close(verdict, p, state)
 }
 
-// `steps`, `current` and `one` are written where the state is one of a parameter: 0, 0 and false where the block is refused.
+// `steps`, `current` and `one` are written where the state passes its test: 0, 0 and false where the block is refused.
 #[no_mangle]
 pub extern "C" fn crackledray_block(
     state: &mut [u64],

@@ -45,7 +45,7 @@ finite-held (fin s m e) t h = and-i (fits binary64 (fin s m e)) true (fits-widen
 
 -- ---- equal to 0
 
-is-none : (s : Bool) (m : ℕ) (e : ℤ) → eq (fin s m e) plusZero ≡ true → m ≡ 0
+pub is-none : (s : Bool) (m : ℕ) (e : ℤ) → eq (fin s m e) plusZero ≡ true → m ≡ 0
 unfolding eq
 is-none s zero e h = refl
 is-none s (suc m) e h =

@@ -1,6 +1,6 @@
 -- What a walk leaves is sound: its queue, and the last event's time. Assumes nothing.
 use mathlib.Core.Path.{_≡_, refl}
-use mathlib.Core.Bool.{Bool, true, false, cond, _&&_}
+use mathlib.Core.Bool.{Bool, true, false, cond}
 use mathlib.Core.List.{List, [], _∷_}
 use Prim.Native.Nat.{ℕ, suc, _+_, _≤_}
 use native.Mathlib.Omega.{arith}
@@ -14,15 +14,18 @@ use Rattle.rules.specs.declared.Event.the-variants as Event
 use Rattle.rules.specs.declared.LastEvent.{LastEvent}
 use Rattle.rules.specs.declared.LastEvent.the-variants as LastEvent
 use Rattle.rules.specs.declared.BlockInfos.{BlockInfos}
-use Rattle.rules.specs.Numbers.{mostEvents, storeLength, laterOf}
+use Rattle.rules.specs.Numbers.{mostEvents, storeLength, isFinite, isPositive, laterOf}
 use Rattle.rules.specs.Queue.{Waiting, filedUnder, isRamp, lengthOf, lengthsOf, headOf, eventsOf}
+use Rattle.rules.specs.Refusals.{isPeriod}
 use Rattle.rules.specs.Walk.{Walk, holdOr, endByNext, endByHold, counted, withLast, withTurned, fill, withValues, withIntrinsic, consumed, startOf, lastOr}
 use Rattle.rules.specs.Block.{target, restsFor, walkFrom, valuesBefore, renderedAs, rendered}
-use Rattle.laws.specs.Sound.{isNumber, isNumberIfAny, isHeldBy, endsClear, isClear, areClear, goesBefore, inOrder, SoundQueue, isLastClear}
+use Rattle.laws.specs.Sound.{isNumber, isFromZero, isTakenIfAny, isHeldBy, isClear, areClear, goesBefore, inOrder, SoundQueue, isLastClear}
 use Rattle.laws.proofs.Tests.{both, and}
-use Rattle.laws.proofs.Order.{le-le, le-left, not-lt, number-le}
+use Rattle.laws.proofs.Order.{le-le, not-lt, number-le}
+use Rattle.laws.proofs.Results.{add-number, from-zero-number, taken-parts, taken-number}
+use Rattle.laws.proofs.Clear.{all-parts, all-more, Span, hold-taken, CurveParts, linear-parts, exponential-parts, target-parts, curve-parts, clear-number}
 use Rattle.laws.proofs.Ordered.{order-parts}
-use Rattle.laws.proofs.Queues.{suffix-sound, clear-number}
+use Rattle.laws.proofs.Queues.{suffix-sound}
 use Rattle.laws.proofs.Walks.{Timed, AllTimed, IfAny, Left, same, stepped, turned, snapped, Rest, none, here, later, Carries, walk-carries}
 
 -- ---- the queue
@@ -33,15 +36,15 @@ earlier-before s t [] h g = refl
 earlier-before s t (e ∷ q) h g = le-le s t (filedUnder e) h g
 
 -- the head becomes a step that is at or before the next event
-step-sound : (e : Event) (q : List Event) (v t : Float) → isNumber t ≡ true → goesBefore t q ≡ true → SoundQueue (e ∷ q) → SoundQueue (Event.Step v t ∷ q)
-unfolding inOrder areClear isClear endsClear lengthsOf lengthOf filedUnder
-step-sound e q v t n g s =
+step-sound : (e : Event) (q : List Event) (v t : Float) → isFinite v ≡ true → isFromZero t ≡ true → goesBefore t q ≡ true → SoundQueue (e ∷ q) → SoundQueue (Event.Step v t ∷ q)
+unfolding inOrder isClear lengthsOf lengthOf filedUnder
+step-sound e q v t n z g s =
     let a : suc (length q) ≤ mostEvents = s .few in
     let b : lengthOf e + lengthsOf q ≤ storeLength = s .room in
     record {
       few = a;
       ordered = and g (order-parts e q (s .ordered) .1);
-      clear = and (and n refl) (both (isClear e) (areClear q) (s .clear) .1);
+      clear = all-more isClear (Event.Step v t) q (and n z) (all-parts isClear e q (s .clear) .1);
       room = omega arith;
     }
 
@@ -62,12 +65,12 @@ no-end-by-hold f (MaybeTime.At c) e k = go (Ieee.lt c (f .next)) k
 -- a target that has no end is before the next event, and so is the step that it becomes
 no-end-by-next : (f : BlockInfos) (t : Float) (xs : List Waiting) → isNumber (f .next) ≡ true → areClear (eventsOf xs) ≡ true
     → endByNext f t (headOf xs) ≡ MaybeTime.Missing → goesBefore (f .next) (eventsOf xs) ≡ true
-unfolding endByNext headOf eventsOf goesBefore areClear
+unfolding endByNext headOf eventsOf goesBefore
 no-end-by-next f t [] n c k = refl
 no-end-by-next f t (x ∷ xs) n c k = go (isRamp (x .event)) (Ieee.lt (filedUnder (x .event)) (f .next)) refl k
   where
     number : isNumber (filedUnder (x .event)) ≡ true
-    number = clear-number (x .event) (both (isClear (x .event)) (areClear (eventsOf xs)) c .0)
+    number = clear-number (x .event) (all-parts isClear (x .event) (eventsOf xs) c .0)
 
     go : (r b : Bool) → Ieee.lt (filedUnder (x .event)) (f .next) ≡ b
         → cond r (MaybeTime.At (laterOf (f .time) t)) (cond b (MaybeTime.At (filedUnder (x .event))) MaybeTime.Missing) ≡ MaybeTime.Missing
@@ -76,26 +79,39 @@ no-end-by-next f t (x ∷ xs) n c k = go (isRamp (x .event)) (Ieee.lt (filedUnde
     go false true e k = let z : _≡_ {A = ℕ} 0 1 = cc in absurd (omega arith)
     go false false e k = not-lt (filedUnder (x .event)) (f .next) number n e
 
-clear-tail : (e : Event) (q : List Event) → areClear (e ∷ q) ≡ true → areClear q ≡ true
-unfolding areClear
-clear-tail e q h = both (isClear e) (areClear q) h .1
-
 -- an exponential that becomes a step at its hold time is at or before its own
 turned-sound : (v t : Float) (h : MaybeTime) (q : List Event) → SoundQueue (Event.Exponential v t h ∷ q) → SoundQueue (Event.Step v (holdOr h t) ∷ q)
-unfolding areClear isClear endsClear filedUnder
+unfolding filedUnder
 turned-sound v t h q s =
-    let a = both (isNumber t) (isHeldBy t h) (both (isNumber t && isHeldBy t h) (areClear q) (s .clear) .0) in
-    let l : Ieee.le (holdOr h t) t ≡ true = hold-before t h (a .0) (a .1) in
+    let a = exponential-parts v t h (all-parts isClear (Event.Exponential v t h) q (s .clear) .0) in
+    let l : Ieee.le (holdOr h t) t ≡ true = hold-before t h (taken-number t (a .2 .time)) (a .2 .before) in
     step-sound
     (Event.Exponential v t h)
     q
     v
     (holdOr h t)
-    (le-left (holdOr h t) t l)
+    (a .0)
+    (taken-parts (holdOr h t) (hold-taken h t (a .2 .hold) (a .2 .time)) .1)
     (earlier-before (holdOr h t) t q l (order-parts (Event.Exponential v t h) q (s .ordered) .0))
     s
 
-left-sound : (f : BlockInfos) (x y : Waiting) (xs : List Waiting) → isNumber (f .next) ≡ true → Left f x (headOf xs) y → SoundQueue (x .event ∷ eventsOf xs)
+-- a target that snaps becomes a step at the next block time
+snapped-sound : (f : BlockInfos) (v t c : Float) (h : MaybeTime) (xs : List Waiting) → isFromZero (f .next) ≡ true
+    → endByHold f h (endByNext f t (headOf xs)) ≡ MaybeTime.Missing → SoundQueue (Event.Target v t c h ∷ eventsOf xs)
+    → SoundQueue (Event.Step v (f .next) ∷ eventsOf xs)
+snapped-sound f v t c h xs z free s =
+    let a = all-parts isClear (Event.Target v t c h) (eventsOf xs) (s .clear) in
+    step-sound
+    (Event.Target v t c h)
+    (eventsOf xs)
+    v
+    (f .next)
+    (target-parts v t c h (a .0) .value)
+    z
+    (no-end-by-next f t xs (from-zero-number (f .next) z) (a .1) (no-end-by-hold f h (endByNext f t (headOf xs)) free))
+    s
+
+left-sound : (f : BlockInfos) (x y : Waiting) (xs : List Waiting) → isFromZero (f .next) ≡ true → Left f x (headOf xs) y → SoundQueue (x .event ∷ eventsOf xs)
     → SoundQueue (y .event ∷ eventsOf xs)
 left-sound f x y xs n same s = s
 left-sound f x y xs n (stepped is) s = rw is at s
@@ -103,16 +119,10 @@ left-sound f x y xs n (turned {v} {t} {h} is) s =
     let r : SoundQueue (Event.Exponential v t h ∷ eventsOf xs) = rw is at s in
     turned-sound v t h (eventsOf xs) r
 left-sound f x y xs n (snapped {v} {t} {c} {h} is free) s =
-    step-sound
-    (x .event)
-    (eventsOf xs)
-    v
-    (f .next)
-    n
-    (no-end-by-next f t xs n (clear-tail (x .event) (eventsOf xs) (s .clear)) (no-end-by-hold f h (endByNext f t (headOf xs)) free))
-    s
+    let r : SoundQueue (Event.Target v t c h ∷ eventsOf xs) = rw is at s in
+    snapped-sound f v t c h xs n free r
 
-pub rest-sound : (f : BlockInfos) (ws ys : List Waiting) → isNumber (f .next) ≡ true → Rest f ws ys → SoundQueue (eventsOf ws) → SoundQueue (eventsOf ys)
+pub rest-sound : (f : BlockInfos) (ws ys : List Waiting) → isFromZero (f .next) ≡ true → Rest f ws ys → SoundQueue (eventsOf ws) → SoundQueue (eventsOf ys)
 unfolding eventsOf
 rest-sound f ws ys n none s = s
 rest-sound f ws ys n (here {x = x} {y = y} {xs = xs} l) s = left-sound f x y xs n l s
@@ -126,33 +136,40 @@ Number t = isNumber t ≡ true
 abbrev LastClear : Walk → Type 0
 LastClear w = isLastClear (w .last) ≡ true
 
-hold-number : (h : MaybeTime) (t : Float) → isNumberIfAny h ≡ true → isNumber t ≡ true → isNumber (holdOr h t) ≡ true
-unfolding isNumberIfAny holdOr
-hold-number MaybeTime.Missing t k n = n
-hold-number (MaybeTime.At c) t k n = k
-
-any-number : (h : MaybeTime) → isNumberIfAny h ≡ true → IfAny Number h
-unfolding isNumberIfAny
+any-number : (h : MaybeTime) → isTakenIfAny h ≡ true → IfAny Number h
+unfolding isTakenIfAny
 any-number MaybeTime.Missing k = tt
-any-number (MaybeTime.At c) k = k
+any-number (MaybeTime.At c) k = taken-number c k
+
+span-end : (t : Float) (h : MaybeTime) → Span t h → Number (holdOr h t)
+span-end t h s = taken-number (holdOr h t) (hold-taken h t (s .hold) (s .time))
+
+-- start + duration, or the hold time
+curve-end : (s d : Float) (n : ℕ) (h : MaybeTime) → CurveParts s d n h → Number (holdOr h (Ieee.add binary64 s d))
+unfolding isPeriod
+curve-end s d n h p = go h (any-number h (p .hold))
+  where
+    sum : Number (Ieee.add binary64 s d)
+    sum = add-number binary64 s d (taken-parts s (p .start) .0) (both (isFinite d) (isPositive d) (p .duration) .0)
+
+    go : (h : MaybeTime) → IfAny Number h → Number (holdOr h (Ieee.add binary64 s d))
+    go MaybeTime.Missing k = unfold holdOr in sum
+    go (MaybeTime.At c) k = unfold holdOr in k
 
 clear-timed : (e : Event) → isClear e ≡ true → Timed Number e
-unfolding isClear endsClear filedUnder
-clear-timed (Event.Step v t) h = record { filed = both (isNumber t) true h .0; ends = tt }
-clear-timed (Event.Linear v t k) h =
-    let a = both (isNumber t) (isHeldBy t k) h in record { filed = a .0; ends = le-left (holdOr k t) t (hold-before t k (a .0) (a .1)) }
+clear-timed (Event.Step v t) h = record { filed = clear-number (Event.Step v t) h; ends = tt }
+clear-timed (Event.Linear v t k) h = record { filed = clear-number (Event.Linear v t k) h; ends = span-end t k (linear-parts v t k h .1) }
 clear-timed (Event.Exponential v t k) h =
-    let a = both (isNumber t) (isHeldBy t k) h in record { filed = a .0; ends = le-left (holdOr k t) t (hold-before t k (a .0) (a .1)) }
-clear-timed (Event.Target v t c k) h = let a = both (isNumber t) (isNumberIfAny k) h in record { filed = a .0; ends = any-number k (a .1) }
+    record { filed = clear-number (Event.Exponential v t k) h; ends = span-end t k (exponential-parts v t k h .2) }
+clear-timed (Event.Target v t c k) h =
+    record { filed = clear-number (Event.Target v t c k) h; ends = any-number k (target-parts v t c k h .hold) }
 clear-timed (Event.Curve s d n k) h =
-    let a = both (isNumber s) _ h in
-    let b = both (isNumber (Ieee.add binary64 s d)) _ (a .1) in
-    record { filed = a .0; ends = hold-number k (Ieee.add binary64 s d) (both (isNumberIfAny k) _ (b .1) .0) (b .0) }
+    record { filed = clear-number (Event.Curve s d n k) h; ends = curve-end s d n k (curve-parts s d n k h) }
 
 all-timed : (ws : List Waiting) → areClear (eventsOf ws) ≡ true → AllTimed Number ws
-unfolding eventsOf areClear
+unfolding eventsOf
 all-timed [] h = tt
-all-timed (w ∷ ws) h = let a = both (isClear (w .event)) (areClear (eventsOf ws)) h in (clear-timed (w .event) (a .0), all-timed ws (a .1))
+all-timed (w ∷ ws) h = let a = all-parts isClear (w .event) (eventsOf ws) h in (clear-timed (w .event) (a .0), all-timed ws (a .1))
 
 module _ (f : BlockInfos) (now : isNumber (f .time) ≡ true) where
   start-clear : (v : Float) (l : LastEvent) → isLastClear l ≡ true → isNumber (lastOr f v l .time) ≡ true

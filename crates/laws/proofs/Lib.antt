@@ -3,6 +3,7 @@ pub mod Order
 pub mod Results
 pub mod Rows
 pub mod Events
+pub mod Clear
 pub mod Ordered
 pub mod Search
 pub mod Queues

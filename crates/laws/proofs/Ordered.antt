@@ -14,6 +14,7 @@ use Rattle.laws.specs.Sound.{isNumber, isClear, areClear, goesBefore, in
 use Rattle.laws.specs.Search.{placeOf, isLaterThan, isNotBefore, firstLater, firstNotBefore}
 use Rattle.laws.proofs.Tests.{clash, both, and}
 use Rattle.laws.proofs.Order.{le-le, lt-le, not-lt, lt-not-le, le-lt, lt-le-lt}
+use Rattle.laws.proofs.Clear.{all-parts, clear-number}
 use Rattle.laws.proofs.Events.{events-one, events-take, events-append, events-get, place-events}
 
 -- ---- in order, and from a time on
@@ -65,15 +66,15 @@ none-earlier t s (e ∷ q) h f =
 
 -- behind the last event of equal or smaller time is before the first later one
 pub behind-is-first-later : (t : Float) (q : List Event) → isNumber t ≡ true → areClear q ≡ true → inOrder q ≡ true → placeBehind t q ≡ firstLater t q
-unfolding placeBehind firstLater placeOf isLaterThan areClear isClear hasNotLater
+unfolding placeBehind firstLater placeOf isLaterThan hasNotLater
 behind-is-first-later t [] n c o = refl
 behind-is-first-later t (e ∷ q) n c o =
-    let a = both (isClear e) (areClear q) c in
+    let a = all-parts isClear e q c in
     let r = order-parts e q o in
     go
     (Ieee.lt t (filedUnder e))
     refl
-    (both (isNumber (filedUnder e)) _ (a .0) .0)
+    (clear-number e (a .0))
     (all-from (filedUnder e) q (r .0) (r .1))
     (behind-is-first-later t q n (a .1) (r .1))
   where
@@ -95,12 +96,12 @@ before-put t (suc k) e [] h g = h
 before-put t (suc k) e (d ∷ q) h g = g
 
 put-order : (e : Event) (q : List Event) → isNumber (filedUnder e) ≡ true → areClear q ≡ true → inOrder q ≡ true → inOrder (putAt (firstLater (filedUnder e) q) e q) ≡ true
-unfolding firstLater placeOf isLaterThan areClear isClear inOrder goesBefore
+unfolding firstLater placeOf isLaterThan inOrder goesBefore
 put-order e [] n c o = unfold putAt in refl
 put-order e (d ∷ q) n c o =
-    let a = both (isClear d) (areClear q) c in
+    let a = all-parts isClear d q c in
     let r = order-parts d q o in
-    let m : isNumber (filedUnder d) ≡ true = both (isNumber (filedUnder d)) _ (a .0) .0 in
+    let m : isNumber (filedUnder d) ≡ true = clear-number d (a .0) in
     rw (arrives (Ieee.lt (filedUnder e) (filedUnder d)) (placeOf (isLaterThan (filedUnder e)) q) e d q)
     (go (Ieee.lt (filedUnder e) (filedUnder d)) refl m r (put-order e q n (a .1) (r .1)))
   where

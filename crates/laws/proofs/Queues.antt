@@ -2,52 +2,30 @@
 use mathlib.Core.Path.{_≡_, refl, sym, ap, _∙_}
 use mathlib.Core.Bool.{Bool, true, false, cond}
 use mathlib.Core.List.{List, [], _∷_, _++_}
-use Prim.Native.Nat.{ℕ, zero, suc, _+_, _≤_, _<_}
+use Prim.Native.Nat.{ℕ, suc, _+_, _≤_, _<_}
 use native.Mathlib.Omega.{arith}
 use lib.ListN.{length, take, drop, length-take, length-drop, take-append-drop}
 use lib.Seq.{take-append-seam, append-snoc}
 use lib.Ieee as Ieee
-use lib.Ieee.{Float, binary64}
+use lib.Ieee.{Float}
 use Rattle.rules.specs.declared.MaybeTime.{MaybeTime}
 use Rattle.rules.specs.declared.MaybeTime.the-variants as MaybeTime
 use Rattle.rules.specs.declared.Event.{Event}
 use Rattle.rules.specs.declared.Event.the-variants as Event
 use Rattle.rules.specs.Numbers.{mostEvents, storeLength}
 use Rattle.rules.specs.Queue.{Waiting, filedUnder, isRamp, lengthOf, lengthsOf, eventsOf, putAt, placeBehind, arrived, those, cancelled, sooner, heldEvent, heldAt, runsAt, heldIfRunning, lastHeld, isLater, isNotLater, heldBy, held}
-use Rattle.laws.specs.Sound.{isNumber, isNumberIfAny, isHeldBy, endsClear, isClear, areClear, goesBefore, inOrder, SoundQueue}
+use Rattle.laws.specs.Sound.{isTaken, isTakenIfAny, isHeldBy, isSpan, isClear, isDue, all, areClear, areDue, goesBefore, inOrder, SoundQueue}
 use Rattle.laws.specs.Search.{firstLater, firstNotBefore}
 use Rattle.laws.proofs.Tests.{never, both, and}
 use Rattle.laws.proofs.Order.{lt-le}
 use Rattle.laws.proofs.Events.{events-take, lengths-split, put-length, put-lengths, held-filed, held-size}
+use Rattle.laws.proofs.Clear.{all-parts, all-more, all-take, all-drop, all-put, Span, span-whole, linear-parts, exponential-parts, target-parts, curve-parts, clear-number}
 use Rattle.laws.proofs.Ordered.{order-take, order-drop, arrived-order, AllPass, those-pass, cancelled-is, early-is, late-is}
-
--- ---- clear events
-
-pub clear-append : (p q : List Event) → areClear p ≡ true → areClear q ≡ true → areClear (p ++ q) ≡ true
-unfolding areClear
-clear-append [] q h k = k
-clear-append (e ∷ p) q h k = let a = both (isClear e) (areClear p) h in and (a .0) (clear-append p q (a .1) k)
-
-pub clear-take : (n : ℕ) (q : List Event) → areClear q ≡ true → areClear (take n q) ≡ true
-unfolding areClear
-clear-take zero q h = refl
-clear-take (suc n) [] h = refl
-clear-take (suc n) (e ∷ q) h = let a = both (isClear e) (areClear q) h in and (a .0) (clear-take n q (a .1))
-
-pub clear-drop : (n : ℕ) (q : List Event) → areClear q ≡ true → areClear (drop n q) ≡ true
-unfolding areClear
-clear-drop zero q h = h
-clear-drop (suc n) [] h = h
-clear-drop (suc n) (e ∷ q) h = clear-drop n q (both (isClear e) (areClear q) h .1)
-
-pub clear-number : (e : Event) → isClear e ≡ true → isNumber (filedUnder e) ≡ true
-unfolding isClear
-clear-number e h = both (isNumber (filedUnder e)) (endsClear e) h .0
 
 -- ---- a part of the queue
 
 pub empty-sound : SoundQueue []
-unfolding inOrder areClear lengthsOf
+unfolding inOrder all lengthsOf
 empty-sound = record { few = omega arith; ordered = refl; clear = refl; room = omega arith }
 
 -- fewer events with fewer numbers
@@ -63,17 +41,11 @@ module _ (n : ℕ) (q : List Event) (s : SoundQueue q) where
 
   pub prefix-sound : SoundQueue (take n q)
   prefix-sound =
-      part-sound (take n q) q (rw length-take (omega arith)) (omega (arith, split)) (order-take n q (s .ordered)) (clear-take n q (s .clear)) s
+      part-sound (take n q) q (rw length-take (omega arith)) (omega (arith, split)) (order-take n q (s .ordered)) (all-take isClear n q (s .clear)) s
 
   pub suffix-sound : SoundQueue (drop n q)
   suffix-sound =
-      part-sound (drop n q) q (rw length-drop (omega arith)) (omega (arith, split)) (order-drop n q (s .ordered)) (clear-drop n q (s .clear)) s
-
--- what stands in front of other events
-front-sound : (ws xs : List Waiting) → SoundQueue (eventsOf (ws ++ xs)) → SoundQueue (eventsOf ws)
-front-sound ws xs s =
-    let e : take (length ws) (eventsOf (ws ++ xs)) ≡ eventsOf ws = sym (events-take (length ws) (ws ++ xs)) ∙ ap eventsOf (take-append-seam ws xs) in
-    rw e at (prefix-sound (length ws) (eventsOf (ws ++ xs)) s)
+      part-sound (drop n q) q (rw length-drop (omega arith)) (omega (arith, split)) (order-drop n q (s .ordered)) (all-drop isClear n q (s .clear)) s
 
 -- ---- an arrival
 
@@ -86,20 +58,20 @@ arrived-sound e q c l r s =
     record {
       few = omega arith;
       ordered = unfold arrived in arrived-order e q (clear-number e c) (s .clear) (s .ordered);
-      clear = put-clear k;
+      clear = all-put isClear k e q c (s .clear);
       room = omega arith;
     }
-  where
-    put-clear : (k : ℕ) → areClear (putAt k e q) ≡ true
-    put-clear k =
-        unfold putAt areClear in
-        clear-append (take k q) (e ∷ drop k q) (clear-take k q (s .clear)) (and c (clear-drop k q (s .clear)))
 
 -- ---- a cancel
 
 pub cancelled-sound : (c : Float) (ws : List Waiting) → SoundQueue (eventsOf ws) → SoundQueue (eventsOf (cancelled c ws))
 cancelled-sound c ws s =
     rw (cancelled-is c ws (s .ordered), events-take) (prefix-sound (firstNotBefore c (eventsOf ws)) (eventsOf ws) s)
+
+pub cancelled-due : (played : Bool) (c : Float) (ws : List Waiting) → inOrder (eventsOf ws) ≡ true → areDue played (eventsOf ws) ≡ true
+    → areDue played (eventsOf (cancelled c ws)) ≡ true
+cancelled-due played c ws o d =
+    rw (cancelled-is c ws o, events-take) (all-take (isDue played) (firstNotBefore c (eventsOf ws)) (eventsOf ws) d)
 
 -- ---- a hold: an event is held where it stands
 
@@ -128,11 +100,15 @@ likes-order p q (more {e = e} {p = p'} {q = q'} l ls) h =
     let a = both (goesBefore (filedUnder e) p') (inOrder p') h in
     and (likes-before _ p' q' ls (rw (l .filed) (a .0))) (likes-order p' q' ls (a .1))
 
-likes-clear : (p q : List Event) → Likes p q → areClear p ≡ true → areClear q ≡ true
-unfolding areClear
-likes-clear p q none h = h
-likes-clear p q (more {e = e} {p = p'} {q = q'} l ls) h =
-    let a = both (isClear e) (areClear p') h in and (l .clear (a .0)) (likes-clear p' q' ls (a .1))
+same-due : (played : Bool) (e d : Event) → filedUnder d ≡ filedUnder e → isDue played e ≡ true → isDue played d ≡ true
+unfolding isDue
+same-due played e d f h = rw f h
+
+-- a test that the like of an event passes, too
+likes-all : (test : Event → Bool) → ((e d : Event) → Like e d → test e ≡ true → test d ≡ true) → (p q : List Event) → Likes p q → all test p ≡ true → all test q ≡ true
+likes-all test step p q none h = h
+likes-all test step p q (more {e = e} {d = d} {p = p'} {q = q'} l ls) h =
+    let a = all-parts test e p' h in all-more test d q' (step e d l (a .0)) (likes-all test step p' q' ls (a .1))
 
 likes-length : (p q : List Event) → Likes p q → length q ≡ length p
 likes-length p q none = refl
@@ -148,19 +124,19 @@ likes-sound p q l s =
     record {
       few = rw (likes-length p q l) (s .few);
       ordered = likes-order p q l (s .ordered);
-      clear = likes-clear p q l (s .clear);
+      clear = likes-all isClear (λ e d m. m .clear) p q l (s .clear);
       room = rw (likes-lengths p q l) (s .room);
     }
 
-module _ (c : Float) (number : isNumber c ≡ true) where
-  sooner-number : (h : MaybeTime) → isNumberIfAny h ≡ true → isNumberIfAny (sooner h c) ≡ true
-  unfolding sooner isNumberIfAny
-  sooner-number MaybeTime.Missing k = number
-  sooner-number (MaybeTime.At t) k = go (Ieee.lt t c)
+module _ (c : Float) (taken : isTaken c ≡ true) where
+  sooner-taken : (h : MaybeTime) → isTakenIfAny h ≡ true → isTakenIfAny (sooner h c) ≡ true
+  unfolding sooner isTakenIfAny
+  sooner-taken MaybeTime.Missing k = taken
+  sooner-taken (MaybeTime.At t) k = go (Ieee.lt t c)
     where
-      go : (b : Bool) → isNumberIfAny (cond b (MaybeTime.At t) (MaybeTime.At c)) ≡ true
-      go true = unfold isNumberIfAny in k
-      go false = unfold isNumberIfAny in number
+      go : (b : Bool) → isTakenIfAny (cond b (MaybeTime.At t) (MaybeTime.At c)) ≡ true
+      go true = unfold isTakenIfAny in k
+      go false = unfold isTakenIfAny in taken
 
   sooner-held : (t : Float) (h : MaybeTime) → Ieee.le c t ≡ true → isHeldBy t h ≡ true → isHeldBy t (sooner h c) ≡ true
   unfolding sooner isHeldBy
@@ -171,18 +147,19 @@ module _ (c : Float) (number : isNumber c ≡ true) where
       go true = unfold isHeldBy in k
       go false = unfold isHeldBy in l
 
+  sooner-span : (t : Float) (h : MaybeTime) → Ieee.le c t ≡ true → Span t h → isSpan t (sooner h c) ≡ true
+  sooner-span t h l s = span-whole t (sooner h c) record { time = s .time; hold = sooner-taken h (s .hold); before = sooner-held t h l (s .before) }
+
   -- a ramp is held before its own time
   held-clear : (e : Event) → (isRamp e ≡ true → Ieee.le c (filedUnder e) ≡ true) → isClear e ≡ true → isClear (heldEvent c e) ≡ true
-  unfolding heldEvent isClear endsClear isRamp filedUnder
+  unfolding heldEvent isClear isRamp filedUnder
   held-clear (Event.Step v t) l k = k
-  held-clear (Event.Linear v t h) l k = let a = both (isNumber t) (isHeldBy t h) k in and (a .0) (sooner-held t h (l refl) (a .1))
-  held-clear (Event.Exponential v t h) l k = let a = both (isNumber t) (isHeldBy t h) k in and (a .0) (sooner-held t h (l refl) (a .1))
-  held-clear (Event.Target v t k h) l m = let a = both (isNumber t) (isNumberIfAny h) m in and (a .0) (sooner-number h (a .1))
+  held-clear (Event.Linear v t h) l k = let a = linear-parts v t h k in and (a .0) (sooner-span t h (l refl) (a .1))
+  held-clear (Event.Exponential v t h) l k = let a = exponential-parts v t h k in and (a .0) (and (a .1) (sooner-span t h (l refl) (a .2)))
+  held-clear (Event.Target v t m h) l k =
+      let a = target-parts v t m h k in and (a .value) (and (a .time) (and (a .constant) (sooner-taken h (a .hold))))
   held-clear (Event.Curve s d n h) l k =
-      let a = both (isNumber s) _ k in
-      let b = both (isNumber (Ieee.add binary64 s d)) _ (a .1) in
-      let m = both (isNumberIfAny h) _ (b .1) in
-      and (a .0) (and (b .0) (and (sooner-number h (m .0)) (m .1)))
+      let a = curve-parts s d n h k in and (a .start) (and (a .duration) (and (sooner-taken h (a .hold)) (a .enough)))
 
   held-like : (e : Event) → (isRamp e ≡ true → Ieee.le c (filedUnder e) ≡ true) → Like e (heldEvent c e)
   held-like e l = record { filed = held-filed c e; size = held-size c e; clear = held-clear e l }
@@ -216,22 +193,36 @@ module _ (c : Float) (number : isNumber c ≡ true) where
   ramp-likes [] x l = more (held-like (x .event) l) none
   ramp-likes (w ∷ ws) x l = more (like-self (w .event)) (ramp-likes ws x l)
 
-  -- by the events at or before c and those later, the first of these being later
-  held-by-sound : (early late : List Waiting) → AllPass (isLater c) late → SoundQueue (eventsOf (early ++ late)) → SoundQueue (eventsOf (heldBy c early late))
-  unfolding heldBy isLater
-  held-by-sound early [] a s = likes-sound (eventsOf early) _ (last-likes early) (front-sound early [] s)
-  held-by-sound early (x ∷ late) a s = go (isRamp (x .event))
-    where
-      with-ramp : SoundQueue (eventsOf (early ++ (x ∷ [])))
-      with-ramp = front-sound (early ++ (x ∷ [])) late (rw (append-snoc early x late) s)
+  -- what is kept by a part in front and by like events in their places, a hold keeps
+  module _ (P : List Event → Type 0) (part : (n : ℕ) (q : List Event) → P q → P (take n q)) (like : (p q : List Event) → Likes p q → P p → P q) where
+    front : (ws xs : List Waiting) → P (eventsOf (ws ++ xs)) → P (eventsOf ws)
+    front ws xs h =
+        let e : take (length ws) (eventsOf (ws ++ xs)) ≡ eventsOf ws = sym (events-take (length ws) (ws ++ xs)) ∙ ap eventsOf (take-append-seam ws xs) in
+        rw e at (part (length ws) (eventsOf (ws ++ xs)) h)
 
-      go : (b : Bool) → SoundQueue (eventsOf (cond b (early ++ (heldAt c x ∷ [])) (lastHeld c early)))
-      go true = likes-sound (eventsOf (early ++ (x ∷ []))) _ (ramp-likes early x (λ r. lt-le c (filedUnder (x .event)) (a .0))) with-ramp
-      go false = likes-sound (eventsOf early) _ (last-likes early) (front-sound early (x ∷ late) s)
+    -- by the events at or before c and those later, the first of these being later
+    held-by-keeps : (early late : List Waiting) → AllPass (isLater c) late → P (eventsOf (early ++ late)) → P (eventsOf (heldBy c early late))
+    unfolding heldBy isLater
+    held-by-keeps early [] a h = like (eventsOf early) _ (last-likes early) (front early [] h)
+    held-by-keeps early (x ∷ late) a h = go (isRamp (x .event))
+      where
+        with-ramp : P (eventsOf (early ++ (x ∷ [])))
+        with-ramp = front (early ++ (x ∷ [])) late (rw (append-snoc early x late) h)
+
+        go : (b : Bool) → P (eventsOf (cond b (early ++ (heldAt c x ∷ [])) (lastHeld c early)))
+        go true = like (eventsOf (early ++ (x ∷ []))) _ (ramp-likes early x (λ r. lt-le c (filedUnder (x .event)) (a .0))) with-ramp
+        go false = like (eventsOf early) _ (last-likes early) (front early (x ∷ late) h)
+
+    held-keeps : (ws : List Waiting) → inOrder (eventsOf ws) ≡ true → P (eventsOf ws) → P (eventsOf (held c ws))
+    unfolding held
+    held-keeps ws o h =
+        let k : ℕ = firstLater c (eventsOf ws) in
+        let e : those (isNotLater c) ws ++ those (isLater c) ws ≡ ws = rw (early-is c ws o, late-is c ws o) (take-append-drop k ws) in
+        held-by-keeps (those (isNotLater c) ws) (those (isLater c) ws) (those-pass (isLater c) ws) (rw e h)
 
   pub held-sound : (ws : List Waiting) → SoundQueue (eventsOf ws) → SoundQueue (eventsOf (held c ws))
-  unfolding held
-  held-sound ws s =
-      let k : ℕ = firstLater c (eventsOf ws) in
-      let e : those (isNotLater c) ws ++ those (isLater c) ws ≡ ws = rw (early-is c ws (s .ordered), late-is c ws (s .ordered)) (take-append-drop k ws) in
-      held-by-sound (those (isNotLater c) ws) (those (isLater c) ws) (those-pass (isLater c) ws) (rw e s)
+  held-sound ws s = held-keeps SoundQueue prefix-sound likes-sound ws (s .ordered) s
+
+  pub held-due : (played : Bool) (ws : List Waiting) → inOrder (eventsOf ws) ≡ true → areDue played (eventsOf ws) ≡ true → areDue played (eventsOf (held c ws)) ≡ true
+  held-due played ws o d =
+      held-keeps (λ q. areDue played q ≡ true) (all-take (isDue played)) (likes-all (isDue played) (λ e d m h. same-due played e d (m .filed) h)) ws o d

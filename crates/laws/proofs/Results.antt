@@ -1,37 +1,68 @@
--- Arithmetic that gives no NaN. Assumes nothing.
+-- Arithmetic that gives no NaN, and times that stay at or above +0. Assumes nothing.
 use mathlib.Core.Path.{_≡_, refl}
 use mathlib.Core.Bool.{Bool, true, false, cond, _&&_, Bool·beq}
-use Prim.Native.Nat.{ℕ, zero, suc, _+_, _-_, _*_, _^_}
+use Prim.Native.Nat.{ℕ, zero, suc, _+_, _-_, _*_, _^_, _≤_}
 use native.Mathlib.Nat.{zero-mul}
+use native.Mathlib.Omega.{arith}
 use lib.Dec.{ltb, eqb}
-use borrow.Author.Tests.{eqb-true}
+use borrow.Author.Tests.{eqb-true, ltb-false}
 use lib.IntN.{ℤ}
 use lib.Ieee as Ieee
 use lib.Ieee.{Float, nan, inf, fin, Format, binary64, up, down}
-use Rattle.rules.specs.Numbers.{isFinite, isZero, isPositive, takenTime, plusZero, product, fused, wide}
-use Rattle.laws.specs.Sound.{isNumber}
-use Rattle.laws.proofs.Tests.{never}
-use Rattle.laws.proofs.Order.{finite-number}
+use Rattle.rules.specs.Numbers.{isFinite, isZero, isPositive, isNegative, takenTime, plusZero, product, fused, wide}
+use Rattle.laws.specs.Sound.{isNumber, isFromZero, isTaken}
+use Rattle.laws.proofs.Tests.{never, clash, both, and}
 
-odd-number : (d : ℕ) (s : Bool) (q k l : ℕ) → isNumber (Ieee.odd d s q k l) ≡ true
-unfolding Ieee.odd isNumber Ieee.isNan
-odd-number d s zero k l = refl
-odd-number d s (suc q) k l = refl
+-- ---- a rounded result has the sign that it is given
 
-units-number : (f : Format) (s : Bool) (q k : ℕ) → isNumber (Ieee.units f s q k) ≡ true
+-- whether a float has this sign: no NaN has one
+unfoldable isSigned : Bool → Float → Bool
+isSigned s nan = false
+isSigned s (inf t) = Bool·beq s t
+isSigned s (fin t m e) = Bool·beq s t
+
+beq-self : (s : Bool) → Bool·beq s s ≡ true
+beq-self true = refl
+beq-self false = refl
+
+signed-number : (s : Bool) (x : Float) → isSigned s x ≡ true → isNumber x ≡ true
+unfolding isSigned isNumber Ieee.isNan
+signed-number s nan h = never h
+signed-number s (inf t) h = refl
+signed-number s (fin t m e) h = refl
+
+from-zero-signed : (x : Float) → isSigned false x ≡ isFromZero x
+unfolding isSigned isFromZero
+from-zero-signed nan = refl
+from-zero-signed (inf true) = refl
+from-zero-signed (inf false) = refl
+from-zero-signed (fin true m e) = refl
+from-zero-signed (fin false m e) = refl
+
+odd-signed : (d : ℕ) (s : Bool) (q k l : ℕ) → isSigned s (Ieee.odd d s q k l) ≡ true
+unfolding Ieee.odd isSigned
+odd-signed d s zero k l = beq-self s
+odd-signed d s (suc q) k l = beq-self s
+
+units-signed : (f : Format) (s : Bool) (q k : ℕ) → isSigned s (Ieee.units f s q k) ≡ true
 unfolding Ieee.units
-units-number f s q k = go (ltb (q * 2 ^ k) (2 ^ (Ieee.low f + suc (Ieee.emax f))))
+units-signed f s q k = go (ltb (q * 2 ^ k) (2 ^ (Ieee.low f + suc (Ieee.emax f))))
   where
-    infinite : isNumber (inf s) ≡ true
-    infinite = unfold isNumber Ieee.isNan in refl
+    go : (b : Bool) → isSigned s (cond b (Ieee.odd (suc (Ieee.prec f)) s q k (Ieee.low f)) (inf s)) ≡ true
+    go true = odd-signed (suc (Ieee.prec f)) s q k (Ieee.low f)
+    go false = unfold isSigned in beq-self s
 
-    go : (b : Bool) → isNumber (cond b (Ieee.odd (suc (Ieee.prec f)) s q k (Ieee.low f)) (inf s)) ≡ true
-    go true = odd-number (suc (Ieee.prec f)) s q k (Ieee.low f)
-    go false = infinite
+round-signed : (f : Format) (s : Bool) (n d : ℕ) → isSigned s (Ieee.round f s n d) ≡ true
+unfolding Ieee.round
+round-signed f s n d = units-signed f s _ _
 
 pub round-number : (f : Format) (s : Bool) (n d : ℕ) → isNumber (Ieee.round f s n d) ≡ true
-unfolding Ieee.round
-round-number f s n d = units-number f s _ _
+round-number f s n d = signed-number s (Ieee.round f s n d) (round-signed f s n d)
+
+round-from-zero : (f : Format) (n d : ℕ) → isFromZero (Ieee.round f false n d) ≡ true
+round-from-zero f n d = rw (← from-zero-signed (Ieee.round f false n d)) (round-signed f false n d)
+
+-- ---- sums
 
 sum-number : (f : Format) (s : Bool) (a : ℕ) (t : Bool) (b c : ℕ) → isNumber (Ieee.sum f s a t b c) ≡ true
 unfolding Ieee.sum
@@ -51,14 +82,9 @@ add-number f (fin s m e) nan p q = never q
 add-number f (fin s m e) (inf t) p q = never q
 add-number f (fin s m e) (fin t n d) p q = sum-number f s _ t _ _
 
--- an infinite one and a finite one
-infinite-number : (f : Format) (s : Bool) (z : Float) → isFinite z ≡ true → isNumber (Ieee.add f (inf s) z) ≡ true
-unfolding Ieee.add isFinite isNumber Ieee.isNan
-infinite-number f s nan r = never r
-infinite-number f s (inf u) r = never r
-infinite-number f s (fin u k g) r = refl
+-- ---- a next block time
 
--- what is above 0 has a digit
+-- what is above 0 has a digit, and no sign
 positive-digit : (t : Bool) (m : ℕ) (e : ℤ) → isPositive (fin t m e) ≡ true → eqb m 0 ≡ true → ⊥
 unfolding isPositive Ieee.lt
 positive-digit t m e h k = let z : m ≡ 0 = eqb-true m 0 k in go t (rw z at h)
@@ -67,34 +93,102 @@ positive-digit t m e h k = let z : m ≡ 0 = eqb-true m 0 k in go t (rw z at h)
     go true h = never h
     go false h = never (rw (zero-mul, zero-mul) at h)
 
-pub fused-number : (f : Format) (x y z : Float) → isNumber x ≡ true → isFinite y ≡ true → isPositive y ≡ true → isFinite z ≡ true → isNumber (fused f x y z) ≡ true
-unfolding fused product isFinite isNumber Ieee.isNan
-fused-number f nan y z n p q r = never n
-fused-number f (inf s) nan z n p q r = never p
-fused-number f (inf s) (inf t) z n p q r = never p
-fused-number f (inf s) (fin t m e) z n p q r = go (eqb m 0) refl
+positive-sign : (t : Bool) (m : ℕ) (e : ℤ) → isPositive (fin t m e) ≡ true → t ≡ false
+unfolding isPositive Ieee.lt
+positive-sign true m e h = never h
+positive-sign false m e h = refl
+
+-- a sum of two finite ones at or above +0, in any format
+sum-from-zero : (f : Format) (a b c : ℕ) → isFromZero (Ieee.sum f false a false b c) ≡ true
+unfolding Ieee.sum
+sum-from-zero f a b c = round-from-zero f (a + b) c
+
+add-from-zero : (f : Format) (x z : Float) → isFromZero x ≡ true → isTaken z ≡ true → isFromZero (Ieee.add f x z) ≡ true
+unfolding Ieee.add isFromZero isTaken isFinite
+add-from-zero f nan z n r = never n
+add-from-zero f (inf s) nan n r = never r
+add-from-zero f (inf s) (inf u) n r = never r
+add-from-zero f (inf s) (fin u k g) n r = n
+add-from-zero f (fin s m e) nan n r = never r
+add-from-zero f (fin s m e) (inf u) n r = never r
+add-from-zero f (fin true m e) (fin u k g) n r = never n
+add-from-zero f (fin false m e) (fin true k g) n r = never r
+add-from-zero f (fin false m e) (fin false k g) n r = sum-from-zero f _ _ _
+
+product-from-zero : (x y : Float) → isFromZero x ≡ true → isFinite y ≡ true → isPositive y ≡ true → isFromZero (product x y) ≡ true
+unfolding product isFromZero isFinite
+product-from-zero nan y n p q = never n
+product-from-zero (inf s) nan n p q = never p
+product-from-zero (inf s) (inf t) n p q = never p
+product-from-zero (inf true) (fin t m e) n p q = never n
+product-from-zero (inf false) (fin t m e) n p q = go (eqb m 0) refl
   where
-    go : (b : Bool) → eqb m 0 ≡ b → isNumber (Ieee.add f (cond b nan (inf (Ieee.unlike s t))) z) ≡ true
+    go : (b : Bool) → eqb m 0 ≡ b → isFromZero (cond b nan (inf (Ieee.unlike false t))) ≡ true
     go true k = absurd (positive-digit t m e q k)
-    go false k = infinite-number f (Ieee.unlike s t) z r
-fused-number f (fin s m e) nan z n p q r = never p
-fused-number f (fin s m e) (inf t) z n p q r = never p
-fused-number f (fin s m e) (fin t k d) z n p q r = add-number f (fin (Ieee.unlike s t) (m * k) _) z refl r
+    go false k = unfold isFromZero in rw (positive-sign t m e q)
+product-from-zero (fin s m e) nan n p q = never p
+product-from-zero (fin s m e) (inf t) n p q = never p
+product-from-zero (fin true m e) (fin t k d) n p q = never n
+product-from-zero (fin false m e) (fin t k d) n p q = rw (positive-sign t k d q)
 
-pub wide-number : (n : ℕ) → isNumber (wide n) ≡ true
+-- a count of finite periods above 0, from a time on, in any format
+pub fused-from-zero : (f : Format) (x y z : Float) → isFromZero x ≡ true → isFinite y ≡ true → isPositive y ≡ true → isTaken z ≡ true → isFromZero (fused f x y z) ≡ true
+unfolding fused
+fused-from-zero f x y z n p q r = add-from-zero f (product x y) z (product-from-zero x y n p q) r
+
+pub wide-from-zero : (n : ℕ) → isFromZero (wide n) ≡ true
 unfolding wide Ieee.ofInt
-wide-number n = round-number binary64 false n 1
+wide-from-zero n = round-from-zero binary64 n 1
 
-pub taken-finite : (t : Float) → isFinite t ≡ true → isFinite (takenTime t) ≡ true
-unfolding takenTime
-taken-finite t h = go (isZero t)
+-- ---- a time as it is taken
+
+pub from-zero-number : (t : Float) → isFromZero t ≡ true → isNumber t ≡ true
+unfolding isFromZero isNumber Ieee.isNan
+from-zero-number nan h = never h
+from-zero-number (inf s) h = refl
+from-zero-number (fin s m e) h = refl
+
+pub taken-parts : (t : Float) → isTaken t ≡ true → (isFinite t ≡ true) × (isFromZero t ≡ true)
+unfolding isTaken
+taken-parts t h = both (isFinite t) (isFromZero t) h
+
+pub taken-number : (t : Float) → isTaken t ≡ true → isNumber t ≡ true
+taken-number t h = from-zero-number t (taken-parts t h .1)
+
+-- "a time of −0 .. is taken as 0"
+not-negative : (m : ℕ) (e : ℤ) → isNegative (fin true m e) ≡ false → isZero (fin true m e) ≡ true
+unfolding isNegative isZero Ieee.lt Ieee.eq
+not-negative m e h =
+    let l : m * up e * 1 + 0 * 1 * down e ≤ 0 = ltb-false 0 _ h in
+    let x : m * up e * 1 ≡ 0 = omega arith in
+    rw (x, zero-mul)
+
+stays : (t : Float) → isFinite t ≡ true → isNegative t ≡ false → isZero t ≡ false → isFromZero t ≡ true
+unfolding isFinite isFromZero
+stays nan p q z = never p
+stays (inf s) p q z = never p
+stays (fin true m e) p q z = clash (not-negative m e q) z
+stays (fin false m e) p q z = refl
+
+-- what is finite, not below 0 and not 0 is above 0
+pub above-zero : (c : Float) → isFinite c ≡ true → isNegative c ≡ false → isZero c ≡ false → isPositive c ≡ true
+unfolding isFinite isPositive isZero Ieee.lt Ieee.eq
+above-zero nan p q z = never p
+above-zero (inf s) p q z = never p
+above-zero (fin true m e) p q z = clash (not-negative m e q) z
+above-zero (fin false m e) p q z = go (ltb (0 * 1 * down e) (m * up e * 1)) refl
   where
-    zeroed : isFinite plusZero ≡ true
-    zeroed = unfold isFinite in refl
+    go : (b : Bool) → ltb (0 * 1 * down e) (m * up e * 1) ≡ b → b ≡ true
+    go true h = refl
+    go false h =
+        let l : m * up e * 1 ≤ 0 * 1 * down e = ltb-false (0 * 1 * down e) (m * up e * 1) h in
+        let x : m * up e * 1 ≡ 0 = omega (arith, zero-mul (down e)) in
+        clash (rw (x, zero-mul)) z
 
-    go : (b : Bool) → isFinite (cond b plusZero t) ≡ true
-    go true = zeroed
-    go false = h
-
-pub taken-number : (t : Float) → isFinite t ≡ true → isNumber (takenTime t) ≡ true
-taken-number t h = finite-number (takenTime t) (taken-finite t h)
+pub time-taken : (t : Float) → isFinite t ≡ true → isNegative t ≡ false → isTaken (takenTime t) ≡ true
+unfolding takenTime isTaken
+time-taken t p q = go (isZero t) refl
+  where
+    go : (b : Bool) → isZero t ≡ b → (isFinite (cond b plusZero t) && isFromZero (cond b plusZero t)) ≡ true
+    go true z = unfold isFinite isFromZero in refl
+    go false z = and p (stays t p q z)

@@ -12,7 +12,7 @@ use Rattle.rules.specs.Numbers.{mostEvents, storeLength}
 use Rattle.rules.specs.Queue.{filedUnder, lengthsOf}
 use Rattle.rules.specs.Refusals.{areBounds}
 use Rattle.rules.specs.Block.{Param}
-use Rattle.laws.specs.Sound.{isClear, areClear, goesBefore, inOrder, SoundQueue, isSoundQueue, isLastClear, Sound, isSound}
+use Rattle.laws.specs.Sound.{areClear, areDue, goesBefore, inOrder, SoundQueue, isSoundQueue, isLastClear, hasPlayed, Sound, isSound}
 use Rattle.laws.proofs.Tests.{both, and}
 
 -- ---- the invariant is what its test says
@@ -34,13 +34,14 @@ pub tested : (p : Param) → isSound p ≡ true → Sound p
 unfolding isSound
 tested p h =
     let a = both (isSoundQueue (p .queue)) _ h in
-    let b = both (areBounds (p .bounds)) _ (a .1) in
-    let c = both (isLastClear (p .last)) _ (b .1) in
-    record { waiting = queue-tested (p .queue) (a .0); bounded = b .0; last = c .0; block = c .1 }
+    let b = both (areDue (hasPlayed (p .lastBlock)) (p .queue)) _ (a .1) in
+    let c = both (areBounds (p .bounds)) _ (b .1) in
+    let d = both (isLastClear (p .last)) _ (c .1) in
+    record { waiting = queue-tested (p .queue) (a .0); due = b .0; bounded = c .0; last = d .0; block = d .1 }
 
 pub passes-test : (p : Param) → Sound p → isSound p ≡ true
 unfolding isSound
-passes-test p s = and (queue-passes (p .queue) (s .waiting)) (and (s .bounded) (and (s .last) (s .block)))
+passes-test p s = and (queue-passes (p .queue) (s .waiting)) (and (s .due) (and (s .bounded) (and (s .last) (s .block))))
 
 -- ---- one event more, as a loop over an array makes the test
 
@@ -53,8 +54,3 @@ pub order-last : (q : List Event) (d e : Event) → inOrder (q ++ (d ∷ e ∷ [
 unfolding inOrder
 order-last [] d e = unfold goesBefore in and-true (Ieee.le (filedUnder d) (filedUnder e))
 order-last (c ∷ q) d e = rw (before-last (filedUnder c) q d e, order-last q d e) (sym (and-assoc (goesBefore (filedUnder c) (q ++ (d ∷ []))) _ _))
-
-pub clear-last : (q : List Event) (e : Event) → areClear (q ++ (e ∷ [])) ≡ (areClear q && isClear e)
-unfolding areClear
-clear-last [] e = and-true (isClear e)
-clear-last (d ∷ q) e = rw (clear-last q e) (sym (and-assoc (isClear d) (areClear q) (isClear e)))

@@ -1,32 +1,42 @@
 -- A parameter's invariant: what holds of each one that comes from the calls. Every part is a test, so that code can make it.
 use mathlib.Core.Path.{_≡_}
-use mathlib.Core.Bool.{Bool, true, not, _&&_}
+use mathlib.Core.Bool.{Bool, true, false, not, _&&_, _||_}
 use mathlib.Core.List.{List, [], _∷_}
-use Prim.Native.Nat.{_≤_}
+use Prim.Native.Nat.{ℕ, _≤_}
 use lib.Dec.{leb}
 use lib.ListN.{length}
 use lib.Ieee as Ieee
-use lib.Ieee.{Float, binary64}
+use lib.Ieee.{Float, nan, inf, fin}
 use Rattle.rules.specs.declared.MaybeTime.{MaybeTime}
 use Rattle.rules.specs.declared.MaybeTime.the-variants as MaybeTime
 use Rattle.rules.specs.declared.Event.{Event}
 use Rattle.rules.specs.declared.Event.the-variants as Event
 use Rattle.rules.specs.declared.LastEvent.{LastEvent}
 use Rattle.rules.specs.declared.LastEvent.the-variants as LastEvent
-use Rattle.rules.specs.Numbers.{mostEvents, storeLength}
+use Rattle.rules.specs.Numbers.{mostEvents, storeLength, isFinite, isZero}
 use Rattle.rules.specs.Queue.{filedUnder, lengthsOf}
-use Rattle.rules.specs.Refusals.{areBounds}
+use Rattle.rules.specs.Refusals.{areBounds, isPeriod}
 use Rattle.rules.specs.Block.{Param}
 
 -- ---- times
 
--- no NaN: what has a place in the order. An infinity has one (readings, 13).
+-- no NaN: what has a place in the order. An infinity has one (DECISIONS, reading 13).
 unfoldable pub isNumber : Float → Bool
 isNumber x = not (Ieee.isNan x)
 
-unfoldable pub isNumberIfAny : MaybeTime → Bool
-isNumberIfAny MaybeTime.Missing = true
-isNumberIfAny (MaybeTime.At t) = isNumber t
+-- at or above +0, never -0; +infinity is
+unfoldable pub isFromZero : Float → Bool
+isFromZero nan = false
+isFromZero (inf s) = not s
+isFromZero (fin s m e) = not s
+
+-- a time as the calls take it: finite, from +0 on
+unfoldable pub isTaken : Float → Bool
+isTaken t = isFinite t && isFromZero t
+
+unfoldable pub isTakenIfAny : MaybeTime → Bool
+isTakenIfAny MaybeTime.Missing = true
+isTakenIfAny (MaybeTime.At t) = isTaken t
 
 -- A ramp is held before its own time. So an exponential that becomes a step at its hold time keeps its place in the queue.
 unfoldable pub isHeldBy : Float → MaybeTime → Bool
@@ -35,22 +45,38 @@ isHeldBy t (MaybeTime.At c) = Ieee.le c t
 
 -- ---- a waiting event
 
--- The time where it may end, other than the one it is filed under, is a number: it becomes the last event's. A curve has at least 2 numbers.
-unfoldable pub endsClear : Event → Bool
-endsClear (Event.Step v t) = true
-endsClear (Event.Linear v t h) = isHeldBy t h
-endsClear (Event.Exponential v t h) = isHeldBy t h
-endsClear (Event.Target v t c h) = isNumberIfAny h
-endsClear (Event.Curve s d n h) = isNumber (Ieee.add binary64 s d) && (isNumberIfAny h && leb 2 n)
+-- of a curve
+abbrev pub fewestNumbers : ℕ
+fewestNumbers = 2
 
+-- a ramp's time, and its hold time where it has one
+unfoldable pub isSpan : Float → MaybeTime → Bool
+isSpan t h = isTaken t && (isTakenIfAny h && isHeldBy t h)
+
+-- Its numbers are as the calls let them in: values finite, an exponential's not 0, times taken, a time constant and a duration finite and above 0 (as a period is), 2
+-- numbers of a curve or more. A step alone may be at +infinity: a target that snapped left it, at a next block time that is (DECISIONS, reading 13).
 unfoldable pub isClear : Event → Bool
-isClear e = isNumber (filedUnder e) && endsClear e
+isClear (Event.Step v t) = isFinite v && isFromZero t
+isClear (Event.Linear v t h) = isFinite v && isSpan t h
+isClear (Event.Exponential v t h) = isFinite v && (not (isZero v) && isSpan t h)
+isClear (Event.Target v t c h) = isFinite v && (isTaken t && (isPeriod c && isTakenIfAny h))
+isClear (Event.Curve s d n h) = isTaken s && (isPeriod d && (isTakenIfAny h && leb fewestNumbers n))
 
-unfoldable pub areClear : List Event → Bool
-areClear [] = true
-areClear (e ∷ es) = isClear e && areClear es
+-- before the first answered block no event is at +infinity: no target has snapped
+unfoldable pub isDue : Bool → Event → Bool
+isDue played e = played || isFinite (filedUnder e)
 
 -- ---- the queue
+
+unfoldable pub all : (Event → Bool) → List Event → Bool
+all test [] = true
+all test (e ∷ es) = test e && all test es
+
+abbrev pub areClear : List Event → Bool
+areClear q = all isClear q
+
+abbrev pub areDue : Bool → List Event → Bool
+areDue played q = all (isDue played) q
 
 -- whether the first of these, if any, is at t or later
 unfoldable pub goesBefore : Float → List Event → Bool
@@ -79,12 +105,20 @@ unfoldable pub isLastClear : LastEvent → Bool
 isLastClear LastEvent.None = true
 isLastClear (LastEvent.Done l) = isNumber (l .time)
 
--- The last block's time is a number, so a block that is answered is at it or later. The intrinsic value may be NaN (readings, 13).
+-- whether a block was answered
+unfoldable pub hasPlayed : MaybeTime → Bool
+hasPlayed MaybeTime.Missing = false
+hasPlayed (MaybeTime.At t) = true
+
+-- The last block's time is as a block's is taken, so a block that is answered is at it or later. The intrinsic value may be NaN (DECISIONS, reading 13).
 pub record Sound (p : Param) : Type 0 where
   pub waiting : SoundQueue (p .queue)
+  pub due : areDue (hasPlayed (p .lastBlock)) (p .queue) ≡ true
   pub bounded : areBounds (p .bounds) ≡ true
   pub last : isLastClear (p .last) ≡ true
-  pub block : isNumberIfAny (p .lastBlock) ≡ true
+  pub block : isTakenIfAny (p .lastBlock) ≡ true
 
 unfoldable pub isSound : Param → Bool
-isSound p = isSoundQueue (p .queue) && (areBounds (p .bounds) && (isLastClear (p .last) && isNumberIfAny (p .lastBlock)))
+isSound p =
+    isSoundQueue (p .queue)
+    && (areDue (hasPlayed (p .lastBlock)) (p .queue) && (areBounds (p .bounds) && (isLastClear (p .last) && isTakenIfAny (p .lastBlock))))

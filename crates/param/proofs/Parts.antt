@@ -1,6 +1,6 @@
 -- A parameter of its parts: events taken one by one, and when all of it is sound. Assumes nothing.
 use mathlib.Core.Path.{_≡_, refl, sym, ap, _∙_}
-use mathlib.Core.Bool.{Bool, true, false, _&&_, and-false}
+use mathlib.Core.Bool.{Bool, true, false, _&&_, _||_, and-false, and-assoc}
 use mathlib.Core.List.{List, [], _∷_, _++_}
 use Prim.Native.Nat.{ℕ, _+_, _-_, _≤_, _<_}
 use native.Mathlib.Numerals.{add-one}
@@ -18,11 +18,12 @@ use Rattle.rules.specs.Numbers.{mostEvents, storeLength, plusZero, isFinite}
 use Rattle.rules.specs.Queue.{filedUnder, lengthOf, lengthsOf}
 use Rattle.rules.specs.Refusals.{lowest, allFinite, areBounds, makingRows}
 use Rattle.rules.specs.Block.{made, madeAs}
-use Rattle.laws.specs.Sound.{isNumber, isNumberIfAny, isLastClear, goesBefore, inOrder, isClear, areClear, SoundQueue, isSoundQueue, Sound, isSound}
-use Rattle.laws.proofs.Tests.{never, clash, both}
+use Rattle.laws.specs.Sound.{isNumber, isTakenIfAny, isLastClear, goesBefore, inOrder, isClear, isDue, all, areDue, SoundQueue, isSoundQueue, hasPlayed, Sound, isSound}
+use Rattle.laws.proofs.Tests.{never, clash, both, and}
 use Rattle.laws.proofs.Events.{lengths-append}
-use Rattle.laws.proofs.Tested.{tested, queue-tested, queue-passes, order-last, clear-last}
-use Rattle.laws.proofs.Queues.{prefix-sound, clear-number}
+use Rattle.laws.proofs.Clear.{all-take, all-last, clear-number}
+use Rattle.laws.proofs.Tested.{tested, queue-tested, queue-passes, order-last}
+use Rattle.laws.proofs.Queues.{prefix-sound}
 use Rattle.laws.proofs.Kept.{made-sound}
 use Rattle.timeline.specs.declared.AudioParamEvent.{AudioParamEvent}
 use Rattle.timeline.specs.declared.AudioParamEventTimeline.{AudioParamEventTimeline}
@@ -66,27 +67,33 @@ below-all (inf true) h = refl
 below-all (inf false) h = refl
 below-all (fin s m d) h = refl
 
--- the first i of them are a sound queue, of so many numbers, the last at a time, and wait in these slots
-pub record Took (es : List Event) (used : ℕ) (before : Float) (i : ℕ) (slots : List AudioParamEvent) : Type 0 where
+-- the events are sound, and none is at +infinity before a block was answered
+abbrev areFine : Bool → List Event → Bool
+areFine played q = isSoundQueue q && areDue played q
+
+-- the first i of them are so, have so many numbers, the last is at a time, and they wait in these slots
+pub record Took (es : List Event) (played : Bool) (used : ℕ) (before : Float) (i : ℕ) (slots : List AudioParamEvent) : Type 0 where
   pub sound : SoundQueue (take i es)
+  pub due : areDue played (take i es) ≡ true
   pub many : used ≡ lengthsOf (take i es)
   pub next : (e : Event) → isNumber (filedUnder e) ≡ true → inOrder (take i es ++ (e ∷ [])) ≡ Ieee.le before (filedUnder e)
   pub filled : Filled slots i (take i es)
 
-pub took-none : (es : List Event) {q : AudioParamEventTimeline} → q ≡ queueOf [] → Took es 0 (inf true) 0 (q .slots)
-unfolding inOrder goesBefore lengthsOf areClear queueOf
-took-none es e =
+pub took-none : (es : List Event) (played : Bool) {q : AudioParamEventTimeline} → q ≡ queueOf [] → Took es played 0 (inf true) 0 (q .slots)
+unfolding inOrder goesBefore lengthsOf all queueOf
+took-none es played e =
     record {
       sound = record { few = omega arith; ordered = refl; clear = refl; room = omega arith };
+      due = refl;
       many = refl;
       next = λ d n. sym (below-all (filedUnder d) n);
       filled = record { many = refl; held = ap (λ (u : AudioParamEventTimeline). u .slots) e };
     }
 
-module _ {es : List Event} {used : ℕ} {before : Float} {i : ℕ} {slots : List AudioParamEvent} (t : Took es used before i slots) (e : Event) (more : take (i + 1) es ≡ take i es ++ (e ∷ []))
-    (few : i < mostEvents) where
+module _ {es : List Event} {played : Bool} {used : ℕ} {before : Float} {i : ℕ} {slots : List AudioParamEvent} (t : Took es played used before i slots) (e : Event)
+    (more : take (i + 1) es ≡ take i es ++ (e ∷ [])) (few : i < mostEvents) where
   abbrev fits : Bool
-  fits = Ieee.le before (filedUnder e) && (isClear e && leb (lengthOf e) (storeLength - used))
+  fits = Ieee.le before (filedUnder e) && (isClear e && isDue played e && leb (lengthOf e) (storeLength - used))
 
   abbrev q : List Event
   q = take i es
@@ -99,58 +106,75 @@ module _ {es : List Event} {used : ℕ} {before : Float} {i : ℕ} {slots : List
       let u : used ≡ lengthsOf q = t .many in
       same-test (lengthsOf (q ++ (e ∷ []))) storeLength (lengthOf e) (storeLength - used) (λ h. omega arith) (λ h. omega arith)
 
-  -- one event more is sound where it fits
-  fits-is : isSoundQueue (take (i + 1) es) ≡ fits
+  -- one event more is so where it fits
+  fits-is : areFine played (take (i + 1) es) ≡ fits
   unfolding isSoundQueue
   fits-is = rw more (go (isClear e) refl)
     where
       short : leb (length (q ++ (e ∷ []))) mostEvents ≡ true
       short = let n : i ≡ length q = t .filled .many in le-leb (length (q ++ (e ∷ []))) mostEvents (simp length-append (omega arith))
 
-      none : (a b : Bool) → (a && false) ≡ (b && false)
-      none a b = and-false a ∙ sym (and-false b)
+      none : (a b d : Bool) → (a && false && d) ≡ (b && false)
+      none a b d = rw (and-false a) (sym (and-false b))
 
-      go : (b : Bool) → isClear e ≡ b → isSoundQueue (q ++ (e ∷ [])) ≡ (Ieee.le before (filedUnder e) && (b && leb (lengthOf e) (storeLength - used)))
-      go true h = rw (short, t .next e (clear-number e h), clear-last q e, t .sound .clear, h, room)
-      go false h = rw (short, clear-last q e, t .sound .clear, h) (none (inOrder (q ++ (e ∷ []))) (Ieee.le before (filedUnder e)))
+      -- the same tests in another order
+      turned : (a d l : Bool) → (a && l && d) ≡ (a && (d && l))
+      turned true true true = refl
+      turned true true false = refl
+      turned true false true = refl
+      turned true false false = refl
+      turned false d l = refl
 
-  took-more : {x : AudioParamEvent} → fits ≡ true → x ≡ slotOf e → Took es (used + lengthOf e) (filedUnder e) (i + 1) (set slots i x)
+      go : (b : Bool) → isClear e ≡ b → areFine played (q ++ (e ∷ [])) ≡ (Ieee.le before (filedUnder e) && (b && isDue played e && leb (lengthOf e) (storeLength - used)))
+      go true h =
+          rw (short, t .next e (clear-number e h), all-last isClear q e, t .sound .clear, h, room, all-last (isDue played) q e, t .due)
+          (turned (Ieee.le before (filedUnder e)) (isDue played e) (leb (lengthOf e) (storeLength - used)))
+      go false h =
+          rw (short, all-last isClear q e, t .sound .clear, h) (none (inOrder (q ++ (e ∷ []))) (Ieee.le before (filedUnder e)) (areDue played (q ++ (e ∷ []))))
+
+  took-more : {x : AudioParamEvent} → fits ≡ true → x ≡ slotOf e → Took es played (used + lengthOf e) (filedUnder e) (i + 1) (set slots i x)
   unfolding lengthsOf
   took-more h g =
-      let s : SoundQueue (take (i + 1) es) = queue-tested (take (i + 1) es) (fits-is ∙ h) in
+      let b = both (isSoundQueue (take (i + 1) es)) _ (fits-is ∙ h) in
+      let s : SoundQueue (take (i + 1) es) = queue-tested (take (i + 1) es) (b .0) in
       record {
         sound = s;
+        due = b .1;
         many = ap (λ (n : ℕ). n + lengthOf e) (t .many) ∙ sym (ap lengthsOf more ∙ lengths-append q (e ∷ []) ∙ omega arith);
         next = λ d n. ap (λ (l : List Event). inOrder (l ++ (d ∷ []))) more ∙ ap inOrder (append-snoc q e (d ∷ [])) ∙ order-last q e d
             ∙ ap (λ (b : Bool). b && Ieee.le (filedUnder e) (filedUnder d)) (ap inOrder (sym more) ∙ s .ordered);
         filled = filled-more (t .filled) few g more;
       }
 
-  took-not : fits ≡ false → false ≡ isSoundQueue es
-  took-not h = go (isSoundQueue es) refl
+  took-not : fits ≡ false → false ≡ areFine played es
+  took-not h = go (areFine played es) refl
     where
-      go : (b : Bool) → isSoundQueue es ≡ b → false ≡ b
+      go : (b : Bool) → areFine played es ≡ b → false ≡ b
       go false k = refl
-      go true k = clash (queue-passes _ (prefix-sound (i + 1) es (queue-tested es k))) (fits-is ∙ h)
+      go true k =
+          let a = both (isSoundQueue es) (areDue played es) k in
+          clash (and (queue-passes _ (prefix-sound (i + 1) es (queue-tested es (a .0)))) (all-take (isDue played) (i + 1) es (a .1))) (fits-is ∙ h)
 
   -- the same, as code finds its parts
-  module _ {time : Float} {clear : Bool} {size : ℕ} (et : time ≡ filedUnder e) (ec : clear ≡ isClear e) (es' : size ≡ lengthOf e) where
-    found : (Ieee.le before time && (clear && leb size (storeLength - used))) ≡ fits
-    found = rw (et, ec, es')
+  module _ {time : Float} {clear due : Bool} {size : ℕ} (et : time ≡ filedUnder e) (ec : clear ≡ isClear e) (ed : due ≡ (played || isFinite time))
+      (es' : size ≡ lengthOf e) where
+    found : (Ieee.le before time && (clear && due && leb size (storeLength - used))) ≡ fits
+    unfolding isDue
+    found = rw (ed, et, ec, es')
 
-    pub takes-more : {x : AudioParamEvent} → (Ieee.le before time && (clear && leb size (storeLength - used))) ≡ true → x ≡ slotOf e
-        → Took es (used + size) time (i + 1) (set slots i x)
+    pub takes-more : {x : AudioParamEvent} → (Ieee.le before time && (clear && due && leb size (storeLength - used))) ≡ true → x ≡ slotOf e
+        → Took es played (used + size) time (i + 1) (set slots i x)
     takes-more h g = rw (et, es') (took-more (sym found ∙ h) g)
 
-    pub takes-not : (Ieee.le before time && (clear && leb size (storeLength - used))) ≡ false → false ≡ isSoundQueue es
+    pub takes-not : (Ieee.le before time && (clear && due && leb size (storeLength - used))) ≡ false → false ≡ areFine played es
     takes-not h = took-not (sym found ∙ h)
 
 -- all of them
-pub took-all : {es : List Event} {used len : ℕ} {before : Float} {i : ℕ} {slots : List AudioParamEvent} → Took es used before i slots → i ≡ len → length es ≤ i
-    → (true ≡ isSoundQueue es) × (_≡_ {A = AudioParamEventTimeline} (record { slots = slots; len = len }) (queueOf es))
-took-all {es} {i = i} {slots} t e h =
+pub took-all : {es : List Event} {played : Bool} {used len : ℕ} {before : Float} {i : ℕ} {slots : List AudioParamEvent} → Took es played used before i slots → i ≡ len
+    → length es ≤ i → (true ≡ areFine played es) × (_≡_ {A = AudioParamEventTimeline} (record { slots = slots; len = len }) (queueOf es))
+took-all {es} {played} {i = i} {slots} t e h =
     let all : take i es ≡ es = take-all i es h in (
-      sym (queue-passes es (rw all at (t .sound))),
+      sym (and (queue-passes es (rw all at (t .sound))) (rw all at (t .due))),
       ap (λ (n : ℕ). record { slots = slots; len = n }) (sym e) ∙ filled-made (t .filled) ∙ ap queueOf all,
     )
 
@@ -166,11 +190,13 @@ slot-next q i n l m =
 
 -- ---- all the parts
 
-module _ (parts : AudioParam) (few : parts .timeline .len ≤ mostEvents) {t : Taken} (k : Takes (parts .timeline) t) {bounds last block : Bool} (eb : bounds ≡ areBounds (parts .bounds))
-    (el : last ≡ isLastClear (parts .last)) (et : block ≡ isNumberIfAny (parts .block)) where
+module _ (parts : AudioParam) (few : parts .timeline .len ≤ mostEvents) {t : Taken} {played : Bool} (k : Takes (parts .timeline) played t) (ep : played ≡ hasPlayed (parts .block))
+    {bounds last block : Bool} (eb : bounds ≡ areBounds (parts .bounds)) (el : last ≡ isLastClear (parts .last)) (et : block ≡ isTakenIfAny (parts .block)) where
   whole-is : (t .sound && (bounds && (last && block))) ≡ isWhole parts
   unfolding isWhole isSound
-  whole-is = rw (le-leb (parts .timeline .len) mostEvents few, k .sound, eb, el, et)
+  whole-is =
+      rw (le-leb (parts .timeline .len) mostEvents few, k .sound, ep, eb, el, et)
+      (and-assoc (isSoundQueue (waiting (parts .timeline))) _ _)
 
   pub restores-all : {r : Outcome} → (t .sound && (bounds && (last && block))) ≡ true
       → r ≡ record { verdict = Verdict.Answered; param = partsOf (parts .bounds) (parts .rate) (parts .intrinsic) (t .queue) (parts .block) (parts .last) } → Restores parts r

@@ -10,6 +10,9 @@ ghost use Rattle.timeline.specs.Timeline.{made, firstOf};
 ghost use Rattle.param.specs.Param.{paramOf, structOf, outcomeOf, SoundParam, HasRoom, unmade, answeredWith, Makes, Answers, partsOf, Restores};
 use floats::is_zero64;
 use floats::taken_time;
+use refusals::sound::has_played;
+use refusals::sound::is_last_clear;
+use refusals::sound::is_taken_if_any;
 use rules::AutomationRate;
 use rules::Bounds;
 use rules::Event;
@@ -364,7 +367,7 @@ impl AudioParam {
         }
     }
 
-    // A parameter of its parts, if the calls could have left it; else refused as bad bounds are. Slots behind the timeline's length do not count.
+    // A parameter of its parts, if they pass the tests of the invariant; else refused as bad bounds are. Slots behind the timeline's length do not count.
     pub fn from_parts(
         bounds: Bounds,
         rate: AutomationRate,
@@ -378,9 +381,9 @@ impl AudioParam {
         if AudioParam::EVENTS < timeline.len {
             return AudioParam::refused();
         }
-        let taken = taking::take(timeline);
+        let taken = taking::take(timeline, has_played(block));
         let sound = taken.sound;
-        let clear = refusals::sound::is_last_clear(last) & refusals::sound::is_number_if_any(block);
+        let clear = is_last_clear(last) & is_taken_if_any(block);
         if sound & (refusals::are_bounds(bounds) & clear) {
             let timeline = taken.queue;
             let param = AudioParam {

@@ -4,20 +4,21 @@ ghost use Rattle.rules.specs.Numbers.{mostEvents};
 ghost use Rattle.param.specs.Takes.{Takes};
 use crate::AudioParam;
 use refusals::sound::is_clear;
+use refusals::sound::is_due;
 use timeline::AudioParamEventTimeline;
 use timeline::filed_under;
 use timeline::length_of;
 
-// Whether the calls could have left these events, and then the queue in which they wait.
+// Whether these events pass the tests of the invariant, and then the queue in which they wait.
 pub struct Taken {
     pub sound: bool,
     pub queue: AudioParamEventTimeline,
 }
 
-// The events of a timeline, whose slots behind its length do not count.
-pub fn take(q: AudioParamEventTimeline) -> Taken
+// The events of a timeline, whose slots behind its length do not count; `played` says whether a block was answered.
+pub fn take(q: AudioParamEventTimeline, played: bool) -> Taken
     requires { ⌜ q .len ≤ mostEvents ⌝ }
-    ensures { λ r. ⌜ Takes q r ⌝ }
+    ensures { λ r. ⌜ Takes q played r ⌝ }
 {
     let empty = AudioParamEventTimeline::new();
     let mut slots = empty.slots;
@@ -31,7 +32,8 @@ pub fn take(q: AudioParamEventTimeline) -> Taken
         let e = s.event;
         let time = filed_under(e);
         let size = length_of(e);
-        let fits = (before <= time) & (is_clear(e) & (size <= AudioParam::STORE - used));
+        let sound = is_clear(e) & is_due(played, time);
+        let fits = (before <= time) & (sound & (size <= AudioParam::STORE - used));
         if !fits {
             return Taken {
                 sound: false,

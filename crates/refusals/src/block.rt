@@ -20,7 +20,7 @@ fn is_time(time: f64) -> bool
     is_finite64(time) & !is_negative64(time)
 }
 
-fn is_period(period: f64) -> bool
+pub fn is_period(period: f64) -> bool
     ensures { λ r. ⌜ r ≡ isPeriod period ⌝ }
 {
     is_finite64(period) & is_positive64(period)

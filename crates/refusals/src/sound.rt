@@ -1,6 +1,12 @@
-// Whether parts make a parameter that the calls could have left: each test of laws' invariant, as code.
+// Whether parts make a parameter: each test of laws' invariant, as code.
 ghost use mathlib.Core.Path.{_≡_};
-ghost use Rattle.laws.specs.Sound.{isNumber, isNumberIfAny, isHeldBy, endsClear, isClear, isLastClear};
+ghost use mathlib.Core.Bool.{_||_};
+ghost use Rattle.rules.specs.Numbers.{isFinite};
+ghost use Rattle.laws.specs.Sound.{isNumber, isFromZero, isTaken, isTakenIfAny, isHeldBy, isSpan, isClear, isLastClear, hasPlayed};
+use crate::block::is_period;
+use floats::is_finite32;
+use floats::is_finite64;
+use floats::is_zero32;
 use rules::Event;
 use rules::LastEvent;
 use rules::MaybeTime;
@@ -12,12 +18,26 @@ fn is_number(t: f64) -> bool
     t == t
 }
 
-pub fn is_number_if_any(t: MaybeTime) -> bool
-    ensures { λ r. ⌜ r ≡ isNumberIfAny t ⌝ }
+// At or above +0: of the two zeros the one whose inverse is above 0.
+fn is_from_zero(t: f64) -> bool
+    ensures { λ r. ⌜ r ≡ isFromZero t ⌝ }
+{
+    0.0 < t || (t == 0.0 && 0.0 < 1.0 / t)
+}
+
+// A time as the calls take it: finite, from +0 on.
+fn is_taken(t: f64) -> bool
+    ensures { λ r. ⌜ r ≡ isTaken t ⌝ }
+{
+    is_finite64(t) & is_from_zero(t)
+}
+
+pub fn is_taken_if_any(t: MaybeTime) -> bool
+    ensures { λ r. ⌜ r ≡ isTakenIfAny t ⌝ }
 {
     match t {
         MaybeTime::Missing => true,
-        MaybeTime::At(t) => is_number(t),
+        MaybeTime::At(t) => is_taken(t),
     }
 }
 
@@ -31,28 +51,46 @@ fn is_held_by(time: f64, hold: MaybeTime) -> bool
     }
 }
 
-// The time where the event may end, other than its own, is a number; a curve has 2 numbers or more.
-fn ends_clear(e: Event) -> bool
-    ensures { λ r. ⌜ r ≡ endsClear e ⌝ }
+// A ramp's time, and its hold time.
+fn is_span(time: f64, hold: MaybeTime) -> bool
+    ensures { λ r. ⌜ r ≡ isSpan time hold ⌝ }
+{
+    is_taken(time) & (is_taken_if_any(hold) & is_held_by(time, hold))
+}
+
+// Whether an event's numbers are as the calls let them in.
+pub fn is_clear(e: Event) -> bool
+    ensures { λ r. ⌜ r ≡ isClear e ⌝ }
 {
     match e {
-        Event::Step { .. } => true,
-        Event::Linear { time, hold, .. } => is_held_by(time, hold),
-        Event::Exponential { time, hold, .. } => is_held_by(time, hold),
-        Event::Target { hold, .. } => is_number_if_any(hold),
+        Event::Step { value, time } => is_finite32(value) & is_from_zero(time),
+        Event::Linear { value, time, hold } => is_finite32(value) & is_span(time, hold),
+        Event::Exponential { value, time, hold } => {
+            is_finite32(value) & (!is_zero32(value) & is_span(time, hold))
+        }
+        Event::Target {
+            value,
+            time,
+            constant,
+            hold,
+        } => {
+            let runs = is_period(constant) & is_taken_if_any(hold);
+            is_finite32(value) & (is_taken(time) & runs)
+        }
         Event::Curve {
             start,
             duration,
             len,
             hold,
-        } => is_number(start + duration) & (is_number_if_any(hold) & (2 <= len)),
+        } => is_taken(start) & (is_period(duration) & (is_taken_if_any(hold) & (2 <= len))),
     }
 }
 
-pub fn is_clear(e: Event) -> bool
-    ensures { λ r. ⌜ r ≡ isClear e ⌝ }
+// Whether an event may be filed under a time: an infinite one is that of a target that snapped, so a block was answered.
+pub fn is_due(played: bool, time: f64) -> bool
+    ensures { λ r. ⌜ r ≡ (played || isFinite time) ⌝ }
 {
-    is_number(timeline::filed_under(e)) & ends_clear(e)
+    played | is_finite64(time)
 }
 
 pub fn is_last_clear(last: LastEvent) -> bool
@@ -61,5 +99,15 @@ pub fn is_last_clear(last: LastEvent) -> bool
     match last {
         LastEvent::None => true,
         LastEvent::Done(f) => is_number(f.time),
+    }
+}
+
+// Whether a block was answered: the last one has a time.
+pub fn has_played(block: MaybeTime) -> bool
+    ensures { λ r. ⌜ r ≡ hasPlayed block ⌝ }
+{
+    match block {
+        MaybeTime::Missing => false,
+        MaybeTime::At(_) => true,
     }
 }

@@ -39,7 +39,7 @@ pub enum Error {
     OutOfOrder = 10,
     /// the curve store has not 4,096 numbers
     BadStore = 14,
-    /// the state is none of a parameter
+    /// the state fails its test; that of an `AudioParam`, which calls left, never does
     BadState = 100,
 }
 
@@ -88,6 +88,11 @@ pub struct Block {
 pub struct AudioParam {
     state: [u64; STATE],
     store: Box<[f32]>,
+}
+
+/// The archive's own version; `raw::VERSION` is the one that this crate was written for.
+pub fn version() -> u32 {
+    unsafe { raw::crackledray_version() }
 }
 
 fn answer(number: u32) -> Result<(), Error> {

@@ -1,5 +1,5 @@
-//! The bench sheet of document 01, every refusal, and states that are none, through the library.
-use crackledray::{raw, AudioParam, AutomationRate, Block, Error};
+//! The bench sheet of document 01, every refusal and the version, through the library.
+use crackledray::{raw, version, AudioParam, AutomationRate, Block, Error};
 use AutomationRate::{A, K};
 
 type Made = Result<AudioParam, Error>;
@@ -103,100 +103,16 @@ fn refusals() {
     assert_eq!(p.waiting(), 64);
 }
 
-/// A step and its block on a state, raw: the number of each, and what is left of the state, output and answers.
-fn tries(state: &[u64], store_length: usize) -> (u32, u32, Vec<u64>, [f32; 4], (usize, f32, bool)) {
-    let mut after = state.to_vec();
-    let mut store = vec![0.0f32; store_length];
-    let (mut output, mut steps, mut current, mut one) = ([-77.0f32; 4], 7, 7.0, true);
-    let silence = [0.0f32; 1];
-    let (step, block);
-    unsafe {
-        step = raw::crackledray_step(after.as_mut_ptr(), after.len(), 5.0, 2.0);
-        block = raw::crackledray_block(
-            after.as_mut_ptr(),
-            after.len(),
-            0.0,
-            1.0,
-            4,
-            silence.as_ptr(),
-            0,
-            output.as_mut_ptr(),
-            4,
-            store.as_mut_ptr(),
-            store.len(),
-            &mut steps,
-            &mut current,
-            &mut one,
-        );
-    }
-    (step, block, after, output, (steps, current, one))
-}
-
-fn good() -> Vec<u64> {
-    let mut state = vec![0xdead_beef_dead_beef; raw::STATE];
-    let n =
-        unsafe { raw::crackledray_make(state.as_mut_ptr(), raw::STATE, -10.0, 0.0, 10.0, false) };
-    assert_eq!(n, 0);
-    state
+/// The number behind a word that begins a line.
+fn named<'a>(file: &'a str, word: &str) -> &'a str {
+    file.lines().find_map(|line| line.strip_prefix(word)).unwrap().trim()
 }
 
 #[test]
-fn states() {
-    let (step, block, after, output, said) = tries(&good(), raw::STORE);
-    assert_eq!((step, block, output, said), (0, 0, [0.0, 0.0, 5.0, 5.0], (2, 0.0, false)));
-    assert_ne!(after, good());
-    let (step, block, _, output, said) = tries(&good(), 4095);
-    assert_eq!((step, block, output, said), (0, 14, [-77.0; 4], (0, 0.0, false)));
-}
-
-#[test]
-fn bad_states() {
-    let mut bad = vec![vec![], good()[..394].to_vec(), [good(), vec![0]].concat()];
-    let nan = f64::NAN.to_bits();
-    let event = [0, 0, 1.0f64.to_bits(), 0, 0, 0];
-    // word, and what makes it one of no parameter: bounds, a NaN block, a NaN last event, 65 events
-    for words in [
-        vec![(0, 11.0f32.to_bits() as u64)],
-        vec![(2, f32::NAN.to_bits() as u64)],
-        vec![(5, 1), (6, nan)],
-        vec![(7, 1), (8, nan)],
-        vec![(10, 65)],
-        vec![(10, u64::MAX)],
-    ] {
-        let mut s = good();
-        for (i, w) in words {
-            s[i] = w;
-        }
-        bad.push(s);
-    }
-    // one event: no kind, a NaN time, a curve of one number, a held ramp past its time; two out of order
-    for (i, w) in [(0, 5), (0, u64::MAX), (2, nan)] {
-        let mut s = good();
-        s[10] = 1;
-        s[11..17].copy_from_slice(&event);
-        s[11 + i] = w;
-        bad.push(s);
-    }
-    for six in [[4, 1, 0, 0, 0, 0], [1, 0, 0, 0, 1, 1.0f64.to_bits()]] {
-        let mut s = good();
-        s[10] = 1;
-        s[11..17].copy_from_slice(&six);
-        bad.push(s);
-    }
-    let mut s = good();
-    s[10] = 2;
-    s[11..17].copy_from_slice(&event);
-    s[17..23].copy_from_slice(&[0; 6]);
-    bad.push(s);
-    for s in bad {
-        let kept = (100, 100, s.clone(), [-77.0; 4], (7, 7.0, true));
-        assert_eq!(tries(&s, raw::STORE), kept);
-    }
-}
-
-#[test]
-fn a_bad_length_is_not_made() {
-    let mut state = [3u64; 394];
-    let n = unsafe { raw::crackledray_make(state.as_mut_ptr(), 394, 0.0, 0.0, 1.0, false) };
-    assert_eq!((n, state), (100, [3; 394]));
+fn one_version_everywhere() {
+    let (header, cargo) = (include_str!("../../crackledray.h"), include_str!("../Cargo.toml"));
+    assert_eq!(version(), raw::VERSION);
+    assert_eq!(named(header, "#define CRACKLEDRAY_VERSION "), format!("0x{:06x}u", raw::VERSION));
+    let [_, major, minor, patch] = raw::VERSION.to_be_bytes();
+    assert_eq!(named(cargo, "version ="), format!("\"{major}.{minor}.{patch}\""));
 }

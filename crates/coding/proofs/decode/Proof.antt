@@ -1,6 +1,7 @@
 -- `decode` meets its contract. Assumes nothing.
 use denote.Ref.{now}
-use Rattle.coding.proofs.Read.{decodes-none, decodes}
+use native.Mathlib.Omega.{arith}
+use Rattle.coding.proofs.Read.{decodes-none, decodes-no-rate, decodes}
 use borrow.Author.Needs.{needs}
 use Rattle.coding.proofs.decode.Statement.{statement}
 use Rattle.coding.proofs.decode.Tie as tie
@@ -10,6 +11,15 @@ none-requires c κs = search needs
 
 returns : tie.Need-returns
 returns c = decodes-none _ (c .before .if1 .taken) (c .none .ensures .0) (c .none .ensures .1)
+
+shared-slice-read-if2 : tie.Need-shared-slice-read-if2
+shared-slice-read-if2 c = search needs
+
+none-requires-2 : tie.Need-none-requires-2
+none-requires-2 c κs = search needs
+
+returns-2 : tie.Need-returns-2
+returns-2 c = decodes-no-rate _ (c .before .before .before .if1 .left) (c .before .if2 .taken) (c .none2 .ensures .0) (c .none2 .ensures .1)
 
 shared-slice-read-single-in : tie.Need-shared-slice-read-single-in
 shared-slice-read-single-in c = search needs
@@ -68,10 +78,10 @@ queue-in-requires c κs = search needs
 from-parts-requires : tie.Need-from-parts-requires
 from-parts-requires c κs = search needs
 
-returns-2 : tie.Need-returns-2
-returns-2 c =
-    let start = c .before .before .before .before .before .before .before .before .before .before .before .before .before .before .before .before .before .before .before .before .before in
-    decodes (now (start .args .state)) (c .before .queue-in .result) (c .before .before .before .before .before .before .before .before .before .before .before .before .before .before .before .before .before .before .before .if1 .left) (c .before .queue-in .ensures)
+returns-3 : tie.Need-returns-3
+returns-3 c =
+    let start = c .before .before .before .before .before .before .before .before .before .before .before .before .before .before .before .before .before .before .before .before .before .before .before in
+    decodes (now (start .args .state)) (c .before .queue-in .result) (c .before .before .before .before .before .before .before .before .before .before .before .before .before .before .before .before .before .before .before .before .before .if1 .left) (omega (arith, c .before .before .before .before .before .before .before .before .before .before .before .before .before .before .before .before .before .before .before .if2 .left)) (c .before .queue-in .ensures)
     (rw (c .before .before .before .before .before .before .before .before .before .before .before .before .before .before .before .before .before .single-in .ensures, c .before .before .before .before .before .before .before .before .before .before .before .before .before .before .before .single-in2 .ensures, c .before .before .before .before .before .before .before .before .before .before .before .before .before .single-in3 .ensures, c .before .before .before .before .before .before .before .before .before .before .before .rate-in .ensures, c .before .before .before .before .before .before .before .before .before .single-in4 .ensures, c .before .before .before .before .before .before .time-in .ensures, c .before .before .last-in .ensures) at (c .from-parts .ensures))
 
 pub decode-spec : {M : Type 1} → statement M
@@ -80,6 +90,9 @@ decode-spec =
     (tie.spec
     none-requires
     returns
+    shared-slice-read-if2
+    none-requires-2
+    returns-2
     shared-slice-read-single-in
     single-in-requires
     shared-slice-read-single-in-2
@@ -99,4 +112,4 @@ decode-spec =
     last-in-requires
     queue-in-requires
     from-parts-requires
-    returns-2)
+    returns-3)

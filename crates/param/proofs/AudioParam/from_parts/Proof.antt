@@ -17,14 +17,17 @@ refused-requires c κs = search needs
 returns : tie.Need-returns
 returns c = restores-not (too-many (parts (c .before .before .before)) (c .before .if1 .taken)) (c .refused .ensures)
 
+has-played-requires : tie.Need-has-played-requires
+has-played-requires c κs = search needs
+
 take-requires : tie.Need-take-requires
 take-requires c κs = search needs
 
 is-last-clear-requires : tie.Need-is-last-clear-requires
 is-last-clear-requires c κs = search needs
 
-is-number-if-any-requires : tie.Need-is-number-if-any-requires
-is-number-if-any-requires c κs = search needs
+is-taken-if-any-requires : tie.Need-is-taken-if-any-requires
+is-taken-if-any-requires c κs = search needs
 
 are-bounds-requires : tie.Need-are-bounds-requires
 are-bounds-requires c κs = search needs
@@ -35,24 +38,26 @@ refused-requires-2 c κs = search needs
 returns-2 : tie.Need-returns-2
 returns-2 c =
     restores-all
-    (parts (c .before .before .before .before .before .before .before .before))
+    (parts (c .before .before .before .before .before .before .before .before .before))
     (omega arith)
     (c .before .before .before .before .before .take .ensures)
+    (c .before .before .before .before .before .before .has-played .ensures)
     (c .before .before .are-bounds .ensures)
     (c .before .before .before .before .is-last-clear .ensures)
-    (c .before .before .before .is-number-if-any .ensures)
+    (c .before .before .before .is-taken-if-any .ensures)
     (c .before .if2 .taken)
     refl
 
 returns-3 : tie.Need-returns-3
 returns-3 c =
     restores-none
-    (parts (c .before .before .before .before .before .before .before .before))
+    (parts (c .before .before .before .before .before .before .before .before .before))
     (omega arith)
     (c .before .before .before .before .before .take .ensures)
+    (c .before .before .before .before .before .before .has-played .ensures)
     (c .before .before .are-bounds .ensures)
     (c .before .before .before .before .is-last-clear .ensures)
-    (c .before .before .before .is-number-if-any .ensures)
+    (c .before .before .before .is-taken-if-any .ensures)
     (c .before .if2 .left)
     (c .refused2 .ensures)
 
@@ -62,9 +67,10 @@ from-parts-spec =
     (tie.spec
     refused-requires
     returns
+    has-played-requires
     take-requires
     is-last-clear-requires
-    is-number-if-any-requires
+    is-taken-if-any-requires
     are-bounds-requires
     refused-requires-2
     returns-2

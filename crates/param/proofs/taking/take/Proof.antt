@@ -22,10 +22,10 @@ use Rattle.param.proofs.taking.take.Statement.{statement}
 use Rattle.param.proofs.taking.take.Tie as tie
 
 abbrev Inv-loop : tie.InvT-loop
-Inv-loop q slots₀ len used₀ before₀ i₀ slots used before i = (i ≤ len) × Took (waiting q) used before i slots
+Inv-loop played q slots₀ len used₀ before₀ i₀ slots used before i = (i ≤ len) × Took (waiting q) played used before i slots
 
 abbrev μ-loop : tie.MeasureT-loop
-μ-loop q slots₀ len used₀ before₀ i₀ slots used before i = len - i
+μ-loop played q slots₀ len used₀ before₀ i₀ slots used before i = len - i
 
 -- an array of 64 has 64 elements
 full : (c : tie.Start Inv-loop μ-loop) → length (c .args .t1 .slots) ≡ mostEvents
@@ -39,11 +39,11 @@ next : (c : tie.In-loop Inv-loop μ-loop)
 next c = slot-next (c .before .before .before .before .args .t1) (c .before .loop .i) (full (c .before .before .before .before)) (omega arith) (omega arith)
 
 fitted : (c : tie.Else1 Inv-loop μ-loop)
-    → (Ieee.le (c .before .before .before .before .before .before .loop .before) (c .before .before .before .filed-under .result) && (c .before .is-clear .result && leb (c .before .before .length-of .result) (storeLength - c .before .before .before .before .before .before .loop .used))) ≡ true
+    → (Ieee.le (c .before .before .before .before .before .before .before .loop .before) (c .before .before .before .before .filed-under .result) && (c .before .before .is-clear .result && c .before .is-due .result && leb (c .before .before .before .length-of .result) (storeLength - c .before .before .before .before .before .before .before .loop .used))) ≡ true
 fitted c = not-false _ (c .if1 .left)
 
-room : (c : tie.Else1 Inv-loop μ-loop) → c .before .before .length-of .result ≤ storeLength - c .before .before .before .before .before .before .loop .used
-room c = leb-true _ _ (both (c .before .is-clear .result) _ (both (Ieee.le _ _) _ (fitted c) .1) .1)
+room : (c : tie.Else1 Inv-loop μ-loop) → c .before .before .before .length-of .result ≤ storeLength - c .before .before .before .before .before .before .before .loop .used
+room c = leb-true _ _ (both (c .before .before .is-clear .result && c .before .is-due .result) _ (both (Ieee.le _ _) _ (fitted c) .1) .1)
 
 new-requires : tie.Need-new-requires Inv-loop μ-loop
 new-requires c κs = search needs
@@ -54,7 +54,7 @@ float-from-bits-before c = tt
 
 loop-holds : tie.Need-loop-holds Inv-loop μ-loop
 unfolding ofBits
-loop-holds c = (omega arith, took-none (waiting (c .before .before .args .t1)) (c .before .new .ensures))
+loop-holds c = (omega arith, took-none (waiting (c .before .before .args .t1)) (c .before .before .args .played) (c .before .new .ensures))
 
 mul-s : tie.Need-mul-s Inv-loop μ-loop
 mul-s c = search needs
@@ -71,21 +71,25 @@ length-of-requires c κs = search needs
 is-clear-requires : tie.Need-is-clear-requires Inv-loop μ-loop
 is-clear-requires c κs = search needs
 
+is-due-requires : tie.Need-is-due-requires Inv-loop μ-loop
+is-due-requires c κs = search needs
+
 sub-fits : tie.Need-sub-fits Inv-loop μ-loop
-sub-fits c = omega (arith, c .before .before .before .before .before .loop .inv .1 .many, c .before .before .before .before .before .loop .inv .1 .sound .room)
+sub-fits c = omega (arith, c .before .before .before .before .before .before .loop .inv .1 .many, c .before .before .before .before .before .before .loop .inv .1 .sound .room)
 
 returns : tie.Need-returns Inv-loop μ-loop
 returns c =
     record {
       sound =
           takes-not
-          (c .before .before .before .before .before .before .loop .inv .1)
+          (c .before .before .before .before .before .before .before .loop .inv .1)
           _
-          (next (c .before .before .before .before .before))
+          (next (c .before .before .before .before .before .before))
           (omega arith)
-          (c .before .before .before .filed-under .ensures)
-          (c .before .is-clear .ensures)
-          (c .before .before .length-of .ensures)
+          (c .before .before .before .before .filed-under .ensures)
+          (c .before .before .is-clear .ensures)
+          (c .before .is-due .ensures)
+          (c .before .before .before .length-of .ensures)
           (not-true _ (c .if1 .taken));
       queue = λ h. never h;
     }
@@ -97,7 +101,7 @@ array-set-from-slots : tie.Need-array-set-from-slots Inv-loop μ-loop
 array-set-from-slots c = search needs
 
 add-used : tie.Need-add-used Inv-loop μ-loop
-add-used c = omega (arith, c .before .before .before .before .before .before .loop .inv .1 .many, c .before .before .before .before .before .before .loop .inv .1 .sound .room, room c)
+add-used c = omega (arith, c .before .before .before .before .before .before .before .loop .inv .1 .many, c .before .before .before .before .before .before .before .loop .inv .1 .sound .room, room c)
 
 add-i : tie.Need-add-i Inv-loop μ-loop
 add-i c = search needs
@@ -107,7 +111,7 @@ loop-less c = search needs
 
 loop-again : tie.Need-loop-again Inv-loop μ-loop
 loop-again c =
-    (omega arith, takes-more (c .before .before .before .before .before .before .loop .inv .1) _ (next (c .before .before .before .before .before)) (omega arith) (c .before .before .before .filed-under .ensures) (c .before .is-clear .ensures) (c .before .before .length-of .ensures) (fitted c) refl)
+    (omega arith, takes-more (c .before .before .before .before .before .before .before .loop .inv .1) _ (next (c .before .before .before .before .before .before)) (omega arith) (c .before .before .before .before .filed-under .ensures) (c .before .before .is-clear .ensures) (c .before .is-due .ensures) (c .before .before .before .length-of .ensures) (fitted c) refl)
 
 returns-2 : tie.Need-returns-2 Inv-loop μ-loop
 returns-2 c =
@@ -132,6 +136,7 @@ take-spec =
     filed-under-requires
     length-of-requires
     is-clear-requires
+    is-due-requires
     sub-fits
     returns
     mul-slots

@@ -1,0 +1,414 @@
+//! States, raw: one that fails the test is answered 100 by every call and nothing changes; one that calls left is accepted.
+use crackledray::raw;
+
+/// What a call may write.
+#[derive(Clone, Debug, PartialEq)]
+struct Lent {
+    state: Vec<u64>,
+    store: Vec<f32>,
+    output: [f32; 4],
+    steps: usize,
+    current: f32,
+    one: bool,
+}
+
+fn lend(state: &[u64]) -> Lent {
+    let store = vec![0.25; raw::STORE];
+    Lent { state: state.to_vec(), store, output: [-77.0; 4], steps: 7, current: 7.0, one: true }
+}
+
+/// A call of a value, a time, and a time constant, duration or sample period.
+type Call = fn(&mut Lent, f32, f64, f64) -> u32;
+
+/// Each call that reads a state.
+const CALLS: [(&str, Call); 9] = [
+    ("set", |l, v, _, _| unsafe { raw::crackledray_set(l.state.as_mut_ptr(), l.state.len(), v) }),
+    ("step", |l, v, t, _| unsafe {
+        raw::crackledray_step(l.state.as_mut_ptr(), l.state.len(), v, t)
+    }),
+    ("linear", |l, v, t, _| unsafe {
+        raw::crackledray_linear(l.state.as_mut_ptr(), l.state.len(), v, t)
+    }),
+    ("exponential", |l, v, t, _| unsafe {
+        raw::crackledray_exponential(l.state.as_mut_ptr(), l.state.len(), v, t)
+    }),
+    ("target", |l, v, t, c| unsafe {
+        raw::crackledray_target(l.state.as_mut_ptr(), l.state.len(), v, t, c)
+    }),
+    ("curve", curve_call),
+    ("cancel", |l, _, t, _| unsafe {
+        raw::crackledray_cancel(
+            l.state.as_mut_ptr(),
+            l.state.len(),
+            t,
+            l.store.as_mut_ptr(),
+            l.store.len(),
+        )
+    }),
+    ("hold", |l, _, t, _| unsafe {
+        raw::crackledray_hold(
+            l.state.as_mut_ptr(),
+            l.state.len(),
+            t,
+            l.store.as_mut_ptr(),
+            l.store.len(),
+        )
+    }),
+    ("block", block_call),
+];
+
+/// The numbers are the value, 1 and the value again.
+fn curve_call(l: &mut Lent, value: f32, time: f64, duration: f64) -> u32 {
+    let values = [value, 1.0, value];
+    unsafe {
+        raw::crackledray_curve(
+            l.state.as_mut_ptr(),
+            l.state.len(),
+            values.as_ptr(),
+            values.len(),
+            time,
+            duration,
+            l.store.as_mut_ptr(),
+            l.store.len(),
+        )
+    }
+}
+
+/// Four samples of silence.
+fn block_call(l: &mut Lent, _: f32, time: f64, period: f64) -> u32 {
+    let silence = [0.0f32; 1];
+    unsafe {
+        raw::crackledray_block(
+            l.state.as_mut_ptr(),
+            l.state.len(),
+            time,
+            period,
+            4,
+            silence.as_ptr(),
+            0,
+            l.output.as_mut_ptr(),
+            l.output.len(),
+            l.store.as_mut_ptr(),
+            l.store.len(),
+            &mut l.steps,
+            &mut l.current,
+            &mut l.one,
+        )
+    }
+}
+
+// ---- states made by hand
+
+const INFINITY: f64 = f64::INFINITY;
+const NAN: f64 = f64::NAN;
+
+type Named = (&'static str, Vec<u64>);
+
+fn good() -> Vec<u64> {
+    let mut state = vec![0xdead_beef_dead_beef; raw::STATE];
+    let n =
+        unsafe { raw::crackledray_make(state.as_mut_ptr(), raw::STATE, -10.0, 0.0, 10.0, false) };
+    assert_eq!(n, 0);
+    state
+}
+
+/// The good state with other numbers at places.
+fn with(words: &[(usize, u64)]) -> Vec<u64> {
+    let mut state = good();
+    for (place, word) in words {
+        state[*place] = *word;
+    }
+    state
+}
+
+/// The good state in which these wait.
+fn waiting(events: &[[u64; 6]]) -> Vec<u64> {
+    let mut state = with(&[(10, events.len() as u64)]);
+    state[11..11 + 6 * events.len()].copy_from_slice(&events.concat());
+    state
+}
+
+/// The same after a block at 0 was answered.
+fn played(mut state: Vec<u64>) -> Vec<u64> {
+    state[5..7].copy_from_slice(&[1, 0]);
+    state
+}
+
+fn single(value: f32) -> u64 {
+    value.to_bits() as u64
+}
+
+fn step(value: f32, time: f64) -> [u64; 6] {
+    [0, single(value), time.to_bits(), 0, 0, 0]
+}
+
+fn linear(value: f32, time: f64) -> [u64; 6] {
+    [1, single(value), time.to_bits(), 0, 0, 0]
+}
+
+fn exponential(value: f32, time: f64) -> [u64; 6] {
+    [2, single(value), time.to_bits(), 0, 0, 0]
+}
+
+fn target(value: f32, time: f64, constant: f64) -> [u64; 6] {
+    [3, single(value), time.to_bits(), constant.to_bits(), 0, 0]
+}
+
+fn curve(numbers: u64, time: f64, duration: f64) -> [u64; 6] {
+    [4, numbers, time.to_bits(), duration.to_bits(), 0, 0]
+}
+
+fn held(event: [u64; 6], time: f64) -> [u64; 6] {
+    [event[0], event[1], event[2], event[3], 1, time.to_bits()]
+}
+
+/// Each of these differs from a bad state below by what that one is named for.
+fn good_by_hand() -> Vec<Named> {
+    vec![
+        ("nothing waits", good()),
+        ("K-rate", with(&[(3, 1)])),
+        ("a last block", played(good())),
+        ("a last event", with(&[(7, 1), (8, 1.0f64.to_bits()), (9, 0)])),
+        ("a NaN intrinsic value", with(&[(4, single(f32::NAN))])),
+        ("a step", waiting(&[step(5.0, 3.0)])),
+        ("a step at infinity", played(waiting(&[step(5.0, INFINITY)]))),
+        ("a linear ramp", waiting(&[linear(5.0, 3.0)])),
+        ("an exponential ramp", waiting(&[exponential(5.0, 3.0)])),
+        ("a target", waiting(&[target(5.0, 3.0, 1.0)])),
+        ("a curve", waiting(&[curve(2, 3.0, 1.0)])),
+        ("a held linear ramp", waiting(&[held(linear(5.0, 3.0), 3.0)])),
+        ("a held exponential ramp", waiting(&[held(exponential(5.0, 3.0), 0.0)])),
+        ("a held target", waiting(&[held(target(5.0, 3.0, 1.0), 9.0)])),
+        ("a held curve", waiting(&[held(curve(2, 3.0, 1.0), 3.5)])),
+        ("two at one time", waiting(&[step(5.0, 3.0), linear(6.0, 3.0)])),
+        ("a full store", waiting(&[curve(2048, 3.0, 1.0), curve(2048, 3.0, 1.0)])),
+        ("64 events", waiting(&[step(5.0, 3.0); 64])),
+        ("a step with a hold time, which is not read", waiting(&[held(step(5.0, 3.0), f64::NAN)])),
+        ("a ramp with a fourth number, which is not read", waiting(&[[1, single(5.0), 3.0f64.to_bits(), 77, 0, 0]])),
+    ]
+}
+
+fn bad_heads() -> Vec<Named> {
+    let block = |time: f64| with(&[(5, 1), (6, time.to_bits())]);
+    vec![
+        ("no numbers", vec![]),
+        ("394 numbers", good()[..394].to_vec()),
+        ("396 numbers", [good(), vec![0]].concat()),
+        ("a minimum above the default", with(&[(0, single(11.0))])),
+        ("an infinite minimum", with(&[(0, single(f32::NEG_INFINITY))])),
+        ("a maximum of NaN", with(&[(2, single(f32::NAN))])),
+        ("rate word 2", with(&[(3, 2)])),
+        ("rate word 77", with(&[(3, 77)])),
+        ("rate word 2^32", with(&[(3, 1 << 32)])),
+        ("a last block at NaN", block(NAN)),
+        ("a last block at -5", block(-5.0)),
+        ("a last block at -0", block(-0.0)),
+        ("a last block at infinity", block(INFINITY)),
+        ("a last event at NaN", with(&[(7, 1), (8, NAN.to_bits()), (9, 0)])),
+        ("65 events", with(&[(10, 65)])),
+        ("2^64 - 1 events", with(&[(10, u64::MAX)])),
+    ]
+}
+
+fn bad_values() -> Vec<[u64; 6]> {
+    let mut events = vec![exponential(0.0, 3.0), exponential(-0.0, 3.0)];
+    for value in [f32::NAN, f32::INFINITY, f32::NEG_INFINITY] {
+        events.extend([step(value, 3.0), linear(value, 3.0)]);
+        events.extend([exponential(value, 3.0), target(value, 3.0, 1.0)]);
+    }
+    events
+}
+
+/// Those of a step, which can wait at infinity, first.
+fn bad_times() -> Vec<[u64; 6]> {
+    let mut events = vec![step(5.0, NAN), step(5.0, -3.0), step(5.0, -0.0), step(5.0, -INFINITY)];
+    for time in [NAN, -3.0, -0.0, INFINITY] {
+        events.extend([linear(5.0, time), exponential(5.0, time)]);
+        events.extend([target(5.0, time, 1.0), curve(2, time, 1.0)]);
+    }
+    for length in [-1.0, -4.0, 0.0, -0.0, NAN, INFINITY] {
+        events.extend([target(5.0, 3.0, length), curve(2, 3.0, length)]);
+    }
+    for time in [-1.0, -0.0, NAN, INFINITY] {
+        events.extend([held(linear(5.0, 3.0), time), held(exponential(5.0, 3.0), time)]);
+        events.extend([held(target(5.0, 3.0, 1.0), time), held(curve(2, 3.0, 1.0), time)]);
+    }
+    events
+}
+
+fn bad_others() -> Vec<[u64; 6]> {
+    let no_kind = |kind: u64| [kind, 2, 0, 1.0f64.to_bits(), 0, 0];
+    vec![
+        no_kind(5),
+        no_kind(u64::MAX),
+        curve(0, 3.0, 1.0),
+        curve(1, 3.0, 1.0),
+        curve(4097, 3.0, 1.0),
+        curve(u64::MAX, 3.0, 1.0),
+        held(linear(5.0, 3.0), 3.5),
+        held(exponential(5.0, 3.0), 3.5),
+    ]
+}
+
+fn bad_queues() -> Vec<Named> {
+    vec![
+        ("a step at infinity before the first block", waiting(&[step(5.0, INFINITY)])),
+        ("two out of order", waiting(&[step(5.0, 3.0), step(5.0, 2.0)])),
+        ("curves of 4,097", waiting(&[curve(2048, 3.0, 1.0), curve(2049, 3.0, 1.0)])),
+        ("good, then bad", waiting(&[step(5.0, 3.0), step(f32::NAN, 4.0)])),
+    ]
+}
+
+/// An event in words: its value (a curve's count), time, time constant or duration, and hold time.
+fn told(event: [u64; 6]) -> String {
+    let kind = ["step", "linear", "exponential", "target", "curve"].get(event[0] as usize);
+    let value = match event[0] {
+        4 => event[1].to_string(),
+        _ => format!("{:?}", f32::from_bits(event[1] as u32)),
+    };
+    let [time, other, hold] = [event[2], event[3], event[5]].map(f64::from_bits);
+    let held = if event[4] == 0 { String::new() } else { format!(" held at {hold:?}") };
+    format!("{} {value} at {time:?} by {other:?}{held}", kind.unwrap_or(&"no kind"))
+}
+
+/// Each bad event waits alone, before and after a first block: what is bad is the event.
+fn bad_states() -> Vec<(String, Vec<u64>)> {
+    let named = [bad_heads(), bad_queues()].concat();
+    let mut all: Vec<_> = named.into_iter().map(|(n, s)| (n.to_string(), s)).collect();
+    for event in [bad_values(), bad_times(), bad_others()].concat() {
+        all.push((told(event), waiting(&[event])));
+        all.push((told(event) + ", after a block", played(waiting(&[event]))));
+    }
+    all
+}
+
+/// The calls that do not answer 100, or change something; with their numbers.
+fn wrong_of(state: &[u64]) -> Vec<String> {
+    let mut wrong = vec![];
+    for (name, call) in CALLS {
+        // numbers that a good state answers, and numbers that it refuses
+        for (value, time, other) in [(5.0, 2.0, 1.0), (f32::NAN, -1.0, -1.0)] {
+            let mut after = lend(state);
+            let number = call(&mut after, value, time, other);
+            if (number, &after) != (100, &lend(state)) {
+                wrong.push(format!("{name} {number}"));
+            }
+        }
+    }
+    wrong
+}
+
+// ---- tests
+
+#[test]
+fn bad_states_are_refused_and_stay() {
+    let mut lines = vec![];
+    for (name, state) in bad_states() {
+        let wrong = wrong_of(&state);
+        if !wrong.is_empty() {
+            lines.push(format!("{name}: {}", wrong.join(", ")));
+        }
+    }
+    let all = bad_states().len();
+    assert!(lines.is_empty(), "{} of {all} are not refused:\n{}", lines.len(), lines.join("\n"));
+}
+
+#[test]
+fn good_states_are_accepted() {
+    for (state, words) in good_by_hand() {
+        for (name, call) in CALLS {
+            let number = call(&mut lend(&words), 5.0, 2.0, 1.0);
+            assert!(number == 0 || number == 7 || number == 8, "{state}: {name} answers {number}");
+        }
+    }
+}
+
+/// Flags above 1, and bits above a float's 32, are read as those below; a refused call leaves them, an answered one does not.
+#[test]
+fn a_refused_call_leaves_every_word() {
+    let mut state = waiting(&[linear(5.0, 3.0)]);
+    for (place, word) in [(0, 7 << 32 | state[0]), (5, 2), (6, 0), (15, 9), (16, 0), (394, 3)] {
+        state[place] = word;
+    }
+    for (name, call) in CALLS {
+        let mut after = lend(&state);
+        let number = call(&mut after, f32::NAN, -1.0, -1.0);
+        assert!(number == 2 || number == 3 || number == 9, "{name} answers {number}");
+        assert_eq!(after.state, state, "{name}");
+    }
+    let mut after = lend(&state);
+    assert_eq!(CALLS[1].1(&mut after, 6.0, 4.0, 0.0), 0);
+    assert_eq!((after.state[0], after.state[5], after.state[15]), (single(-10.0), 1, 1));
+    assert_eq!(after.state[394], 3);
+}
+
+/// A target that has arrived becomes a step at the next block's time, here 10^308 + 4 × 10^308.
+#[test]
+fn a_block_leaves_a_step_at_infinity() {
+    let mut lent = lend(&good());
+    assert_eq!(CALLS[4].1(&mut lent, 5.0, 0.0, 1.0), 0);
+    assert_eq!(block_call(&mut lent, 0.0, 1e308, 1e308), 0);
+    assert_eq!(lent.state[10..17], [vec![1], step(5.0, INFINITY).to_vec()].concat());
+    for (name, call) in CALLS {
+        assert_eq!(call(&mut lent.clone(), 6.0, 1e308, 1e308), 0, "{name}");
+    }
+}
+
+/// Numbers of Knuth's generator, for choices.
+struct Dice(u64);
+
+impl Dice {
+    fn of<T: Copy>(&mut self, choices: &[T]) -> T {
+        self.0 = self.0.wrapping_mul(6364136223846793005).wrapping_add(1442695040888963407);
+        choices[(self.0 >> 33) as usize % choices.len()]
+    }
+}
+
+#[test]
+fn what_calls_leave_is_accepted() {
+    let values = [0.0, -0.0, 1.0, -3.0, 5.0, 1e-45, f32::MAX, f32::MIN, f32::NAN, f32::INFINITY];
+    let times = [0.0, -0.0, 0.0, 1.0, 1.0, 2.5, 4.0, 4.0, 9.0, 5e-324, 1e308, -1.0, NAN, INFINITY];
+    let others = [0.0, -0.0, 0.25, 1.0, 1.0, 3.0, 5e-324, 1e308, -1.0, NAN, INFINITY];
+    let mut dice = Dice(1);
+    let mut answered = [0; 9];
+    for _ in 0..2000 {
+        let mut lent = lend(&good());
+        lent.store.fill(dice.of(&[0.0, 0.25, f32::NAN, f32::MAX]));
+        for _ in 0..40 {
+            let i = dice.of(&[0, 1, 2, 3, 4, 5, 6, 7, 8, 8, 8]);
+            let (value, time, other) = (dice.of(&values), dice.of(&times), dice.of(&others));
+            let before = lent.state.clone();
+            let number = CALLS[i].1(&mut lent, value, time, other);
+            assert_ne!(number, 100, "{} of {before:x?}", CALLS[i].0);
+            assert!(number == 0 || lent.state == before, "{} changes {before:x?}", CALLS[i].0);
+            answered[i] += (number == 0) as usize;
+        }
+    }
+    assert!(answered.iter().all(|n| *n > 1000), "{answered:?}");
+}
+
+#[test]
+fn a_store_of_4095_floats_is_refused() {
+    let mut lent = lend(&waiting(&[step(5.0, 3.0)]));
+    lent.store.pop();
+    let state = lent.state.clone();
+    assert_eq!(block_call(&mut lent, 0.0, 0.0, 1.0), 14);
+    assert_eq!((lent.state, lent.output), (state, [-77.0; 4]));
+    assert_eq!((lent.steps, lent.current, lent.one), (0, 0.0, false));
+}
+
+#[test]
+fn a_bad_length_is_not_made() {
+    let mut state = [3u64; 394];
+    let n = unsafe { raw::crackledray_make(state.as_mut_ptr(), 394, 0.0, 0.0, 1.0, false) };
+    assert_eq!((n, state), (100, [3; 394]));
+}
+
+/// Refused by 1, a parameter of A-rate with all numbers 0 is written: a state that is accepted.
+#[test]
+fn bad_bounds_make_a_state_of_zeros() {
+    let mut state = vec![3u64; raw::STATE];
+    let n = unsafe { raw::crackledray_make(state.as_mut_ptr(), raw::STATE, 1.0, 0.0, 2.0, true) };
+    assert_eq!((n, &state[..11], &state[11..]), (1, &[0; 11][..], &[3; 384][..]));
+    assert_eq!(CALLS[0].1(&mut lend(&state), 5.0, 0.0, 0.0), 0);
+}
