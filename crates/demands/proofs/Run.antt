@@ -15,11 +15,12 @@ use Rattle.rules.specs.Block.{Param, Call, Answer, Command, Called, set, step, 
 use Rattle.laws.proofs.Tests.{never}
 use Rattle.param.specs.declared.AudioParam.{AudioParam}
 use Rattle.param.specs.declared.Outcome.{Outcome}
-use Rattle.param.specs.Param.{paramOf, structOf, SoundParam, Makes, Answers}
+use Rattle.param.specs.Param.{paramOf, structOf, SoundParam, Makes, Answers, Restores}
 use Rattle.param.specs.Processed.{Processes}
-use Rattle.param.proofs.Calls.{struct-back}
+use Rattle.param.proofs.Calls.{struct-back, struct-sound}
+use Rattle.param.proofs.Settled.{restores-own}
 use Rattle.playing.specs.Play.{State, waiting, begun, scheduled, asked, answerTo, played, apart, told}
-use Rattle.playing.specs.Demand.{behind, whileTwoWait, resumed, PlayedTheSame}
+use Rattle.playing.specs.Demand.{behind, whileTwoWait, resumed, Holds, PlayedTheSame}
 use Rattle.playing.specs.Results.{Results, lastLeft}
 use Rattle.playing.proofs.Demand.{demand-3}
 use Rattle.playing.proofs.Results.{results-scheduled, results-played, results-the-same}
@@ -82,8 +83,9 @@ code-schedules ok = results-scheduled stateOf leftByDone Ok calledBy MeetsCall (
 -- ---- demand 3 of the code
 
 -- Two schedules given to two parameters made alike, ds and es what their calls gave. Both are played over the blocks `all`, with the results rs and us; cs are the blocks
--- before the first after which fewer than two shared events wait. h, whose state is the first's there with the second's later events behind the shared ones, is played
--- over the rest, with the results vs. Then rs and us agree over cs, waiting events apart, and over the rest vs is us.
+-- before the first after which fewer than two shared events wait. There the first's state with the second's later events behind the shared ones makes a parameter:
+-- `from_parts` answers with that very struct. Lent any store that holds its curves' numbers first, it is played over the rest, with the results vs. Then rs and us agree
+-- over cs, waiting events apart, and over the rest vs is us.
 module _ (b : Bounds) (rate : AutomationRate) (one other : List Float) (long : length one ≡ storeLength) (long' : length other ≡ storeLength) (o : Outcome) (makes : Makes b rate o)
     (xs ys : List Command) (ds es : List Done)
     (first : Results leftByDone MeetsCall (record { param = o .param; store = one }) xs ds)
@@ -109,13 +111,25 @@ module _ (b : Bounds) (rate : AutomationRate) (one other : List Float) (long : l
   code-plays-the-same m agree all =
       rw (x-is, y-is) (demand-3 b rate one other long long' xs ys m (rw (x-is, y-is) at agree) all)
 
-  pub demand-3-of-code : (m : ℕ) → take m (waiting (stateOf x)) ≡ take m (waiting (stateOf y)) → (all : List Call) (h : Held)
+  -- the first resumed as the second
+  abbrev pub resumedParam : ℕ → List Call → AudioParam
+  resumedParam m cs = structOf (resumed m (stateOf x) (stateOf y) cs .param)
+
+  pub demand-3-of-code : (m : ℕ) → take m (waiting (stateOf x)) ≡ take m (waiting (stateOf y)) → (all : List Call)
       → let cs = whileTwoWait (behind m (stateOf x)) (stateOf x) all in
-      stateOf h ≡ resumed m (stateOf x) (stateOf y) cs → Ok h → (rs us vs : List Block) → Results leftByBlock MeetsBlock x all rs → Results leftByBlock MeetsBlock y all us
-      → Results leftByBlock MeetsBlock h (drop (length cs) all) vs
-      → (map apart (take (length cs) (map answerBy rs)) ≡ map apart (take (length cs) (map answerBy us)))
+      (r : Outcome) → Restores (resumedParam m cs) r → (store : List Float) → Holds (waiting (resumed m (stateOf x) (stateOf y) cs)) store
+      → (rs us vs : List Block) → Results leftByBlock MeetsBlock x all rs → Results leftByBlock MeetsBlock y all us
+      → Results leftByBlock MeetsBlock (record { param = r .param; store = store }) (drop (length cs) all) vs
+      → (r ≡ record { verdict = Verdict.Answered; param = resumedParam m cs })
+      × (map apart (take (length cs) (map answerBy rs)) ≡ map apart (take (length cs) (map answerBy us)))
       × (map told (drop (length cs) (map answerBy us)) ≡ map told (map answerBy vs))
-  demand-3-of-code m agree all h is ok rs us vs rx ry rh =
+  demand-3-of-code m agree all r restores store holds rs us vs rx ry rz =
+      let cs : List Call = whileTwoWait (behind m (stateOf x)) (stateOf x) all in
+      let same : PlayedTheSame m (stateOf x) (stateOf y) all cs = code-plays-the-same m agree all in
+      let ok : SoundParam (resumedParam m cs) = struct-sound (resumed m (stateOf x) (stateOf y) cs .param) (same .sound) in
+      let gives : r ≡ record { verdict = Verdict.Answered; param = resumedParam m cs } = restores-own ok restores in
+      let is : r .param ≡ resumedParam m cs = ap (λ (o : Outcome). o .param) gives in
+      let heard =
       results-the-same
       stateOf
       leftByBlock
@@ -124,11 +138,14 @@ module _ (b : Bounds) (rate : AutomationRate) (one other : List Float) (long : l
       MeetsBlock
       (λ r. refl)
       block-settled
-      (code-plays-the-same m agree all)
-      is
+      same
+      store
+      holds
+      (ap (λ (p : Param). record { param = p; store = store }) (back is))
       (code-schedules (makes .sound) first .1)
       (code-schedules (makes .sound) second .1)
-      ok
+      (rw is ok)
       rx
       ry
-      rh
+      rz in
+      (gives, heard .0, heard .1)

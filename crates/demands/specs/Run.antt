@@ -33,7 +33,7 @@ leftByDone r = record { param = r .outcome .param; store = r .store }
 abbrev pub calledBy : Done → Called
 calledBy r = record { verdict = r .outcome .verdict; param = paramOf (r .outcome .param); store = r .store }
 
--- whether a call is lent the store (readings, 9)
+-- whether a call is lent the store (DECISIONS, reading 9)
 unfoldable pub isLent : Command → Bool
 isLent (set v) = false
 isLent (step v t) = false

@@ -9,11 +9,11 @@ use lib.Seq.{take-at}
 use Rattle.rules.specs.Queue.{Waiting}
 use Rattle.rules.specs.Block.{Call, made, withQueue}
 use Rattle.playing.specs.Play.{State, waiting, loaded, tidied, begun, scheduled, after, afterAll, played, told}
-use Rattle.playing.specs.Demand.{twoWait, whileTwoWait, stillShared, resumedWith, resumed, behind, PlayedTheSame, Demand3, Demand3Each}
+use Rattle.playing.specs.Demand.{twoWait, whileTwoWait, stillShared, resumedWith, resumed, behind, withStore, PlayedTheSame, Demand3, Demand3Each}
 use Rattle.playing.proofs.States.{bare, SoundState}
 use Rattle.playing.proofs.Blocks.{Beside, turned-round, Together, all-blocks}
 use Rattle.playing.proofs.Schedules.{Ready, begun-ready}
-use Rattle.playing.proofs.Resume.{tell-the-same, tidied-twin, once-answered, played-behind}
+use Rattle.playing.proofs.Resume.{Twins, tell-the-same, tidied-twin, own-holds, held-twin, once-answered, played-behind}
 
 -- the blocks while two wait are the first ones
 pub first-blocks : (n : ℕ) (s : State) (all : List Call) → whileTwoWait n s all ++ drop (length (whileTwoWait n s all)) all ≡ all
@@ -75,6 +75,8 @@ module _ (m : ℕ) (s t : State) (same : bare s ≡ bare t) (sound-first : Sound
       let ds : List Call = drop (length cs) all in
       let g : Together (drop m (waiting s)) (drop m (waiting t)) s t all cs = rw n at (all-blocks _ _ all (take m (waiting s)) s t beside) in
       let state : tidied (afterAll t cs) ≡ resumed m s t cs = rw n at (as-second (g .left)) in
+      let twin : Twins (waiting (afterAll t cs)) (tidied (afterAll t cs)) (afterAll t cs) = tidied-twin (afterAll t cs) (g .left .sound-second) in
+      let sound : SoundState (resumed m s t cs) = rw state at (twin .sound-first) in
       record {
         first = refl;
         second = rw k at (g .second);
@@ -83,11 +85,15 @@ module _ (m : ℕ) (s t : State) (same : bare s ≡ bare t) (sound-first : Sound
         later = g .left .first ∙ ap (λ (l : List Waiting). l ++ drop m (waiting s)) (sym (rw n at (shared-is (g .left))));
         state = state;
         whole = λ some. sym (once-answered cs t sound-second some) ∙ state;
+        sound = sound .sound;
+        holds = own-holds (resumed m s t cs) sound;
         rest =
+            λ store holds.
             ap (λ (l : List Call). map told (drop (length cs) (played t l))) (sym (first-blocks (behind m s) s all))
             ∙ ap (map told) (played-behind t cs ds)
-            ∙ sym (tell-the-same ds (waiting (afterAll t cs)) (tidied (afterAll t cs)) (afterAll t cs) (tidied-twin (afterAll t cs) (g .left .sound-second)))
-            ∙ ap (λ (u : State). map told (played u ds)) state;
+            ∙ sym (tell-the-same ds (waiting (afterAll t cs)) (tidied (afterAll t cs)) (afterAll t cs) twin)
+            ∙ ap (λ (u : State). map told (played u ds)) state
+            ∙ tell-the-same ds (waiting (resumed m s t cs)) (resumed m s t cs) (withStore store (resumed m s t cs)) (held-twin (resumed m s t cs) store sound holds);
       }
 
 -- ---- of two schedules

@@ -3,9 +3,10 @@ use mathlib.Core.Path.{_≡_, refl, sym, ap, ap₂, _∙_}
 use mathlib.Core.List.{List, _∷_, _++_, map}
 use Prim.Native.Nat.{ℕ}
 use lib.ListN.{length, take, drop}
+use lib.Ieee.{Float}
 use Rattle.rules.specs.Block.{Call, Answer, Command, Called}
-use Rattle.playing.specs.Play.{State, leftByCall, afterCall, asked, scheduled, leftBy, answerTo, after, played, apart, told}
-use Rattle.playing.specs.Demand.{behind, resumed, PlayedTheSame}
+use Rattle.playing.specs.Play.{State, waiting, leftByCall, afterCall, asked, scheduled, leftBy, answerTo, after, played, apart, told}
+use Rattle.playing.specs.Demand.{behind, resumed, Holds, withStore, PlayedTheSame}
 use Rattle.playing.specs.Results.{Results, none, more, lastLeft}
 use Rattle.playing.proofs.Resume.{played-first}
 use Rattle.playing.proofs.Demand.{first-blocks}
@@ -38,16 +39,16 @@ module _ {X A : Type 0} (state : X → State) (left : A → X) (Ok : X → Type 
         let e : state (left r) ≡ after (state x) c = leaves r ∙ ap leftBy (s .0) in
         ap₂ (λ (b : Answer) (bs : List Answer). b ∷ bs) (s .0) (rw e at (results-played (s .1) rest))
 
-    -- demand 3 of such lists: rs from x and us from y over all blocks, and vs over the rest of them from z, which is x resumed as y
-    pub results-the-same : {x y z : X} {m : ℕ} {all cs : List Call} {rs us vs : List A} → PlayedTheSame m (state x) (state y) all cs
-        → state z ≡ resumed m (state x) (state y) cs → Ok x → Ok y → Ok z → Results left Meets x all rs → Results left Meets y all us
+    -- demand 3 of such lists: rs from x and us from y over all blocks, and vs over the rest of them from z, which is x resumed as y with any store that holds its curves
+    pub results-the-same : {x y z : X} {m : ℕ} {all cs : List Call} {rs us vs : List A} → PlayedTheSame m (state x) (state y) all cs → (store : List Float)
+        → Holds (waiting (resumed m (state x) (state y) cs)) store → state z ≡ withStore store (resumed m (state x) (state y) cs) → Ok x → Ok y → Ok z → Results left Meets x all rs → Results left Meets y all us
         → Results left Meets z (drop (length cs) all) vs
         → (map apart (take (length cs) (map answer rs)) ≡ map apart (take (length cs) (map answer us)))
         × (map told (drop (length cs) (map answer us)) ≡ map told (map answer vs))
-    results-the-same {x} {y} {z} {m} {all} {cs} same is okx oky okz rx ry rz =
+    results-the-same {x} {y} {z} {m} {all} {cs} same store holds is okx oky okz rx ry rz =
         let whole : cs ++ drop (length cs) all ≡ all = rw (same .first) at (first-blocks (behind m (state x)) (state x) all) in
         let firsts : (s : State) → take (length cs) (played s all) ≡ played s cs =
         λ s. ap (λ (l : List Call). take (length cs) (played s l)) (sym whole) ∙ played-first s cs (drop (length cs) all) in
         rw
         (results-played okx rx, results-played oky ry, results-played okz rz, is, firsts (state x), firsts (state y))
-        (same .heard, same .rest)
+        (same .heard, same .rest store holds)

@@ -4,15 +4,17 @@ use mathlib.Core.Bool.{true}
 use mathlib.Core.List.{List, [], _∷_, _++_, map}
 use Prim.Native.Nat.{ℕ, _≤_}
 use native.Mathlib.Omega.{arith}
-use lib.ListN.{length, take, drop}
+use lib.ListN.{length, take, drop, take-append-drop}
+use lib.Ieee.{Float}
 use Rattle.rules.specs.declared.Refusal.{Refusal}
 use Rattle.rules.specs.declared.Verdict.{Verdict}
 use Rattle.rules.specs.declared.Verdict.the-variants as Verdict
 use Rattle.rules.specs.Numbers.{storeLength}
-use Rattle.rules.specs.Queue.{Waiting, eventsOf, lengthsOf}
+use Rattle.rules.specs.Queue.{Waiting, eventsOf, numbersOf, lengthsOf, attached}
 use Rattle.rules.specs.Block.{Param, Call, Answer, withQueue, answered, answeredAs, verdictOf}
-use Rattle.laws.proofs.Store.{numbers-length, packed-back, packed-length}
+use Rattle.laws.proofs.Store.{numbers-length, numbers-attached, attached-numbers, read-back, packed-back, packed-length}
 use Rattle.playing.specs.Play.{State, waiting, loaded, tidied, leftBy, answerTo, after, afterAll, played, storeTold, told, isAnswered, anyAnswered}
+use Rattle.playing.specs.Demand.{Holds, withStore}
 use Rattle.playing.proofs.States.{SoundState, waiting-fit, queue-is, answered-is, answered-tidy, refused-leaves, after-sound, by-verdict}
 use Rattle.playing.proofs.Blocks.{Beside, same-verdict}
 
@@ -81,7 +83,33 @@ tidied-twin s h =
       sound-second = h;
     }
 
--- it stays so
+-- ---- a state with any store that holds its curves' numbers first
+
+pub own-holds : (s : State) → SoundState s → Holds (waiting s) (s .store)
+unfolding waiting
+own-holds s h =
+    let long : lengthsOf (s .param .queue) ≤ length (s .store) = omega (arith, h .sound .waiting .room, h .long) in
+    record {
+      long = h .long;
+      first = ap (λ (n : ℕ). take n (s .store)) (attached-numbers (s .param .queue) (s .store) long) ∙ sym (numbers-attached (s .param .queue) (s .store));
+    }
+
+pub held-twin : (s : State) (store : List Float) → SoundState s → Holds (waiting s) store → Twins (waiting s) s (withStore store s)
+unfolding waiting
+held-twin s store h k =
+    let ws : List Waiting = waiting s in
+    let n : ℕ = length (numbersOf ws) in
+    let parts : numbersOf ws ++ drop n store ≡ store = ap (λ (l : List Float). l ++ drop n store) (sym (k .first)) ∙ take-append-drop n store in
+    record {
+      same = refl;
+      first = refl;
+      second = ap₂ attached (sym (queue-is s)) (sym parts) ∙ read-back ws (waiting-fit s h) (drop n store);
+      sound-first = h;
+      sound-second = record { sound = h .sound; long = k .long };
+    }
+
+-- ---- what is tidied stays so
+
 after-tidy : (s : State) → SoundState s → (c : Call) → tidied s ≡ s → tidied (after s c) ≡ after s c
 after-tidy s h c tidy =
     by-verdict (verdictOf (s .param) (s .store) c) (λ e. answered-tidy s c e h) (λ why e. rw (refused-leaves s c why e) tidy)

@@ -10,8 +10,9 @@ use lib.Ieee.{Float}
 use Rattle.rules.specs.declared.Bounds.{Bounds}
 use Rattle.rules.specs.declared.AutomationRate.{AutomationRate}
 use Rattle.rules.specs.Numbers.{storeLength}
-use Rattle.rules.specs.Queue.{Waiting}
+use Rattle.rules.specs.Queue.{Waiting, numbersOf}
 use Rattle.rules.specs.Block.{Call, Command}
+use Rattle.laws.specs.Sound.{Sound}
 use Rattle.playing.specs.Play.{State, waiting, loaded, tidied, begun, scheduled, after, afterAll, played, apart, told, anyAnswered}
 
 -- ---- its words; n is how many events stand behind the shared ones. Heads are taken in turn, so that these n are the last to go.
@@ -46,6 +47,14 @@ behind m s = length (waiting s) - m
 abbrev pub resumed : ℕ → State → State → List Call → State
 resumed m s t cs = resumedWith (behind m s) (drop m (waiting t)) (afterAll s cs)
 
+-- a store that is lent to the resumed one: 4,096 numbers, those of the waiting curves first, whatever stands behind
+pub record Holds (ws : List Waiting) (store : List Float) : Type 0 where
+  pub long : length store ≡ storeLength
+  pub first : take (length (numbersOf ws)) store ≡ numbersOf ws
+
+abbrev pub withStore : List Float → State → State
+withStore store s = record { param = s .param; store = store }
+
 -- Both played over the same blocks and inputs, `all`; cs are those before the first block after which fewer than two shared events wait.
 pub record PlayedTheSame (m : ℕ) (s t : State) (all cs : List Call) : Type 0 where
   -- that block is the same one, whichever of the two is looked at
@@ -60,8 +69,12 @@ pub record PlayedTheSame (m : ℕ) (s t : State) (all cs : List Call) : Type 0 w
   -- the second's whole state is the first's with its later events replaced: as the next answered call reads it, and number for number once a block was answered
   pub state : tidied (afterAll t cs) ≡ resumed m s t cs
   pub whole : anyAnswered (played t cs) ≡ true → afterAll t cs ≡ resumed m s t cs
-  -- "resumed from the state and store before the first block where that stops, .. the rest equals the second played from the start"
-  pub rest : map told (drop (length cs) (played t all)) ≡ map told (played (resumed m s t cs) (drop (length cs) all))
+  -- that state is a parameter's, so that there is one to resume with, and its store is one to lend
+  pub sound : Sound (resumed m s t cs .param)
+  pub holds : Holds (waiting (resumed m s t cs)) (resumed m s t cs .store)
+  -- "resumed from the state and store before the first block where that stops, .. the rest equals the second played from the start": with any store that holds its curves
+  pub rest : (store : List Float) → Holds (waiting (resumed m s t cs)) store
+      → map told (drop (length cs) (played t all)) ≡ map told (played (withStore store (resumed m s t cs)) (drop (length cs) all))
 
 -- ---- two schedules
 
