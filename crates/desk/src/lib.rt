@@ -6,7 +6,7 @@ ghost use Prim.Native.Nat.{ℕ, _+_, _*_, _≤_, _<_};
 ghost use lib.ListN.{length, take, drop, replicate};
 ghost use lib.Ieee.{Float};
 ghost use Rattle.rules.specs.declared.Verdict.the-variants as Verdict;
-ghost use Rattle.rules.specs.Numbers.{plusZero};
+ghost use Rattle.rules.specs.Numbers.{mostCount, plusZero};
 ghost use Rattle.rules.specs.Block.{set, step, linear, exponential, target, curve, cancel, hold};
 ghost use Rattle.text.specs.Put.{Put};
 ghost use Rattle.answers.specs.Answers.{verdictText};
@@ -224,7 +224,7 @@ fn poke(
 
 // What a block says: its samples, and whether the places behind them still have the mark.
 fn put_processed(r: Processed, count: usize, output: &[f32], out: &mut [u8], at: usize) -> usize
-    requires { ⌜ (r .verdict ≡ Verdict.Answered → (count ≤ 128) × (count ≤ length (now output))) × (at + 42000 ≤ length (now out)) ⌝ }
+    requires { ⌜ (r .verdict ≡ Verdict.Answered → (count ≤ mostCount) × (count ≤ length (now output))) × (at + 42000 ≤ length (now out)) ⌝ }
     ensures { λ n. ⌜ Put (now (out .entry)) at (blockLine (r .verdict) count (r .steps) (r .current) (r .one) (now (output .entry))) (now (out .exit)) n ⌝ }
     ensures { λ n. ⌜ n ≤ at + 1195 ⌝ }
 {

@@ -3,7 +3,7 @@ ghost use mathlib.Core.Path.{_≡_};
 ghost use mathlib.Core.Bool.{cond};
 ghost use Prim.Native.Nat.{ℕ, _≤_};
 ghost use lib.ListN.{length};
-ghost use Rattle.rules.specs.Numbers.{plusZero, isSubnormal, timeAt};
+ghost use Rattle.rules.specs.Numbers.{storeLength, plusZero, isSubnormal, timeAt};
 ghost use Rattle.rules.specs.Samples.{linearSample, targetSample, curveSample};
 ghost use Rattle.rules.specs.Walk.{fromStart};
 ghost use Rattle.samples.specs.At.{exponentialAt, targetAt};
@@ -66,7 +66,7 @@ fn target_value(start: f64, intrinsic: f32, constant: f64, target: f32, diff: f3
 
 // A curve's value at a time; before its start it is the intrinsic one.
 pub fn curve_value(start: f64, intrinsic: f32, duration: f64, values: &[f32], time: f64) -> f32
-    requires { ⌜ (2 ≤ length (now values)) × (length (now values) ≤ 4096) ⌝ }
+    requires { ⌜ (2 ≤ length (now values)) × (length (now values) ≤ storeLength) ⌝ }
     ensures { λ r. ⌜ r ≡ fromStart start intrinsic (curveSample (now (values .entry)) start duration) time ⌝ }
 {
     if time < start {
@@ -200,7 +200,7 @@ pub fn fill_curve(
     intrinsic: f32,
     values: &[f32],
 ) -> usize
-    requires { ⌜ Room filled to (now buffer) × (2 ≤ length (now values)) × (length (now values) ≤ 4096) ⌝ }
+    requires { ⌜ Room filled to (now buffer) × (2 ≤ length (now values)) × (length (now values) ≤ storeLength) ⌝ }
     ensures { λ r. ⌜ Filled infos to (fromStart start intrinsic (curveSample (now (values .entry)) start duration)) filled (now (buffer .entry)) r (now (buffer .exit)) ⌝ }
 {
     if writes_none(infos, filled, to) {

@@ -8,7 +8,7 @@ ghost use lib.Dec.{T};
 ghost use lib.ListN.{length, getD};
 ghost use lib.Ieee.{Float, nan, binary32, binary64, fits, sub, mul, lt, isNan, ofBits};
 ghost use lib.Ieee.Scale.{finite};
-ghost use Rattle.rules.specs.Numbers.{plusZero, wide, run, fused};
+ghost use Rattle.rules.specs.Numbers.{storeLength, plusZero, wide, run, fused};
 ghost use Rattle.rules.specs.Samples.{phaseOf, curveSample, log2e, decay};
 ghost use Rattle.rules.specs.Walk.{fromStart};
 ghost use Rattle.powers.specs.Estimates.{estimates};
@@ -1160,7 +1160,7 @@ pub fn compute_set_target_samples(
 
 // A curve's sample, or the intrinsic value before the start.
 fn curve_from(start_time: f64, duration: f64, values: &[f32], intrinsic: f32, time: f64) -> f32
-    requires { ⌜ (2 ≤ length (now values)) × (length (now values) ≤ 4096) ⌝ }
+    requires { ⌜ (2 ≤ length (now values)) × (length (now values) ≤ storeLength) ⌝ }
     ensures { λ r. ⌜ r ≡ fromStart «start_time» intrinsic (curveSample (now (values .entry)) «start_time» duration) time ⌝ }
 {
     if time < start_time {
@@ -1180,7 +1180,7 @@ fn curve_run(
     time: f64,
     dt: f64,
 )
-    requires { ⌜ (2 ≤ length (now values)) × (length (now values) ≤ 4096) ⌝ }
+    requires { ⌜ (2 ≤ length (now values)) × (length (now values) ≤ storeLength) ⌝ }
     ensures { λ r. ⌜ now (out .exit) ≡ run (fromStart «start_time» intrinsic (curveSample (now (values .entry)) «start_time» duration)) dt (length (now (out .entry))) time ⌝ }
 {
     let mut i = 0usize;
@@ -1291,7 +1291,7 @@ fn curve_part(out: &mut [f32], xs: &[f64; 16], from: f32, diff: f32) -> bool
 
 // The same by their positions, where all lie between the same two.
 fn curve_within(out: &mut [f32], ps: &[f64; 16], values: &[f32]) -> bool
-    requires { ⌜ (length (now out) ≡ 16) × (length (now ps) ≡ 16) × (2 ≤ length (now values)) × (length (now values) ≤ 4096) × Climbs (length (now values) - 1) (now ps) ⌝ }
+    requires { ⌜ (length (now out) ≡ 16) × (length (now ps) ≡ 16) × (2 ≤ length (now values)) × (length (now values) ≤ storeLength) × Climbs (length (now values) - 1) (now ps) ⌝ }
     ensures { λ r. ⌜ (r ≡ true → now (out .exit) ≡ each (atPosition (now (values .entry))) (now (ps .entry))) ⌝ }
 {
     let k = samples::whole(ps[0]) as usize;
@@ -1318,7 +1318,7 @@ fn curve_tried(
     time: f64,
     dt: f64,
 ) -> bool
-    requires { ⌜ (length (now out) ≡ 16) × (2 ≤ length (now values)) × (length (now values) ≤ 4096) × (n ≡ wide (length (now values) - 1)) × (next ≡ after dt 16 time) ⌝ }
+    requires { ⌜ (length (now out) ≡ 16) × (2 ≤ length (now values)) × (length (now values) ≤ storeLength) × (n ≡ wide (length (now values) - 1)) × (next ≡ after dt 16 time) ⌝ }
     requires { ⌜ now ps ≡ run (positionOf n «start_time» duration) dt 16 time ⌝ }
     ensures { λ r. ⌜ (r ≡ true → (v : Float) → now (out .exit) ≡ run (fromStart «start_time» v (curveSample (now (values .entry)) «start_time» duration)) dt 16 time) ⌝ }
 {
@@ -1342,7 +1342,7 @@ fn curve_sixteen(
     time: f64,
     dt: f64,
 ) -> f64
-    requires { ⌜ (length (now out) ≡ 16) × (2 ≤ length (now values)) × (length (now values) ≤ 4096) ⌝ }
+    requires { ⌜ (length (now out) ≡ 16) × (2 ≤ length (now values)) × (length (now values) ≤ storeLength) ⌝ }
     ensures { λ r. ⌜ (now (out .exit) ≡ run (fromStart «start_time» intrinsic (curveSample (now (values .entry)) «start_time» duration)) dt 16 time) × (r ≡ after dt 16 time) ⌝ }
 {
     let n = ((values.len() - 1) as i64) as f64;
@@ -1365,7 +1365,7 @@ fn curve_turns(
     time: f64,
     dt: f64,
 )
-    requires { ⌜ (2 ≤ length (now values)) × (length (now values) ≤ 4096) ⌝ }
+    requires { ⌜ (2 ≤ length (now values)) × (length (now values) ≤ storeLength) ⌝ }
     ensures { λ r. ⌜ now (out .exit) ≡ run (fromStart «start_time» intrinsic (curveSample (now (values .entry)) «start_time» duration)) dt (length (now (out .entry))) time ⌝ }
 {
     let mut i = 0usize;
@@ -1403,7 +1403,7 @@ pub fn compute_set_value_curve_samples(
     time: f64,
     dt: f64,
 )
-    requires { ⌜ (2 ≤ length (now values)) × (length (now values) ≤ 4096) ⌝ }
+    requires { ⌜ (2 ≤ length (now values)) × (length (now values) ≤ storeLength) ⌝ }
     ensures { λ r. ⌜ now (out .exit) ≡ run (fromStart «start_time» intrinsic (curveSample (now (values .entry)) «start_time» duration)) dt (length (now (out .entry))) time ⌝ }
 {
     // sixteen samples seldom lie between the same two numbers where there are fewer than twenty

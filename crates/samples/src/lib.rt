@@ -3,7 +3,7 @@ ghost use mathlib.Core.Path.{_≡_};
 ghost use Prim.Native.Nat.{_-_, _*_, _^_, _≤_, _<_};
 ghost use lib.ListN.{length};
 ghost use lib.IntN.{pos, negℤ};
-ghost use Rattle.rules.specs.Numbers.{wholePart, narrowed, periodsTo, limit, placeFrom, endPlace};
+ghost use Rattle.rules.specs.Numbers.{storeLength, wholePart, narrowed, periodsTo, limit, placeFrom, endPlace};
 ghost use Rattle.rules.specs.Samples.{decayOf, decay as decayAt, ratioLog, power as powerOf, factorOf, curveSample};
 ghost use Rattle.samples.specs.At.{linearAt, exponentialAt, exponentialOver, targetAt, held};
 use rules::BlockInfos;
@@ -191,7 +191,7 @@ pub fn compute_set_value_curve_sample(
     values: &[f32],
     time: f64,
 ) -> f32
-    requires { ⌜ (2 ≤ length (now values)) × (length (now values) ≤ 4096) ⌝ }
+    requires { ⌜ (2 ≤ length (now values)) × (length (now values) ≤ storeLength) ⌝ }
     ensures { λ r. ⌜ r ≡ curveSample (now (values .entry)) «start_time» duration time ⌝ }
 {
     let n = values.len() - 1;

@@ -2,7 +2,7 @@
 ghost use mathlib.Core.Path.{_≡_};
 ghost use Prim.Native.Nat.{_≤_};
 ghost use lib.ListN.{length};
-ghost use Rattle.rules.specs.Numbers.{run};
+ghost use Rattle.rules.specs.Numbers.{storeLength, run};
 ghost use Rattle.rules.specs.Samples.{ratioLog, curveSample};
 ghost use Rattle.rules.specs.Walk.{fromStart};
 ghost use Rattle.samples.specs.At.{linearAt, exponentialAt, targetAt};
@@ -80,7 +80,7 @@ pub extern "C" fn samples_curve(
     time: f64,
     dt: f64,
 )
-    requires { ⌜ (2 ≤ length (now values)) × (length (now values) ≤ 4096) ⌝ }
+    requires { ⌜ (2 ≤ length (now values)) × (length (now values) ≤ storeLength) ⌝ }
     ensures { λ r. ⌜ now (out .exit) ≡ run (fromStart «start_time» intrinsic (curveSample (now (values .entry)) «start_time» duration)) dt (length (now (out .entry))) time ⌝ }
 {
     runs::compute_set_value_curve_samples(out, start_time, duration, values, intrinsic, time, dt);
