@@ -1,5 +1,5 @@
 -- Document 01, "Numbers the unit lives with", and of "Arithmetic to be built" the fused and narrowed results; then places of a block and their times.
--- Every definition is total, as code is. Times may be +infinity and values NaN (readings, 13).
+-- Every definition is total, as code is. Times may be +infinity and values NaN (DECISIONS, reading 13).
 use mathlib.Core.Bool.{Bool, true, false, cond, not, _&&_}
 use mathlib.Core.List.{List, [], _∷_, _++_}
 use Prim.Native.Nat.{ℕ, zero, suc, _+_, _-_, _*_}

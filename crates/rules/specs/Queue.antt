@@ -173,7 +173,7 @@ lastHeld c [] = []
 lastHeld c (w ∷ []) = heldIfRunning c w ∷ []
 lastHeld c (w ∷ x ∷ ws) = w ∷ lastHeld c (x ∷ ws)
 
--- by the first event later than c: "if it is a ramp, it gets hold time c", and alone of the later ones it stays (readings, 6)
+-- by the first event later than c: "if it is a ramp, it gets hold time c", and alone of the later ones it stays (DECISIONS, reading 6)
 unfoldable pub heldBy : Float → List Waiting → List Waiting → List Waiting
 heldBy c ws [] = lastHeld c ws
 heldBy c ws (x ∷ xs) = cond (isRamp (x .event)) (ws ++ (heldAt c x ∷ [])) (lastHeld c ws)

@@ -54,7 +54,7 @@ unfoldable pub power : ℤ → Float
 power (pos p) = cond (leb (256 * parts) p) (inf false) (powerOf (pos (p / parts)) (p % parts))
 power (negsuc p) = cond (leb (300 * parts) (suc p)) plusZero (powerOf (negsuc (p / parts)) (parts - 1 - p % parts))
 
--- the factor for the product L × phase: "a phase or product that is NaN gives NaN", "P = floor(L × phase)", the product rounded in f64 (readings, 7)
+-- the factor for the product L × phase: "a phase or product that is NaN gives NaN", "P = floor(L × phase)", the product rounded in f64 (DECISIONS, reading 7)
 unfoldable pub factorOf : Float → Float
 factorOf nan = nan
 factorOf (inf s) = cond s plusZero (inf false)

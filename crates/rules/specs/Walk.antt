@@ -161,7 +161,7 @@ snapWidth = fin false 14411519 (negsuc 56)
 unfoldable pub snaps : Float → Float → Bool
 snaps target v = Ieee.lt (magnitude (Ieee.sub binary32 target v)) snapWidth
 
--- "subnormal samples (K-rate: its value) become 0": all of the block so far, and +0 (readings, 3)
+-- "subnormal samples (K-rate: its value) become 0": all of the block so far, and +0 (DECISIONS, reading 3)
 unfoldable pub flushed : List Float → List Float
 flushed [] = []
 flushed (x ∷ xs) = cond (isSubnormal x) plusZero x ∷ flushed xs
@@ -179,7 +179,7 @@ targetLeft f w x target v =
     (stop (withIntrinsic target (withValues (flushedFor target (w .values)) w)) (alone (Event.Step target (f .next))))
     (stop (withIntrinsic v w) x)
 
--- "Not ended: take the value at next block time" (it fills up to the end place of that time: readings, 1). "Ended: consume with end time and value there."
+-- "Not ended: take the value at next block time" (it fills up to the end place of that time: DECISIONS, reading 1). "Ended: consume with end time and value there."
 unfoldable pub targetRun : BlockInfos → Walk → Waiting → Float → (Float → Float) → MaybeTime → Turn
 targetRun f w x target sample MaybeTime.Missing =
     targetLeft f (fill f (endPlace f (f .next)) sample w) x target (sample (f .next))
@@ -200,8 +200,8 @@ targetTurn f w x v t c h n =
 
 -- ---- curve
 
--- "Not yet started: as for the target": it stops, and `ended` fills (it makes no last event: readings, 12). "End is the hold time, else start + duration; fill and stop as for a ramp;
--- a finished curve's value is its last number."
+-- "Not yet started: as for the target": it stops, and `ended` fills (it makes no last event: DECISIONS, reading 12).
+-- "End is the hold time, else start + duration; fill and stop as for a ramp; a finished curve's value is its last number."
 unfoldable pub curveTurn : BlockInfos → Walk → Waiting → Float → Float → MaybeTime → Turn
 curveTurn f w x s d h =
     cond
@@ -228,7 +228,7 @@ pub record Walked : Type 0 where
   pub walk : Walk
   pub queue : List Waiting
 
--- "Places left when a walk stops take the intrinsic value (ours)": the one that the stopping body left (readings, 4)
+-- "Places left when a walk stops take the intrinsic value (ours)": the one that the stopping body left (DECISIONS, reading 4)
 unfoldable pub ended : BlockInfos → Walk → List Waiting → Walked
 ended f w ws = record { walk = fill f (f .count) (λ s. w .intrinsic) w; queue = ws }
 

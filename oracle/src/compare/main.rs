@@ -113,7 +113,8 @@ fn main() {
     };
     let side = |path: &String| Side { path: path.into() };
     let sides = Sides { rust: side(rust), port: side(port), fault: None };
-    let page = Page::read(Path::new(page), Path::new(folder).join("differences"));
+    let folder = Path::new(folder);
+    let page = Page::read(Path::new(page), folder.join("differences"), folder.join("page"));
     let number = |i: usize, otherwise: u64| rest.get(i).map_or(Some(otherwise), |w| w.parse().ok());
     let good = match (rest.first().map(String::as_str), number(0, 2000), number(1, 1)) {
         (Some("--self-test"), ..) => {

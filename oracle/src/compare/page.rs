@@ -9,7 +9,10 @@ use std::path::{Path, PathBuf};
 
 pub struct Page {
     text: String,
+    /// The sessions that have their names and answers on file, one or more for each difference.
     folder: PathBuf,
+    /// Those that stand on the page alone: what to do instead, or a worse face of a difference.
+    beside: PathBuf,
 }
 
 fn read(path: &Path) -> String {
@@ -36,9 +39,25 @@ fn rust_answers(file: &Path) -> PathBuf {
     if own.exists() { own } else { file.with_extension("rust") }
 }
 
+/// The sessions of a folder, in the order of their names.
+fn files(folder: &Path) -> Vec<PathBuf> {
+    let entries = fs::read_dir(folder).into_iter().flatten().flatten();
+    let is_session = |p: &PathBuf| p.extension().is_some_and(|e| e == "session");
+    let mut files: Vec<PathBuf> = entries.map(|e| e.path()).filter(is_session).collect();
+    files.sort();
+    files
+}
+
+/// The session differs as its file's name says (`zero-bound`: on some processors not at all).
+fn named(name: &str, played: &Played) -> Option<String> {
+    let so = played.verdict.names.iter().any(|n| name.starts_with(n));
+    let need = !name.starts_with("story") && name != "zero-bound";
+    (need && !so).then(|| format!("{name}: does not differ by that name"))
+}
+
 impl Page {
-    pub fn read(page: &Path, folder: PathBuf) -> Self {
-        Self { text: read(page), folder }
+    pub fn read(page: &Path, folder: PathBuf, beside: PathBuf) -> Self {
+        Self { text: read(page), folder, beside }
     }
 
     /// A name is on the page where it stands as a heading, or in bold.
@@ -48,23 +67,18 @@ impl Page {
         self.text.contains(&format!("**{name}**")) || self.text.lines().any(heading)
     }
 
-    fn files(&self) -> Vec<PathBuf> {
-        let entries = fs::read_dir(&self.folder).into_iter().flatten().flatten();
-        let is_session = |p: &PathBuf| p.extension().is_some_and(|e| e == "session");
-        let mut files: Vec<PathBuf> = entries.map(|e| e.path()).filter(is_session).collect();
-        files.sort();
-        files
-    }
-
     /// Replays every file on both sides; what is not as on file or on the page.
     pub fn faults(&self, sides: &Sides) -> (usize, Vec<String>) {
-        let files = self.files();
+        let (files, beside) = (files(&self.folder), files(&self.beside));
         let mut faults: Vec<String> =
             files.iter().flat_map(|file| self.file_faults(sides, file)).collect();
-        if files.is_empty() {
-            faults.push(format!("no sessions in {}", self.folder.display()));
+        faults.extend(beside.iter().flat_map(|file| self.beside_faults(sides, file)));
+        for (folder, found) in [(&self.folder, &files), (&self.beside, &beside)] {
+            if found.is_empty() {
+                faults.push(format!("no sessions in {}", folder.display()));
+            }
         }
-        (files.len(), faults)
+        (files.len() + beside.len(), faults)
     }
 
     fn file_faults(&self, sides: &Sides, file: &Path) -> Vec<String> {
@@ -78,21 +92,22 @@ impl Page {
         }
         for played in sides.play(sessions(&text)) {
             faults.extend(self.shown(&name, &played));
+            faults.extend(named(&name, &played));
         }
         faults
     }
 
-    /// The session stands on the page with both answers, and differs as its
-    /// file's name says (`zero-bound`: on some processors not at all).
+    fn beside_faults(&self, sides: &Sides, file: &Path) -> Vec<String> {
+        let (text, name) = (read(file), file.file_stem().unwrap_or_default().to_string_lossy());
+        sides.play(sessions(&text)).iter().flat_map(|played| self.shown(&name, played)).collect()
+    }
+
+    /// The session stands on the page with both answers, and differs by names alone.
     fn shown(&self, name: &str, played: &Played) -> Vec<String> {
         let Played { session, ours, rust, verdict } = played;
         let mut faults = Vec::new();
         if let Some((i, fields)) = &verdict.otherwise {
             faults.push(format!("{name}: call {i} differed otherwise: {fields}"));
-        }
-        let named = verdict.names.iter().any(|n| name.starts_with(n));
-        if !named && !name.starts_with("story") && name != "zero-bound" {
-            faults.push(format!("{name}: does not differ by that name"));
         }
         if !self.text.contains(&plain::session(&session.calls, "01", ours, rust)) {
             faults.push(format!("{name}: the page does not show it as it is played"));
@@ -102,7 +117,7 @@ impl Page {
 
     /// How each file is to be shown: for writing the page.
     pub fn print(&self, sides: &Sides) {
-        for file in self.files() {
+        for file in [files(&self.folder), files(&self.beside)].concat() {
             out::print(&format!("{}\n", file.display()));
             let sessions: Vec<Session> = sessions(&read(&file));
             for Played { session, ours, rust, .. } in sides.play(sessions) {

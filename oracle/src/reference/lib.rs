@@ -1,6 +1,7 @@
-//! The reference: an interpreter of document 01 and readings.md. It shares
-//! nothing with the port, and with the oracle only the session language. It also
-//! claims, from the calls alone, where param.rs does otherwise.
+//! The reference: an interpreter of document 01 and its readings
+//! (docs/DECISIONS.md, "Readings of 01"). It shares nothing with the port, and
+//! with the oracle only the session language. It also claims, from the calls
+//! alone, where param.rs does otherwise.
 
 pub mod claims;
 pub mod near;
