@@ -153,7 +153,7 @@ finite-number (inf s) p = never p
 finite-number (fin s m e) p = refl
 
 -- -infinity is at or before every number, +infinity at or after
-bottom : (x : Float) → isNumber x ≡ true → Ieee.le (inf true) x ≡ true
+pub bottom : (x : Float) → isNumber x ≡ true → Ieee.le (inf true) x ≡ true
 unfolding Ieee.le Ieee.lt Ieee.eq isNumber Ieee.isNan
 bottom nan p = never p
 bottom (inf true) p = refl

@@ -98,6 +98,14 @@ unfolding isPositive Ieee.lt
 positive-sign true m e h = never h
 positive-sign false m e h = refl
 
+-- what is above 0 is from +0 on
+pub positive-from-zero : (t : Float) → isPositive t ≡ true → isFromZero t ≡ true
+unfolding isPositive isFromZero Ieee.lt
+positive-from-zero nan h = never h
+positive-from-zero (inf true) h = never h
+positive-from-zero (inf false) h = refl
+positive-from-zero (fin t m e) h = rw (positive-sign t m e h)
+
 -- a sum of two finite ones at or above +0, in any format
 sum-from-zero : (f : Format) (a b c : ℕ) → isFromZero (Ieee.sum f false a false b c) ≡ true
 unfolding Ieee.sum
@@ -163,13 +171,6 @@ not-negative m e h =
     let x : m * up e * 1 ≡ 0 = omega arith in
     rw (x, zero-mul)
 
-stays : (t : Float) → isFinite t ≡ true → isNegative t ≡ false → isZero t ≡ false → isFromZero t ≡ true
-unfolding isFinite isFromZero
-stays nan p q z = never p
-stays (inf s) p q z = never p
-stays (fin true m e) p q z = clash (not-negative m e q) z
-stays (fin false m e) p q z = refl
-
 -- what is finite, not below 0 and not 0 is above 0
 pub above-zero : (c : Float) → isFinite c ≡ true → isNegative c ≡ false → isZero c ≡ false → isPositive c ≡ true
 unfolding isFinite isPositive isZero Ieee.lt Ieee.eq
@@ -191,4 +192,4 @@ time-taken t p q = go (isZero t) refl
   where
     go : (b : Bool) → isZero t ≡ b → (isFinite (cond b plusZero t) && isFromZero (cond b plusZero t)) ≡ true
     go true z = unfold isFinite isFromZero in refl
-    go false z = and p (stays t p q z)
+    go false z = and p (positive-from-zero t (above-zero t p q z))

@@ -30,7 +30,7 @@ isFromZero nan = false
 isFromZero (inf s) = not s
 isFromZero (fin s m e) = not s
 
--- a time as the calls take it: finite, from +0 on
+-- a time as the calls take it: finite (refusals 2 and 9), not below 0 (3 and 9), and "a time of −0 .. is taken as 0"
 unfoldable pub isTaken : Float → Bool
 isTaken t = isFinite t && isFromZero t
 
@@ -45,7 +45,7 @@ isHeldBy t (MaybeTime.At c) = Ieee.le c t
 
 -- ---- a waiting event
 
--- of a curve
+-- what a curve has at least, by refusal 6: "curve of fewer than 2 numbers"
 abbrev pub fewestNumbers : ℕ
 fewestNumbers = 2
 
@@ -68,6 +68,7 @@ isDue played e = played || isFinite (filedUnder e)
 
 -- ---- the queue
 
+-- whether every event passes a test
 unfoldable pub all : (Event → Bool) → List Event → Bool
 all test [] = true
 all test (e ∷ es) = test e && all test es

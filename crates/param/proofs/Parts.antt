@@ -9,7 +9,7 @@ use lib.Dec.{leb}
 use lib.ListN.{length, take, getD, set, List·getD-map, length-append, length-map, length-take}
 use lib.Seq.{take-all, take-suc, getD-take, append-snoc}
 use lib.Ieee as Ieee
-use lib.Ieee.{Float, nan, inf, fin}
+use lib.Ieee.{Float, inf}
 use borrow.Author.Tests.{le-leb, lt-leb}
 use Rattle.rules.specs.declared.Event.{Event}
 use Rattle.rules.specs.declared.AutomationRate.the-variants as Rate
@@ -19,7 +19,8 @@ use Rattle.rules.specs.Queue.{filedUnder, lengthOf, lengthsOf}
 use Rattle.rules.specs.Refusals.{lowest, allFinite, areBounds, makingRows}
 use Rattle.rules.specs.Block.{made, madeAs}
 use Rattle.laws.specs.Sound.{isNumber, isTakenIfAny, isLastClear, goesBefore, inOrder, isClear, isDue, all, areDue, SoundQueue, isSoundQueue, hasPlayed, Sound, isSound}
-use Rattle.laws.proofs.Tests.{never, clash, both, and}
+use Rattle.laws.proofs.Tests.{clash, both, and}
+use Rattle.laws.proofs.Order.{bottom}
 use Rattle.laws.proofs.Events.{lengths-append}
 use Rattle.laws.proofs.Clear.{all-take, all-last, clear-number}
 use Rattle.laws.proofs.Tested.{tested, queue-tested, queue-passes, order-last}
@@ -59,14 +60,6 @@ too-many parts h = rw (lt-leb (parts .timeline .len) mostEvents h)
 
 -- ---- events taken one by one
 
--- an infinity below all is before every time that is a number
-below-all : (t : Float) → isNumber t ≡ true → Ieee.le (inf true) t ≡ true
-unfolding isNumber Ieee.isNan Ieee.le Ieee.lt Ieee.eq
-below-all nan h = never h
-below-all (inf true) h = refl
-below-all (inf false) h = refl
-below-all (fin s m d) h = refl
-
 -- the events are sound, and none is at +infinity before a block was answered
 abbrev areFine : Bool → List Event → Bool
 areFine played q = isSoundQueue q && areDue played q
@@ -86,7 +79,7 @@ took-none es played e =
       sound = record { few = omega arith; ordered = refl; clear = refl; room = omega arith };
       due = refl;
       many = refl;
-      next = λ d n. sym (below-all (filedUnder d) n);
+      next = λ d n. sym (bottom (filedUnder d) n);
       filled = record { many = refl; held = ap (λ (u : AudioParamEventTimeline). u .slots) e };
     }
 

@@ -9,15 +9,11 @@ use Rattle.rules.specs.Numbers.{plusZero, isFinite, isZero, isPositive, isNegat
 use Rattle.floats.proofs.Compared.{is-none, not-below}
 use Rattle.laws.specs.Sound.{isFromZero}
 use Rattle.laws.proofs.Tests.{never, clash}
-use Rattle.laws.proofs.Results.{above-zero}
+use Rattle.laws.proofs.Results.{positive-from-zero, above-zero}
 
 pub above-is : (t : Float) → lt plusZero t ≡ true → true ≡ isFromZero t
-unfolding isFromZero lt
-above-is nan h = never h
-above-is (inf true) h = never h
-above-is (inf false) h = refl
-above-is (fin true m e) h = never h
-above-is (fin false m e) h = refl
+unfolding isPositive
+above-is t h = sym (positive-from-zero t h)
 
 pub zero-is : (t : Float) → eq t plusZero ≡ true → lt plusZero (div binary64 (fin false 1 (pos 0)) t) ≡ isFromZero t
 unfolding isFromZero eq lt div
