@@ -61,17 +61,29 @@ static void number(size_t n, size_t base) {
 static word state[STATE];
 static float output[COUNT], store[STORE];
 
-/* the kinds of speed/run but for the curve: c l e t s r k h */
+/* whether a block uses the kind's events up, and when that block is */
+static _Bool is_once(char kind) { return kind == 's' || kind == 'r' || kind == 'n' || kind == 'b'; }
+static double from(char kind) { return kind == 'n' || kind == 'b' ? 1000 * (double)COUNT / 48000.0 : 0.0; }
+
+/* a time nearest to the place, but seldom at its very time */
+static double near(char kind, int place, int i) {
+    double aside = i * 0.618 - (double)(int)(i * 0.618) - 0.5, at = place + aside;
+    return from(kind) + (at > 0.0 ? at : 0.0) / 48000.0;
+}
+
+/* the kinds of speed/run but for the curve: c l e t s r k h, session n, beyond b */
 static void schedule(char kind) {
     double period = 1.0 / 48000.0, hour = 3600.0;
     crackledray_make(state, STATE, -1000.0f, 0.5f, 1000.0f, kind == 'k');
-    if (kind != 'c' && kind != 's' && kind != 'r') crackledray_step(state, STATE, 1.0f, 0.0);
+    if (kind != 'c' && !is_once(kind)) crackledray_step(state, STATE, 1.0f, 0.0);
     if (kind == 'l' || kind == 'k' || kind == 'h') crackledray_linear(state, STATE, 2.0f, hour);
     if (kind == 'e') crackledray_exponential(state, STATE, 2.0f, hour);
     if (kind == 't') crackledray_target(state, STATE, 2.0f, 0.0, hour);
     for (int i = 0; i < 64; i++) {
         if (kind == 's') crackledray_step(state, STATE, (float)i, 2 * i * period);
         if (kind == 'r') crackledray_linear(state, STATE, (float)(i % 5), (2 * i + 1) * period);
+        if (kind == 'n') crackledray_step(state, STATE, (float)i, near(kind, 2 * i, i));
+        if (kind == 'b') crackledray_step(state, STATE, (float)i, near(kind, 16 + 7 * i / 4, i));
     }
 }
 
@@ -84,8 +96,8 @@ __attribute__((used)) static void start(long *stack) {
     for (char *p = words[2]; *p; p++) blocks = 10 * blocks + (size_t)(*p - '0');
     schedule(kind);
     for (int i = 0; i < SIZES; i++) copied[i] = zeroed[i] = 0;
-    if (kind == 's' || kind == 'r')
-        speed_again(state, STATE, 0.0, period, count, 0.0, 1, blocks, output, 0, output, COUNT, store, STORE);
+    if (is_once(kind))
+        speed_again(state, STATE, from(kind), period, count, 0.0, 1, blocks, output, 0, output, COUNT, store, STORE);
     else
         speed_value(state, STATE, 0.0, period, count, (double)count * period, blocks, output, 0, output, COUNT, store, STORE);
     double sum = 0.0;

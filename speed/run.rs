@@ -6,11 +6,15 @@ use std::hint::black_box;
 use std::time::Instant;
 
 const PERIOD: f64 = 1.0 / 48000.0;
-const KINDS: [&str; 9] =
-    ["constant", "linear", "exponential", "target", "curve", "steps", "ramps", "k-linear", "short"];
+const KINDS: [&str; 11] = [
+    "constant", "linear", "exponential", "target", "curve", "steps", "ramps", "k-linear", "short",
+    "session", "beyond",
+];
 const WAYS: [&str; 5] = ["rust", "native", "value", "tick", "exported"];
 /// How many parameters are made ready for a kind whose events are used up by one block.
 const READY: usize = 16;
+/// How many blocks of a long session lie between two of these parameters.
+const BETWEEN: usize = 1000;
 /// Words of 64 bits in a parameter (`AudioParam`, 3,144 bytes).
 const PARAMETER: usize = 393;
 
@@ -235,9 +239,14 @@ impl Takes for Port {
     }
 }
 
-/// The events of a kind. Those that go on last for an hour, so that no run comes to their end.
-fn schedule(kind: &str, p: &mut impl Takes) {
+/// The events of a kind for a block at `from`. Those that go on last for an hour, so that no run comes to their end.
+fn schedule(kind: &str, p: &mut impl Takes, from: f64) {
     let hour = 3600.0;
+    // nearest to the place, but seldom at its very time, as an operator's times lie
+    let near = |place: usize, i: usize| {
+        let aside = (i as f64 * 0.618).fract() - 0.5;
+        from + (place as f64 + aside).max(0.0) * PERIOD
+    };
     match kind {
         "constant" => {}
         "linear" | "k-linear" | "short" => {
@@ -258,6 +267,8 @@ fn schedule(kind: &str, p: &mut impl Takes) {
         }
         "steps" => (0..64).for_each(|i| p.step(i as f32, (2 * i) as f64 * PERIOD)),
         "ramps" => (0..64).for_each(|i| p.linear((i % 5) as f32, (2 * i + 1) as f64 * PERIOD)),
+        "session" => (0..64).for_each(|i| p.step(i as f32, near(2 * i, i))),
+        "beyond" => (0..64).for_each(|i| p.step(i as f32, near(16 + 7 * i / 4, i))),
         _ => unreachable!(),
     }
 }
@@ -267,19 +278,27 @@ struct Bench {
     count: usize,
     /// its events are used up by one block
     once: bool,
+    /// that block lies far on in a session, in each parameter elsewhere
+    late: bool,
     blocks: usize,
 }
 
 impl Bench {
     fn of(kind: &'static str, blocks: usize) -> Self {
-        let once = kind == "steps" || kind == "ramps";
+        let late = kind == "session" || kind == "beyond";
+        let once = late || kind == "steps" || kind == "ramps";
         let count = if kind == "short" { 64 } else { 128 };
-        Bench { kind, count, once, blocks: if once { READY } else { blocks } }
+        Bench { kind, count, once, late, blocks: if once { READY } else { blocks } }
     }
 
-    fn port(&self) -> Port {
+    /// The time of the first block of the parameter made ready as the i-th.
+    fn from(&self, i: usize) -> f64 {
+        if self.late { ((i + 1) * BETWEEN) as f64 * self.advance() } else { 0.0 }
+    }
+
+    fn port(&self, i: usize) -> Port {
         let mut p = Port::new(self.kind == "k-linear");
-        schedule(self.kind, &mut p);
+        schedule(self.kind, &mut p, self.from(i));
         p
     }
 
@@ -292,14 +311,14 @@ impl Bench {
         let a_rate = self.kind != "k-linear";
         macro_rules! original {
             ($t:ty) => {{
-                let ready = || {
+                let ready = |i| {
                     let mut p = <$t>::new(-1000.0, 0.5, 1000.0, a_rate);
-                    schedule(self.kind, &mut p);
+                    schedule(self.kind, &mut p, self.from(i));
                     p
                 };
                 self.play(
                     ready,
-                    |p, n| p.blocks(0.0, PERIOD, self.count, self.advance(), n),
+                    |p, from, n| p.blocks(from, PERIOD, self.count, self.advance(), n),
                     |p| p.samples(self.count),
                 )
             }};
@@ -309,8 +328,8 @@ impl Bench {
             "rust" => original!(original_default::Original),
             "native" => original!(original_native::Original),
             "exported" => self.play(
-                || self.port(),
-                |p, n| p.blocks(0.0, self.count, self.advance(), n),
+                |i| self.port(i),
+                |p, from, n| p.blocks(from, self.count, self.advance(), n),
                 samples,
             ),
             "value" => self.inside(by_value),
@@ -321,15 +340,15 @@ impl Bench {
     /// Parameters are made ready outside of the time that is taken.
     fn play<P>(
         &self,
-        ready: impl Fn() -> P,
-        blocks: impl Fn(&mut P, usize),
+        ready: impl Fn(usize) -> P,
+        blocks: impl Fn(&mut P, f64, usize),
         samples: impl Fn(&P) -> Vec<f32>,
     ) -> (f64, Vec<f32>) {
-        let mut all: Vec<P> = (0..if self.once { READY } else { 1 }).map(|_| ready()).collect();
+        let mut all: Vec<P> = (0..if self.once { READY } else { 1 }).map(ready).collect();
         let each = if self.once { 1 } else { self.blocks };
         let began = Instant::now();
-        for p in all.iter_mut() {
-            blocks(black_box(p), each);
+        for (i, p) in all.iter_mut().enumerate() {
+            blocks(black_box(p), self.from(i), each);
         }
         let took = began.elapsed().as_nanos() as f64;
         (took / self.blocks as f64, samples(&all[0]))
@@ -337,7 +356,7 @@ impl Bench {
 
     /// Blocks in a loop of the port's own: the state is read once, before the first.
     fn inside(&self, blocks_in_a_loop: Loop) -> (f64, Vec<f32>) {
-        let mut p = self.port();
+        let mut p = self.port(0);
         let silence = [0.0f32; 1];
         // what a block uses up is played again and again
         let blocks = if self.once { self.blocks * 16 } else { self.blocks };
@@ -347,7 +366,7 @@ impl Bench {
             blocks_in_a_loop(
                 p.state.as_ptr(),
                 raw::STATE,
-                0.0,
+                self.from(0),
                 PERIOD,
                 self.count,
                 advance,

@@ -2,7 +2,7 @@
 use mathlib.Core.Path.{_≡_, refl, sym, ap, _∙_, subst}
 use mathlib.Core.Bool.{Bool, true, false, not, _&&_, _||_, cond, true≢false, false≢true}
 use Prim.Native.Nat.{ℕ, zero, suc, _+_, _-_, _*_, _/_, _%_, _^_, _≤_, _<_, zero-le, min}
-use native.Mathlib.Nat.{le-refl, le-trans, le-of-eq, le-of-lt, lt-of-le-of-lt, lt-of-lt-of-le, mul-one, one-mul, mul-assoc, mul-comm, mul-left-comm, mul-right-comm, mul-pos, mul-le-mul-right, mul-lt-mul-of-pos-right, lt-of-mul-lt-mul-right, le-div-iff-mul-le, div-lt-iff-lt-mul, div-le-of-le-mul, min-eq-left, min-eq-right, min-le-left, lt-irrefl, lt-of-not-le, le-antisymm}
+use native.Mathlib.Nat.{le-refl, le-trans, le-of-eq, le-of-lt, lt-of-le-of-lt, lt-of-lt-of-le, mul-one, one-mul, mul-assoc, mul-comm, mul-left-comm, mul-right-comm, mul-pos, mul-le-mul-right, mul-lt-mul-of-pos-right, lt-of-mul-lt-mul-right, le-div-iff-mul-le, div-lt-iff-lt-mul, div-le-of-le-mul, min-eq-left, min-eq-right, min-le-left, le-min, lt-irrefl, lt-of-not-le, le-antisymm}
 use native.Mathlib.Omega.{arith}
 use borrow.Author.Tests.{ltb-true, ltb-false, eq-eqb, eqb-true}
 use lib.IntN.{ℤ, pos, negsuc}
@@ -12,6 +12,7 @@ use lib.Ieee.{Float, nan, inf, fin, Format, binary32, binary64, prec, low, emax,
 use lib.Ieee.Fits.{up-pos, down-pos, round-is}
 use lib.Ieee.Exact.{HasValue}
 use lib.Ieee.Order.{round-mono}
+use lib.Ieee.Positive.{positive, above, positive-of-value, above-of-le, values-of-le}
 
 -- ---- the whole part of x, 0 below 0 and the largest number past the end
 end-of : (a d : ℕ) → 0 < d → 2 ^ 64 * d ≤ a → 2 ^ 64 - 1 ≡ min (a / d) (2 ^ 64 - 1)
@@ -105,6 +106,23 @@ cut-le (fin false a g) (fin false m e) n v h =
   where
     swap : (n g e : ℕ) → n * g * e ≡ e * n * g
     swap n g e = simp (mul-assoc, mul-comm, mul-left-comm)
+
+-- x is at least the whole number z, so its whole part is
+pub cut-ge : (z x : Float) (n : ℕ) → HasValue z false n 1 → 0 < n → n ≤ 2 ^ 64 - 1 → T (le z x) → n ≤ toUnsigned 64 x
+unfolding toUnsigned
+cut-ge z x n v p k h = go x (above-of-le z x s h) h
+  where
+    s : T (positive z)
+    s = positive-of-value z n 1 v p
+
+    go : (x : Float) → T (above x) → T (le z x) → n ≤ toUnsigned 64 x
+    go nan a h = absurd a
+    go (inf true) a h = absurd a
+    go (inf false) a h = k
+    go (fin true m e) a h = absurd a
+    go (fin false m e) a h =
+        let l : n * down e ≤ m * up e * 1 = values-of-le z (fin false m e) n 1 (m * up e) (down e) s a v (refl, refl) h in
+        le-min (le-div-iff-mul-le (down-pos e) .1 (le-trans l (le-of-eq (mul-one (m * up e))))) k
 
 -- ---- what is negative has no whole part
 odd-neg : (d q k l : ℕ) → toUnsigned 64 (odd d true q k l) ≡ 0

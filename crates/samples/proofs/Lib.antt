@@ -2,6 +2,8 @@
 pub mod Once
 pub mod Cut
 pub mod Places
+pub mod Beginning
+pub mod Halving
 pub mod Moved
 pub mod Fading
 pub mod Ratio

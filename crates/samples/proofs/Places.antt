@@ -5,7 +5,7 @@ use Prim.Native.Nat.{ℕ, zero, suc, _+_, _-_, _*_, _^_, _≤_, _<_}
 use native.Mathlib.Omega.{arith}
 use lib.Dec.{T, lit≤}
 use lib.IntN.{negsuc}
-use lib.Ieee.{Float, fin, binary64, round, sum, lt, le}
+use lib.Ieee.{Float, fin, binary64, round, sum, lt, le, ofInt}
 use lib.Ieee.Order.{round-mono}
 use Rattle.rules.specs.Numbers.{wide, limit, placeFrom}
 use Rattle.laws.proofs.Tests.{clash}
@@ -27,6 +27,16 @@ limit-is n h =
 limit-mono : (m n : ℕ) → m ≤ n → n ≤ 2 ^ 53 → le (limit m) (limit n) ≡ true
 limit-mono m n h l =
     rw (limit-is m (omega arith), limit-is n l) (told _ (round-mono binary64 (m * 2 + 1) 2 (n * 2 + 1) 2 (omega arith) (omega arith) (omega arith)))
+
+-- ---- a place lies at or before its limit, and the limit at or before the next place
+
+pub place-limit : (n : ℕ) → n ≤ 2 ^ 53 → le (wide n) (limit n) ≡ true
+unfolding wide ofInt
+place-limit n h = rw (limit-is n h) (told _ (round-mono binary64 n 1 (n * 2 + 1) 2 (omega arith) (omega arith) (omega arith)))
+
+pub limit-place : (n : ℕ) → n ≤ 2 ^ 53 → le (limit n) (wide (suc n)) ≡ true
+unfolding wide ofInt
+limit-place n h = rw (limit-is n h) (told _ (round-mono binary64 (n * 2 + 1) 2 (suc n) 1 (omega arith) (omega arith) (omega arith)))
 
 -- ---- none up to n
 

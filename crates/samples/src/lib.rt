@@ -1,11 +1,14 @@
 // The samples of the four kinds of event, named as in the Rust, and the end place of a time.
 ghost use mathlib.Core.Path.{_≡_};
+ghost use mathlib.Core.Bool.{true};
 ghost use Prim.Native.Nat.{_-_, _*_, _^_, _≤_, _<_};
 ghost use lib.ListN.{length};
 ghost use lib.IntN.{pos, negℤ};
 ghost use Rattle.rules.specs.Numbers.{storeLength, wholePart, narrowed, periodsTo, limit, placeFrom, endPlace};
 ghost use Rattle.rules.specs.Samples.{decayOf, decay as decayAt, ratioLog, power as powerOf, factorOf, curveSample};
+ghost use Rattle.laws.specs.Sound.{isNumber};
 ghost use Rattle.samples.specs.At.{linearAt, exponentialAt, exponentialOver, targetAt, held};
+ghost use Rattle.samples.specs.Search.{Among, FewTests};
 use rules::BlockInfos;
 
 // Rust's `x as u64`: without the fraction, 0 below 0 and for a NaN, and the largest number past the end.
@@ -224,46 +227,72 @@ fn limit_of(n: usize) -> f64
     ((n as i64) as f64) + 0.5
 }
 
-// n, where the limit before it does not exceed q: those of the places before are smaller. Else 0.
-fn places_passed(q: f64, n: usize, count: usize) -> usize
-    requires { ⌜ (n ≤ count) × (count ≤ 2 ^ 53) ⌝ }
-    ensures { λ r. ⌜ (r ≤ count) × (placeFrom q count 0 ≡ placeFrom q (count - r) r) ⌝ }
-{
-    if n > 0 {
-        if q < limit_of(n - 1) {
-            return 0;
-        }
-        return n;
-    }
-    0
+// The places from `low` to `high`: one of them is the end place.
+struct Candidates {
+    low: usize,
+    high: usize,
 }
 
-// Where the search begins: as far as q has whole parts, if none is found before.
-fn first_place(q: f64, count: usize) -> usize
+// Of a number q they are its whole part and the place behind it. A NaN has no whole part: of a NaN they are all places.
+fn candidates_of(q: f64, count: usize) -> Candidates
     requires { ⌜ count ≤ 2 ^ 53 ⌝ }
-    ensures { λ r. ⌜ (r ≤ count) × (placeFrom q count 0 ≡ placeFrom q (count - r) r) ⌝ }
+    ensures { λ r. ⌜ Among q count (r .low) (r .high) × (isNumber q ≡ true → r .high - r .low ≤ 1) ⌝ }
 {
-    let w = whole_of(q) as usize;
-    if w < count {
-        return places_passed(q, w, count);
+    if q == q {
+        let n = whole_of(q) as usize;
+        if n < count {
+            return Candidates {
+                low: n,
+                high: n + 1,
+            };
+        }
+        return Candidates {
+            low: count,
+            high: count,
+        };
     }
-    places_passed(q, count, count)
+    Candidates {
+        low: 0,
+        high: count,
+    }
 }
 
-// The smallest place whose half-sample limit exceeds q, or count.
+// The place that a search found, and how many tests of q it took: whether it is a number, then one at each middle.
+struct Found {
+    place: usize,
+    tests: usize,
+}
+
+// The smallest place whose half-sample limit exceeds q, or count: the candidates are halved until one is left.
+fn search(q: f64, count: usize) -> Found
+    requires { ⌜ count ≤ 2 ^ 53 ⌝ }
+    ensures { λ r. ⌜ (r .place ≡ placeFrom q count 0) × FewTests q count (r .tests) ⌝ }
+{
+    let among = candidates_of(q, count);
+    let mut low = among.low;
+    let mut high = among.high;
+    let mut tests: usize = 1;
+    let place = loop {
+        if high <= low {
+            break low;
+        }
+        let middle = low + (high - low) / 2;
+        tests += 1;
+        if q < limit_of(middle) {
+            high = middle;
+        } else {
+            low = middle + 1;
+        }
+    };
+    Found { place, tests }
+}
+
 pub fn end_place(q: f64, count: usize) -> usize
     requires { ⌜ count ≤ 2 ^ 53 ⌝ }
     ensures { λ r. ⌜ r ≡ placeFrom q count 0 ⌝ }
 {
-    let mut n = first_place(q, count);
-    // one test for both ends: of two the compiler makes sixteen places a turn, where the first is mostly the one
-    let place = loop {
-        if (count <= n) | (q < limit_of(n)) {
-            break n;
-        }
-        n += 1;
-    };
-    place
+    let found = search(q, count);
+    found.place
 }
 
 pub fn end_place_of(infos: BlockInfos, t: f64) -> usize
