@@ -1,13 +1,14 @@
 -- What a test leaves of the candidates, and how many tests there can be. Assumes nothing.
 use mathlib.Core.Path.{_≡_, refl, sym, subst, _∙_}
 use mathlib.Core.Bool.{Bool, true, false}
-use Prim.Native.Nat.{ℕ, _+_, _*_, _/_, _^_, _≤_, _<_}
-use native.Mathlib.Nat.{le-trans, le-of-eq, mul-assoc, pow-suc, mul-le-mul-left, le-mul-of-pos-right}
-use native.Mathlib.Numerals.{add-one}
+use Prim.Native.Nat.{ℕ, zero, suc, _+_, _*_, _/_, _^_, _≤_, _<_}
+use native.Mathlib.Nat.{pow-suc}
 use native.Mathlib.Omega.{arith}
 use borrow.Author.Tests.{leb-true, leb-false}
 use lib.Dec.{leb}
-use lib.Ieee.{Float, lt}
+use lib.Pow.{pow-mono}
+use lib.Ieee.{Float, lt, size}
+use lib.Ieee.Digits.{size-lt, size-reaches, size-le}
 use Rattle.rules.specs.Numbers.{limit, placeFrom}
 use Rattle.laws.proofs.Places.{place-found, place-none}
 use Rattle.samples.specs.Search.{Among}
@@ -40,20 +41,30 @@ module _ (q : Float) (count : ℕ) (few : count ≤ 2 ^ 53) (low high : ℕ) (a 
           reached = a .reached;
         }
 
--- ---- the tests: each leaves at most half of the d places beside one; at first there were e
+-- ---- the tests: where d places are left beside one, as many are to come as d has binary digits
 
-pub record Halved (count e d tests : ℕ) : Type 0 where
-  pub half : 2 ^ tests * d ≤ 2 * count
-  pub few : 0 < count → 2 ^ tests ≤ 4 * count
-  pub room : tests + d ≤ 1 + e
+-- half of them has a digit less
+pub fewer : (d rest : ℕ) → 0 < d → rest ≤ d / 2 → size rest < size d
+fewer d rest some h = go (size d) (size-lt d)
+  where
+    go : (k : ℕ) → d < 2 ^ k → size rest < k
+    go zero l = absurd (omega arith)
+    go (suc j) l = let e : size rest ≤ j = size-le rest j (omega (arith, pow-suc 2 j)) in omega arith
 
-pub first : (count d : ℕ) → d ≤ count → Halved count d d 1
-first count d h = record { half = omega arith; few = λ some. omega arith; room = omega arith }
+-- a test more, and those to come
+pub next : (most tests d rest : ℕ) → tests + size d ≤ most → 0 < d → rest ≤ d / 2 → tests + 1 + size rest ≤ most
+next most tests d rest h some l = omega (arith, fewer d rest some l)
 
-pub next : (count e d rest tests : ℕ) → Halved count e d tests → 0 < d → rest ≤ d / 2 → Halved count e rest (tests + 1)
-next count e d rest tests s some h =
-    let p = 2 ^ tests in
-    let w : 2 ^ (tests + 1) ≡ p * 2 = rw (add-one tests) (pow-suc 2 tests) in
-    let g : p * (2 * rest) ≤ p * d = mul-le-mul-left p (omega arith) in
-    let l : p ≤ p * d = le-mul-of-pos-right p some in
-    record { half = rw w (le-trans (le-of-eq (mul-assoc p 2 rest)) (le-trans g (s .half))); few = λ k. rw w (omega (arith, s .half)); room = omega (arith, s .room) }
+-- so many digits are 1 + log2
+digits : (count : ℕ) → 0 < count → 2 ^ size count ≤ 2 * count
+digits count some = go (size count) (size-lt count) (size-reaches count)
+  where
+    go : (k : ℕ) → count < 2 ^ k → ((j : ℕ) → j < k → 2 ^ j ≤ count) → 2 ^ k ≤ 2 * count
+    go zero l r = absurd (omega arith)
+    go (suc j) l r = omega (arith, pow-suc 2 j, r j (omega arith))
+
+pub few : (count d tests : ℕ) → d ≤ count → tests ≤ 1 + size d → 0 < count → 2 ^ tests ≤ 4 * count
+few count d tests h k some =
+    let l : size d ≤ size count = size-le d (size count) (omega (arith, size-lt count)) in
+    let t : 2 ^ tests ≤ 2 ^ suc (size count) = pow-mono (omega arith) in
+    omega (arith, pow-suc 2 (size count), digits count some)

@@ -1,4 +1,4 @@
--- What the search for an end place keeps, and what it may take.
+-- 02, C-13, "one that halves the range": what the search for 01's end place keeps, and how many tests it may take.
 use mathlib.Core.Path.{_≡_}
 use mathlib.Core.Bool.{true}
 use Prim.Native.Nat.{ℕ, _-_, _*_, _^_, _≤_, _<_}
@@ -13,7 +13,7 @@ pub record Among (q : Float) (count low high : ℕ) : Type 0 where
   pub passed : placeFrom q count 0 ≡ placeFrom q (count - low) low
   pub reached : high < count → lt q (limit high) ≡ true
 
--- "at most 2 + log2(count)" tests, whatever q is, and 2 where it is a number
+-- at most 2 + log2(count) tests, whatever q is, and 2 where it is a number (ours: 02 names no bound)
 pub record FewTests (q : Float) (count tests : ℕ) : Type 0 where
   pub most : 0 < count → 2 ^ tests ≤ 4 * count
   pub number : isNumber q ≡ true → tests ≤ 2

@@ -263,7 +263,7 @@ struct Found {
     tests: usize,
 }
 
-// The smallest place whose half-sample limit exceeds q, or count: the candidates are halved until one is left.
+// The search for the end place: its candidates are halved until one is left.
 fn search(q: f64, count: usize) -> Found
     requires { ⌜ count ≤ 2 ^ 53 ⌝ }
     ensures { λ r. ⌜ (r .place ≡ placeFrom q count 0) × FewTests q count (r .tests) ⌝ }
@@ -287,6 +287,7 @@ fn search(q: f64, count: usize) -> Found
     Found { place, tests }
 }
 
+// The smallest place whose half-sample limit exceeds q, or count.
 pub fn end_place(q: f64, count: usize) -> usize
     requires { ⌜ count ≤ 2 ^ 53 ⌝ }
     ensures { λ r. ⌜ r ≡ placeFrom q count 0 ⌝ }
