@@ -71,10 +71,10 @@ build_oracle() {
     compile --extern arrayvec --extern log --crate-name oracle -o "$out/oracle" "$source/main.rs"
 }
 
-# The interpreter of 01, a library that the other programs use too.
+# The interpreter of 01 and of what has landed of 02, a library that the other programs use too.
 build_reference() {
     fresh "$out/reference" "$here"/src/reference/*.rs "$here/src/oracle/session.rs" && return
-    say "building the reference interpreter of 01"
+    say "building the reference interpreter"
     mkdir -p "$out" && compile_library reference "$here/src/reference/lib.rs" &&
     compile --extern reference --crate-name main -o "$out/reference" "$here/src/reference/main.rs"
 }

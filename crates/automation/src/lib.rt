@@ -6,7 +6,7 @@ ghost use lib.ListN.{length};
 ghost use lib.Ieee.{binary64, add, sub};
 ghost use Rattle.rules.specs.Numbers.{storeLength};
 ghost use Rattle.rules.specs.Queue.{alone, lengthOf};
-ghost use Rattle.rules.specs.Samples.{isRatio, ratioLog, targetSample, curveSample, lastNumber};
+ghost use Rattle.rules.specs.Samples.{isRatio, ratioLog, rampSample, targetSample, curveSample, lastNumber};
 ghost use Rattle.rules.specs.Walk.{stepTime, lastOr, holdOr, endByNext, endByHold, snaps as snapsTo, fromStart, spanTurn, targetLeft, targetRun, stepTurn, linearTurn, exponentialTurn, targetTurn, curveTurn, turnOf, turn};
 ghost use Rattle.rules.specs.Block.{walkFrom, valuesBefore};
 ghost use Rattle.samples.specs.At.{exponentialAt};
@@ -268,14 +268,14 @@ pub fn compute_linear_ramp_automation(
     let head = Event::Linear { value, time, hold };
     // it goes on in the next block
     if end_time >= infos.next {
-        let at_next = fills::linear_value(last_event, value, duration, infos.next);
+        let at_next = samples::linear_value(last_event, value, duration, infos.next);
         return Turn::stop(w.with_intrinsic(at_next), head);
     }
     // it ends in this one: with its own value, or where it is held
     let MaybeTime::At(_) = hold else {
         return Turn::consume(w, end_time, value, head);
     };
-    let at_end = fills::linear_value(last_event, value, duration, end_time);
+    let at_end = samples::linear_value(last_event, value, duration, end_time);
     Turn::consume(w, end_time, at_end, head)
 }
 
@@ -291,7 +291,7 @@ fn exponential_span(
     ratio: f32,
 ) -> Turn
     requires { ⌜ Ready infos walk (now buffer) ⌝ }
-    ensures { λ r. ⌜ Turns (now (buffer .entry)) [] (spanTurn infos (walkIs walk (now (buffer .entry))) (alone (Event.Exponential value time hold)) time value hold (exponentialAt (from .time) (sub binary64 time (from .time)) (from .value) (ratioLog ratio))) r (now (buffer .exit)) ⌝ }
+    ensures { λ r. ⌜ Turns (now (buffer .entry)) [] (spanTurn infos (walkIs walk (now (buffer .entry))) (alone (Event.Exponential value time hold)) time value hold (rampSample value (sub binary64 time (from .time)) (exponentialAt (from .time) (sub binary64 time (from .time)) (from .value) (ratioLog ratio)))) r (now (buffer .exit)) ⌝ }
 {
     let duration = time - from.time;
     let log = samples::ratio_log(ratio);
@@ -303,19 +303,20 @@ fn exponential_span(
         walk.filled,
         end_index,
         from,
+        value,
         duration,
         log,
     );
     let w = walk.with_filled(filled);
     let head = Event::Exponential { value, time, hold };
     if end_time >= infos.next {
-        let at_next = fills::exponential_value(from, duration, log, infos.next);
+        let at_next = samples::exponential_value(from, value, duration, log, infos.next);
         return Turn::stop(w.with_intrinsic(at_next), head);
     }
     let MaybeTime::At(_) = hold else {
         return Turn::consume(w, end_time, value, head);
     };
-    let at_end = fills::exponential_value(from, duration, log, end_time);
+    let at_end = samples::exponential_value(from, value, duration, log, end_time);
     Turn::consume(w, end_time, at_end, head)
 }
 

@@ -4,7 +4,7 @@ ghost use mathlib.Core.Bool.{cond};
 ghost use Prim.Native.Nat.{ℕ, _≤_};
 ghost use lib.ListN.{length};
 ghost use Rattle.rules.specs.Numbers.{storeLength, plusZero, isSubnormal, timeAt};
-ghost use Rattle.rules.specs.Samples.{linearSample, targetSample, curveSample};
+ghost use Rattle.rules.specs.Samples.{rampSample, linearSample, targetSample, curveSample};
 ghost use Rattle.rules.specs.Walk.{fromStart};
 ghost use Rattle.samples.specs.At.{exponentialAt, targetAt};
 ghost use Rattle.fills.specs.Filled.{Room, Filled, Flushed, writesNone};
@@ -39,21 +39,6 @@ fn time_at(infos: BlockInfos, place: usize) -> f64
     rounding::fused64(place as u64, infos.dt, infos.time)
 }
 
-// A linear ramp's value at a time.
-pub fn linear_value(from: Finished, value: f32, duration: f64, time: f64) -> f32
-    ensures { λ r. ⌜ r ≡ linearSample from value duration time ⌝ }
-{
-    let diff = value - from.value;
-    samples::compute_linear_ramp_sample(from.time, duration, from.value, diff, time)
-}
-
-// An exponential ramp's value at a time; `log` is L of its ratio, worked out once a ramp.
-pub fn exponential_value(from: Finished, duration: f64, log: i64, time: f64) -> f32
-    ensures { λ r. ⌜ r ≡ exponentialAt (from .time) duration (from .value) log time ⌝ }
-{
-    samples::compute_exponential_ramp_sample(from.time, duration, from.value, log, time)
-}
-
 // A target's value at a time; before its start it is the intrinsic one.
 fn target_value(start: f64, intrinsic: f32, constant: f64, target: f32, diff: f32, time: f64) -> f32
     ensures { λ r. ⌜ r ≡ fromStart start intrinsic (targetAt start constant target diff) time ⌝ }
@@ -75,7 +60,7 @@ pub fn curve_value(start: f64, intrinsic: f32, duration: f64, values: &[f32], ti
     samples::compute_set_value_curve_sample(start, duration, values, time)
 }
 
-// ---- the runs: the places up to `to` are filled, and how many are filled then is given back
+// ---- the runs: the places up to `to` are filled, and how many are filled then is given back; a ramp of no length fills with its end value
 
 pub fn fill_value(
     infos: BlockInfos,
@@ -113,6 +98,9 @@ pub fn fill_linear_ramp(
     if writes_none(infos, filled, to) {
         return filled;
     }
+    if samples::has_no_length(duration) {
+        return fill_value(infos, buffer, filled, to, value);
+    }
     let diff = value - from.value;
     let time = time_at(infos, filled);
     runs::compute_linear_ramp_samples(
@@ -133,14 +121,18 @@ pub fn fill_exponential_ramp(
     filled: usize,
     to: usize,
     from: Finished,
+    value: f32,
     duration: f64,
     log: i64,
 ) -> usize
     requires { ⌜ Room filled to (now buffer) ⌝ }
-    ensures { λ r. ⌜ Filled infos to (exponentialAt (from .time) duration (from .value) log) filled (now (buffer .entry)) r (now (buffer .exit)) ⌝ }
+    ensures { λ r. ⌜ Filled infos to (rampSample value duration (exponentialAt (from .time) duration (from .value) log)) filled (now (buffer .entry)) r (now (buffer .exit)) ⌝ }
 {
     if writes_none(infos, filled, to) {
         return filled;
+    }
+    if samples::has_no_length(duration) {
+        return fill_value(infos, buffer, filled, to, value);
     }
     let time = time_at(infos, filled);
     runs::compute_exponential_ramp_samples(

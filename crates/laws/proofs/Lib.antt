@@ -17,3 +17,4 @@ pub mod Shapes
 pub mod Places
 pub mod Within
 pub mod Answers
+pub mod Ramps

@@ -111,7 +111,7 @@ leq-trans true false true A B C D E F pb pd pf h k = let z : E * B ≤ 0 = zeros
 leq-trans true true false A B C D E F pb pd pf h k = tt
 leq-trans true true true A B C D E F pb pd pf h k = chain E F C D A B pd k h
 
-down-pos : (e : ℤ) → 0 < down e
+pub down-pos : (e : ℤ) → 0 < down e
 down-pos (pos k) = omega arith
 down-pos (negsuc k) = pow-pos (suc k)
 

@@ -51,7 +51,7 @@ pub data Turns (S : Walk → Waiting → Type 0) (G : Walk → Type 0) : Turn �
   stops : {w : Walk} {x : Waiting} → S w x → Turns S G (stop w x)
   goes : {w : Walk} → G w → Turns S G (on w)
 
-by-cond : {S : Walk → Waiting → Type 0} {G : Walk → Type 0} (b : Bool) {s t : Turn} → Turns S G s → Turns S G t → Turns S G (cond b s t)
+pub by-cond : {S : Walk → Waiting → Type 0} {G : Walk → Type 0} (b : Bool) {s t : Turn} → Turns S G s → Turns S G t → Turns S G (cond b s t)
 by-cond true g h = g
 by-cond false g h = h
 
@@ -274,7 +274,7 @@ walk-keeps f P Q k end ws w h =
 
 -- ---- what is left, whatever is carried
 
-abbrev Whatever : Walk → Type 0
+abbrev pub Whatever : Walk → Type 0
 Whatever w = Unit {0}
 
 whatever : (f : BlockInfos) → Carries f Any Whatever Whatever Whatever Whatever

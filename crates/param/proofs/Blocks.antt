@@ -1,24 +1,27 @@
--- What the contract of the block settles: its samples lie within the range, its steps are those of the rules' walk, refused nothing changes, and two results that
--- it allows are the same. Assumes nothing.
-use mathlib.Core.Path.{_≡_, refl, sym, ap, _∙_}
-use mathlib.Core.Bool.{false}
-use mathlib.Core.List.{List}
+-- What the contract of the block settles: its samples lie within the range, its steps are those of the rules' walk, a ramp of no length leaves its end value, refused
+-- nothing changes, and two results that it allows are the same. Assumes nothing.
+use mathlib.Core.Path.{_≡_, refl, sym, ap, subst, _∙_}
+use mathlib.Core.Bool.{true, false}
+use mathlib.Core.List.{List, _∷_}
 use Prim.Native.Nat.{_≤_}
 use lib.ListN.{length, take, drop}
 use lib.Ieee.{Float}
+use Rattle.rules.specs.declared.Event.{Event}
+use Rattle.rules.specs.declared.Event.the-variants as Event
 use Rattle.rules.specs.declared.Refusal.{Refusal}
 use Rattle.rules.specs.declared.Verdict.{Verdict}
 use Rattle.rules.specs.declared.Verdict.the-variants as Verdict
-use Rattle.rules.specs.Numbers.{plusZero}
+use Rattle.rules.specs.Numbers.{plusZero, isFinite, isZero}
 use Rattle.rules.specs.Queue.{attached}
-use Rattle.rules.specs.Block.{Call, Answer, infosOf, rendered, answerOf, answeredAs, verdictOf, answered}
+use Rattle.rules.specs.Block.{Param, Call, Answer, infosOf, rendered, answerOf, answeredAs, verdictOf, answered}
 use Rattle.laws.proofs.Within.{AllWithin}
+use Rattle.laws.proofs.Ramps.{Ramp, ramp-of-no-length as leaves-end, HeadAtItsEnd, waits-at-its-end as leaves-at-its-end}
 use Rattle.laws.proofs.Answers.{answer-is, refused-block, samples-within, output-rest, output-length, at-most-129}
 use Rattle.param.specs.declared.AudioParam.{AudioParam}
 use Rattle.param.specs.declared.Processed.{Processed}
 use Rattle.param.specs.Param.{paramOf, structOf, SoundParam}
 use Rattle.param.specs.Processed.{Processes}
-use Rattle.param.proofs.Calls.{whole}
+use Rattle.param.proofs.Calls.{whole, struct-back}
 
 -- ---- two results
 
@@ -70,6 +73,18 @@ module _ {p : AudioParam} {store after : List Float} {c : Call} {r : Processed} 
 
     pub length-kept : length output ≡ length (c .output)
     length-kept = rw (a .written) (output-length (paramOf p) store c fine)
+
+    -- 02, C-18: a ramp filed at the very time of the step before it, where that time is the block's end, leaves its end value, a number
+    pub ramp-of-no-length : SoundParam p → (u v t : Float) (e : Event) (rest : List Event) → paramOf p .queue ≡ Event.Step u t ∷ e ∷ rest
+        → Ramp (record { time = t; value = u }) v t e → isZero t ≡ false → infosOf (p .rate) c .next ≡ t → (r .param .intrinsic ≡ v) × (isFinite v ≡ true)
+    ramp-of-no-length s u v t e rest waits ramp z is =
+        let left = leaves-end (paramOf p) (s .sound) u v t e rest waits ramp z store c fine is in
+        (ap (λ (x : AudioParam). x .intrinsic) (a .param) ∙ left .0, left .1)
+
+    -- and whatever was before: where a ramp of no length waits first after the block, the intrinsic value is its end value
+    pub waits-at-its-end : HeadAtItsEnd (paramOf (r .param) .queue) (r .param .last) (r .param .intrinsic)
+    waits-at-its-end =
+        subst (λ (q : Param). HeadAtItsEnd (q .queue) (q .last) (q .intrinsic)) (sym (ap paramOf (a .param) ∙ struct-back _)) (leaves-at-its-end (paramOf p) store c fine)
 
     -- the steps are those of the rules' own walk
     pub steps-are : r .steps ≡ rendered (infosOf (p .rate) c) (p .intrinsic) (p .last) (attached (paramOf p .queue) store) .walk .steps

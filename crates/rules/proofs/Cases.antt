@@ -1,6 +1,7 @@
 -- A second table beside the bench sheet, which has no target, no true exponential, no second hold and no walk at K-rate. What is expected does not come from the
 -- definitions: C1 to C26 are from a program written from document 01 alone, C27 to C49 from an interpreter of 01 in exact fractions by the second reader, who had read
--- the definitions; the oracle's reference interpreter gives the same. Under each case's name stand its calls in plain numbers.
+-- the definitions, C50 to C52 from a program written from 01 and 02 (cases-02), C53 and what 02 changes of C39 by hand; the oracle's reference interpreter gives the
+-- same. Under each case's name stand its calls in plain numbers.
 use mathlib.Core.Path.{_≡_, refl}
 use mathlib.Core.Bool.{true, false}
 use mathlib.Core.List.{List, [], _∷_, _++_}
@@ -938,7 +939,7 @@ cases =
           ∷ output 2 n0 false (n0 ∷ n0 ∷ [])
           ∷ [];
     }
-    -- C39 ramps of no duration: NaN at the next block time, and the default is the current value; a ratio that underflows; negative floors
+    -- C39 ramps of no length have their end value at the next block time (02, C-18), and it is the current value; a ratio that underflows; negative floors
     -- make -10 2 10 a; step 1 4; exponential 8 4; block 0 1 4; state; block 4 1 2; make -10 2 10 a; step 1 4; linear 8 4; block 0 1 4; state; block 4 1 2; state; make -3.4e38 1 3.4e38 a; step 3e38 0; exponential 1e-44 4; block 0 1 6; state; make -10 1 10 a; step 7 0; exponential 0.3 5; block 0 0.7 8; state
     ∷ record {
       acts =
@@ -971,14 +972,14 @@ cases =
           ∷ ok
           ∷ ok
           ∷ output 2 n2 false (n2 ∷ n2 ∷ n2 ∷ n2 ∷ [])
-          ∷ state nan (MaybeTime.At n0) (done n4 n1) (alone (Event.Exponential n8 n4 MaybeTime.Missing) ∷ []) true
-          ∷ output 2 n2 false (n8 ∷ n8 ∷ [])
+          ∷ state n8 (MaybeTime.At n0) (done n4 n1) (alone (Event.Exponential n8 n4 MaybeTime.Missing) ∷ []) true
+          ∷ output 2 n8 false (n8 ∷ n8 ∷ [])
           ∷ ok
           ∷ ok
           ∷ ok
           ∷ output 2 n2 false (n2 ∷ n2 ∷ n2 ∷ n2 ∷ [])
-          ∷ state nan (MaybeTime.At n0) (done n4 n1) (alone (Event.Linear n8 n4 MaybeTime.Missing) ∷ []) true
-          ∷ output 2 n2 false (n8 ∷ n8 ∷ [])
+          ∷ state n8 (MaybeTime.At n0) (done n4 n1) (alone (Event.Linear n8 n4 MaybeTime.Missing) ∷ []) true
+          ∷ output 2 n8 false (n8 ∷ n8 ∷ [])
           ∷ state n8 (MaybeTime.At n4) (done n4 n8) [] true
           ∷ ok
           ∷ ok
@@ -1303,6 +1304,101 @@ cases =
           ∷ refused 1
           ∷ state n0 MaybeTime.Missing LastEvent.None [] true
           ∷ output 1 n0 false (n0 ∷ n0 ∷ [])
+          ∷ [];
+    }
+    -- ---- 02, C-18: both ramp samples give the end value where the duration is 0 or below (C50 to C52 are cases-02's)
+    -- C50 a held ramp whose time is before the last event's: its end value, not the line drawn on backwards
+    -- make -10 0 10 a; step 5 4; block 0 1 6; linear 8 2; hold 1; block 6 1 2; state
+    ∷ record {
+      acts =
+          make (bounds minus10 n0 n10) Rate.A
+          ∷ ask (step n5 n4)
+          ∷ block n0 n1 6 6 []
+          ∷ ask (linear n8 n2)
+          ∷ ask (hold n1)
+          ∷ block n6 n1 2 2 []
+          ∷ look
+          ∷ [];
+      said =
+          ok
+          ∷ ok
+          ∷ output 2 n0 false (n0 ∷ n0 ∷ n0 ∷ n0 ∷ n5 ∷ n5 ∷ [])
+          ∷ ok
+          ∷ ok
+          ∷ output 2 n5 false (n8 ∷ n8 ∷ [])
+          ∷ state n8 (MaybeTime.At n6) (done n1 n8) [] true
+          ∷ [];
+    }
+    -- C51 02's example, at K-rate and A-rate: step and ramp at 4, a block's end
+    -- make -10 1 10 k; step 5 4; linear 7 4; block 0 1 4; state; block 4 1 2; make -10 1 10 a; step 5 4; exponential 7 4; block 0 1 4; state; block 4 1 2
+    ∷ record {
+      acts =
+          make (bounds minus10 n1 n10) Rate.K
+          ∷ ask (step n5 n4)
+          ∷ ask (linear n7 n4)
+          ∷ block n0 n1 4 4 []
+          ∷ look
+          ∷ block n4 n1 2 2 []
+          ∷ make (bounds minus10 n1 n10) Rate.A
+          ∷ ask (step n5 n4)
+          ∷ ask (exponential n7 n4)
+          ∷ block n0 n1 4 4 []
+          ∷ look
+          ∷ block n4 n1 2 2 []
+          ∷ [];
+      said =
+          ok
+          ∷ ok
+          ∷ ok
+          ∷ output 2 n1 true (n1 ∷ n1 ∷ n1 ∷ n1 ∷ [])
+          ∷ state n7 (MaybeTime.At n0) (done n4 n5) (alone (Event.Linear n7 n4 MaybeTime.Missing) ∷ []) true
+          ∷ output 2 n7 true (n7 ∷ n7 ∷ [])
+          ∷ ok
+          ∷ ok
+          ∷ ok
+          ∷ output 2 n1 false (n1 ∷ n1 ∷ n1 ∷ n1 ∷ [])
+          ∷ state n7 (MaybeTime.At n0) (done n4 n5) (alone (Event.Exponential n7 n4 MaybeTime.Missing) ∷ []) true
+          ∷ output 2 n7 false (n7 ∷ n7 ∷ [])
+          ∷ [];
+    }
+    -- C52 the exponential's replacement by a step is decided before: start 0 and no length
+    -- make -10 0 10 a; step 0 4; exponential 7 4; block 0 1 5
+    ∷ record {
+      acts =
+          make (bounds minus10 n0 n10) Rate.A
+          ∷ ask (step n0 n4)
+          ∷ ask (exponential n7 n4)
+          ∷ block n0 n1 5 5 []
+          ∷ [];
+      said =
+          ok
+          ∷ ok
+          ∷ ok
+          ∷ output 4 n0 false (n0 ∷ n0 ∷ n0 ∷ n0 ∷ n7 ∷ [])
+          ∷ [];
+    }
+    -- C53 behind a last event at +infinity a ramp's duration is -infinity, which is below 0 (reading 13, and 24 of 02)
+    -- make -10 0 10 a; step 1 0; target 5 0 1e300; block 1.7e308 1e307 2; block 1.7e308 1e307 2; linear 8 1.75e308; block 1.7e308 1e307 2; state
+    ∷ record {
+      acts =
+          make (bounds minus10 n0 n10) Rate.A
+          ∷ ask (step n1 n0)
+          ∷ ask (target n5 n0 (fin false 1681218273811815 (pos 946)))
+          ∷ block (fin false 4258857765019067 (pos 972)) (fin false 8016673440035891 (pos 967)) 2 2 []
+          ∷ block (fin false 4258857765019067 (pos 972)) (fin false 8016673440035891 (pos 967)) 2 2 []
+          ∷ ask (linear n8 (fin false 1096029571879907 (pos 974)))
+          ∷ block (fin false 4258857765019067 (pos 972)) (fin false 8016673440035891 (pos 967)) 2 2 []
+          ∷ look
+          ∷ [];
+      said =
+          ok
+          ∷ ok
+          ∷ ok
+          ∷ output 2 n0 false (n5 ∷ n5 ∷ [])
+          ∷ output 2 n5 false (n5 ∷ n5 ∷ [])
+          ∷ ok
+          ∷ output 2 n5 false (n8 ∷ n8 ∷ [])
+          ∷ state n8 (MaybeTime.At (fin false 4258857765019067 (pos 972))) (done (fin false 1096029571879907 (pos 974)) n8) [] true
           ∷ [];
     }
     ∷ []

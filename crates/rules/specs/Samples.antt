@@ -1,4 +1,4 @@
--- Document 01, the four samples: linear, exponential, target, curve.
+-- Document 01, the four samples: linear, exponential, target, curve; and document 02's C-18, ramps of no length.
 use mathlib.Core.Bool.{Bool, true, false, cond, _&&_, _||_}
 use mathlib.Core.List.{List, [], _∷_}
 use Prim.Native.Nat.{ℕ, zero, suc, _+_, _-_, _*_, _/_, _%_, _^_}
@@ -15,11 +15,21 @@ use Rattle.rules.specs.Kernels.{parts, falling, log}
 unfoldable pub phaseOf : Float → Float → Float → Float
 phaseOf start duration time = Ieee.div binary64 (Ieee.sub binary64 time start) duration
 
--- ---- linear: "fused(diff × phase + start), with diff in f32 and phase = (time − start)/duration narrowed", from the last event to a value
+-- ---- ramps, from the last event to a value
+
+-- 02, C-18: "the duration is 0 or below"; −infinity is, NaN is not (DECISIONS, reading 24 of 02)
+unfoldable pub hasNoLength : Float → Bool
+hasNoLength duration = Ieee.le duration plusZero
+
+-- "Both ramp samples shall give the ramp's end value whenever" that is so; else what the ramp has along its way
+unfoldable pub rampSample : Float → Float → (Float → Float) → Float → Float
+rampSample value duration along time = cond (hasNoLength duration) value (along time)
+
+-- ---- linear: "fused(diff × phase + start), with diff in f32 and phase = (time − start)/duration narrowed"
 
 unfoldable pub linearSample : Finished → Float → Float → Float → Float
-linearSample from value duration time =
-    fused binary32 (Ieee.sub binary32 value (from .value)) (narrowed (phaseOf (from .time) duration time)) (from .value)
+linearSample from value duration =
+    rampSample value duration (λ t. fused binary32 (Ieee.sub binary32 value (from .value)) (narrowed (phaseOf (from .time) duration t)) (from .value))
 
 -- ---- exponential
 
@@ -65,8 +75,8 @@ unfoldable pub exponentialBy : ℤ → Float → Float → Float
 exponentialBy l from phase = narrowed (Ieee.mul binary64 from (factorOf (Ieee.mul binary64 (Ieee.ofInt binary64 l) phase)))
 
 unfoldable pub exponentialSample : Finished → Float → Float → Float → Float
-exponentialSample from value duration time =
-    exponentialBy (ratioLog (ratioOf from value)) (from .value) (phaseOf (from .time) duration time)
+exponentialSample from value duration =
+    rampSample value duration (λ t. exponentialBy (ratioLog (ratioOf from value)) (from .value) (phaseOf (from .time) duration t))
 
 -- ---- target: from the last event's value towards another, from a start on
 

@@ -1,15 +1,16 @@
-// The samples of the four kinds of event, named as in the Rust, and the end place of a time.
+// The samples of the four kinds of event, named as in the Rust, a ramp's value, and the end place of a time.
 ghost use mathlib.Core.Path.{_≡_};
 ghost use mathlib.Core.Bool.{true};
 ghost use Prim.Native.Nat.{_-_, _*_, _^_, _≤_, _<_};
 ghost use lib.ListN.{length};
 ghost use lib.IntN.{pos, negℤ};
 ghost use Rattle.rules.specs.Numbers.{storeLength, wholePart, narrowed, periodsTo, limit, placeFrom, endPlace};
-ghost use Rattle.rules.specs.Samples.{decayOf, decay as decayAt, ratioLog, power as powerOf, factorOf, curveSample};
+ghost use Rattle.rules.specs.Samples.{decayOf, decay as decayAt, ratioLog, power as powerOf, factorOf, hasNoLength, rampSample, linearSample, curveSample};
 ghost use Rattle.laws.specs.Sound.{isNumber};
 ghost use Rattle.samples.specs.At.{linearAt, exponentialAt, exponentialOver, targetAt, held};
 ghost use Rattle.samples.specs.Search.{Among, FewTests};
 use rules::BlockInfos;
+use rules::Finished;
 
 // Rust's `x as u64`: without the fraction, 0 below 0 and for a NaN, and the largest number past the end.
 fn whole_of(x: f64) -> u64
@@ -135,7 +136,7 @@ pub fn factor(x: f64) -> f64
     }
 }
 
-// The Rust's functions. Where it is handed the difference of two values, or their ratio, worked out once a ramp, so are these; for the ratio its log.
+// ---- the Rust's functions. Where it is handed the difference of two values, or their ratio, worked out once a ramp, so are these; for the ratio its log.
 
 pub fn compute_linear_ramp_sample(
     start_time: f64,
@@ -211,6 +212,38 @@ pub fn compute_set_value_curve_sample(
     // a signed number is quicker to convert
     phases::phase_sum_of(values[k + 1] - from, position - ((k as i64) as f64), from)
 }
+
+// ---- a ramp's value
+
+// Whether a ramp of this duration has no length (02, C-18): 0 or below, which a NaN is not.
+pub fn has_no_length(duration: f64) -> bool
+    ensures { λ r. ⌜ r ≡ hasNoLength duration ⌝ }
+{
+    duration <= 0.0
+}
+
+// A linear ramp's value at a time; one of no length has its end value at every time.
+pub fn linear_value(from: Finished, value: f32, duration: f64, time: f64) -> f32
+    ensures { λ r. ⌜ r ≡ linearSample from value duration time ⌝ }
+{
+    if has_no_length(duration) {
+        return value;
+    }
+    let diff = value - from.value;
+    compute_linear_ramp_sample(from.time, duration, from.value, diff, time)
+}
+
+// The same of an exponential ramp; `log` is L of its ratio, worked out once a ramp.
+pub fn exponential_value(from: Finished, value: f32, duration: f64, log: i64, time: f64) -> f32
+    ensures { λ r. ⌜ r ≡ rampSample value duration (exponentialAt (from .time) duration (from .value) log) time ⌝ }
+{
+    if has_no_length(duration) {
+        return value;
+    }
+    compute_exponential_ramp_sample(from.time, duration, from.value, log, time)
+}
+
+// ---- the end place
 
 // q, the time t in sample periods from the block's time on.
 pub fn periods_to(infos: BlockInfos, t: f64) -> f64

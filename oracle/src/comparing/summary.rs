@@ -76,7 +76,8 @@ impl Summary {
                 runs.all
             )?;
         }
-        writeln!(f, "           (a run: one head in one block that fills a place or is consumed)")
+        writeln!(f, "           (a run: one head in one block that fills a place or is consumed;")?;
+        writeln!(f, "           a ramp of no length is none)")
     }
 }
 
@@ -108,6 +109,6 @@ impl fmt::Display for Summary {
         print_limit(f, "targets", -20., &self.tally.target)?;
         print_limit(f, "exponentials", -18., &self.tally.exponential)?;
         let all = if self.not_01 == 0 { "all" } else { "NOT all" };
-        writeln!(f, "\nthe port gives {all} answers of oracle/reference, the interpreter of 01")
+        writeln!(f, "\nthe port gives {all} answers of oracle/reference, the interpreter")
     }
 }

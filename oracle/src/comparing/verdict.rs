@@ -41,7 +41,7 @@ pub struct Verdict {
     pub names: BTreeSet<&'static str>,
     /// The first call whose answers differed otherwise, and in which fields.
     pub otherwise: Option<(usize, String)>,
-    /// The first call that the port answers otherwise than the interpreter of 01.
+    /// The first call that the port answers otherwise than the reference.
     pub not_01: Option<usize>,
     pub tally: Tally,
 }

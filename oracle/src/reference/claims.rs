@@ -22,7 +22,8 @@ pub struct Claim {
     pub name: &'static str,
 }
 
-/// One head in one block: it filled at least one place, or was consumed.
+/// One head in one block that filled at least one place, or was consumed. A
+/// ramp of no length is none: 02's C-18 leaves it out.
 #[derive(Clone, Debug)]
 pub struct Run {
     pub kind: &'static str,

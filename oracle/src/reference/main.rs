@@ -1,5 +1,6 @@
-//! `reference < session` prints the answers that 01 gives; `reference --claims
-//! < session` prints, line by line, where param.rs is known to do otherwise.
+//! `reference < session` prints the answers that 01 and the landed requests of
+//! 02 give; `reference --claims < session` prints, line by line, where param.rs
+//! is known to do otherwise.
 
 use reference::param::Reference;
 use reference::session::{serve, Line};

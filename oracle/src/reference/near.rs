@@ -11,7 +11,7 @@ pub enum Near {
     Target(f64),
     /// An exponential's sample: likewise.
     Exponential(f64),
-    /// 01 has no limit here, under this name of docs/DIFFERENCES.md.
+    /// No limit here, under this name of docs/DIFFERENCES.md.
     Open(&'static str),
 }
 

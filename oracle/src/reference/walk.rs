@@ -1,4 +1,4 @@
-//! Rendering one block (01): the walk over the heads.
+//! Rendering one block: the walk over the heads.
 
 use crate::claims::{Claims, Reach, Run};
 use crate::near::{exponential_near, target_near, Near, Value};
@@ -46,6 +46,11 @@ fn flush(sample: &mut Value) {
     }
 }
 
+/// Such a ramp has its end value at every time, held or not (02, C-18).
+fn has_no_length(head: &Event, start: f64) -> bool {
+    head.is_ramp() && head.time - start <= 0.
+}
+
 #[derive(PartialEq)]
 enum Next {
     Stop,
@@ -62,9 +67,11 @@ impl Walk<'_> {
             self.steps += 1;
             let Some(head) = self.queue.first().cloned() else { break };
             let (from, waiting) = (self.buffer.len(), self.queue.len());
+            let no_length = self.last.is_some_and(|(start, _)| has_no_length(&head, start));
             let next = self.take(&head);
             let places = from..self.buffer.len();
-            if !places.is_empty() || self.queue.len() < waiting {
+            let runs = !places.is_empty() || self.queue.len() < waiting;
+            if runs && !no_length {
                 self.claims.runs.push(Run { kind: head.kind.name(), places });
             }
             if next == Next::Stop {
@@ -130,9 +137,12 @@ impl Walk<'_> {
     }
 
     /// The common end of the ramps: stop, or consume with the value at the end.
-    fn ramp(&mut self, head: &Event, at: impl Fn(f64) -> Value) -> Next {
+    /// Where the ramp has no length, the Rust has `sample` all the same.
+    fn ramp(&mut self, head: &Event, start: f64, sample: impl Fn(f64) -> Value) -> Next {
+        let arrived = Value { value: head.value, near: Near::Open("no-length") };
+        let at = |t: f64| if has_no_length(head, start) { arrived } else { sample(t) };
         let end = head.hold.unwrap_or(head.time);
-        self.fill(end, &at);
+        self.fill(end, at);
         if end >= self.facts.next {
             return self.stop(at(self.facts.next));
         }
@@ -147,7 +157,8 @@ impl Walk<'_> {
         let (start, Value { value: from, near }) = self.last_or_made();
         let near = if near == Near::Same { near } else { Near::Open("close-start") };
         let (duration, diff) = (head.time - start, head.value - from);
-        self.ramp(head, |t| Value { value: linear_sample(start, duration, from, diff, t), near })
+        let sample = |t: f64| linear_sample(start, duration, from, diff, t);
+        self.ramp(head, start, |t| Value { value: sample(t), near })
     }
 
     fn exponential(&mut self, head: &Event) -> Next {
@@ -163,7 +174,7 @@ impl Walk<'_> {
             self.queue[0] = Event { kind: Kind::Step, value: head.value, time, hold: None };
             return Next::GoOn;
         }
-        self.ramp(head, |t| {
+        self.ramp(head, start, |t| {
             let value = exponential_sample(start, duration, from, ratio, t);
             Value { value, near: exponential_near(ratio, (t - start) / duration, value) }
         })

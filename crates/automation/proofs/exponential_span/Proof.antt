@@ -1,6 +1,7 @@
 -- `exponential_span` meets its contract: a span. Assumes nothing.
 use mathlib.Core.Path.{_≡_, refl, _∙_}
 use mathlib.Core.List.{[]}
+use lib.IntN.{ℤ}
 use lib.Ieee as Ieee
 use lib.Ieee.{Float, binary64}
 use mir.Syntax.{w64}
@@ -9,7 +10,7 @@ use mir.Facts.{toZ-ofZ}
 use Rattle.rules.specs.declared.Event.{Event}
 use Rattle.rules.specs.declared.Event.the-variants as Event
 use Rattle.rules.specs.Queue.{alone}
-use Rattle.rules.specs.Samples.{ratioLog}
+use Rattle.rules.specs.Samples.{ratioLog, rampSample}
 use Rattle.rules.specs.Walk.{spanTurn}
 use Rattle.samples.specs.At.{exponentialAt}
 use Rattle.automation.specs.Walks.{walkIs}
@@ -28,8 +29,11 @@ module _ (k : tie.After-with-filled) where
   log-is : toZ w64 (ofZ w64 (k .before .before .before .before .before .before .before .ratio-log .result)) ≡ ratioLog (start .args .ratio)
   log-is = toZ-ofZ (record { sfits = k .before .before .before .before .before .before .before .ratio-log .ok }) ∙ k .before .before .before .before .before .before .before .ratio-log .ensures
 
-  abbrev sample : Float → Float
-  sample = exponentialAt (start .args .from .time) (Ieee.sub binary64 (start .args .time) (start .args .from .time)) (start .args .from .value) (toZ w64 (ofZ w64 (k .before .before .before .before .before .before .before .ratio-log .result)))
+  -- the ramp's sample, by its L
+  abbrev sample : ℤ → Float → Float
+  sample l =
+      let duration = Ieee.sub binary64 (start .args .time) (start .args .from .time) in
+      rampSample (start .args .value) duration (exponentialAt (start .args .from .time) duration (start .args .from .value) l)
 
   abbrev event : Event
   event = Event.Exponential (start .args .value) (start .args .time) (start .args .hold)
@@ -46,10 +50,10 @@ module _ (k : tie.After-with-filled) where
       (start .args .time)
       (start .args .value)
       (start .args .hold)
-      (exponentialAt (start .args .from .time) (Ieee.sub binary64 (start .args .time) (start .args .from .time)) (start .args .from .value) (ratioLog (start .args .ratio))))
+      (sample (ratioLog (start .args .ratio))))
       (start .args .value)
       (start .args .hold)
-      sample
+      (sample (toZ w64 (ofZ w64 (k .before .before .before .before .before .before .before .ratio-log .result))))
       (k .before .before .before .before .before .before .hold-or .result)
       (k .with-filled .result)
       (k .before .before .before .fill-exponential-ramp .last .1 .0)
