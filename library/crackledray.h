@@ -47,7 +47,7 @@ extern "C" {
 #endif
 
 /* Major, minor and patch, 8 bits each. */
-#define CRACKLEDRAY_VERSION 0x000300u
+#define CRACKLEDRAY_VERSION 0x000400u
 
 /* The same number, of the archive: not this one where header and archive do not belong together. */
 uint32_t crackledray_version(void);

@@ -18,9 +18,9 @@ use Rattle.rules.specs.declared.Head.{Head}
 use Rattle.rules.specs.declared.Finished.{Finished}
 use Rattle.rules.specs.Numbers.{plusZero, endPlace}
 use Rattle.rules.specs.Samples.{linearSample, exponentialSample, isRatio, ratioOf, targetSample, curveSample, lastNumber}
-use Rattle.rules.specs.Queue.{Waiting, alone}
+use Rattle.rules.specs.Queue.{Waiting, alone, holdOr}
 use Rattle.rules.specs.Walk as Rules
-use Rattle.rules.specs.Walk.{lastOr, startOf, stepTime, stepTurn, stepFrom, spanTurn, fill, withValues, holdOr, valueAtEnd, linearTurn, exponentialTurn, fromStart, targetTurn, targetRun, targetLeft, endByNext, endByHold, snaps, curveTurn}
+use Rattle.rules.specs.Walk.{lastOr, startOf, stepTime, stepTurn, stepFrom, spanTurn, fill, withValues, valueAtEnd, linearTurn, exponentialTurn, fromStart, targetTurn, targetRun, targetLeft, endByNext, endByHold, snaps, curveTurn}
 use Rattle.laws.proofs.Walks.{end-most}
 use Rattle.fills.specs.Filled.{Room, Filled, Flushed}
 use Rattle.automation.specs.declared.Walk.{Walk}

@@ -7,7 +7,7 @@ ghost use lib.Ieee.{binary64, add, sub};
 ghost use Rattle.rules.specs.Numbers.{storeLength};
 ghost use Rattle.rules.specs.Queue.{alone, lengthOf};
 ghost use Rattle.rules.specs.Samples.{isRatio, ratioLog, rampSample, targetSample, curveSample, lastNumber};
-ghost use Rattle.rules.specs.Walk.{stepTime, lastOr, holdOr, endByNext, endByHold, snaps as snapsTo, fromStart, spanTurn, targetLeft, targetRun, stepTurn, linearTurn, exponentialTurn, targetTurn, curveTurn, turnOf, turn};
+ghost use Rattle.rules.specs.Walk.{stepTime, lastOr, endByNext, endByHold, snaps as snapsTo, fromStart, spanTurn, targetLeft, targetRun, stepTurn, linearTurn, exponentialTurn, targetTurn, curveTurn, turnOf, turn};
 ghost use Rattle.rules.specs.Block.{walkFrom, valuesBefore};
 ghost use Rattle.samples.specs.At.{exponentialAt};
 ghost use Rattle.fills.specs.Filled.{Room};
@@ -22,6 +22,7 @@ use rules::Head;
 use rules::LastEvent;
 use rules::MaybeTime;
 use timeline::AudioParamEventTimeline;
+use timeline::hold_or;
 
 // What a walk carries from head to head, beside the block buffer, of which the first `filled` places are filled (at K-rate: the block's one value).
 pub struct Walk {
@@ -157,16 +158,6 @@ fn start_of(infos: BlockInfos, walk: Walk) -> Finished
             value: walk.intrinsic,
         },
         LastEvent::Done(finished) => finished,
-    }
-}
-
-// The hold time, else the event's own end.
-fn hold_or(hold: MaybeTime, time: f64) -> f64
-    ensures { λ r. ⌜ r ≡ holdOr hold time ⌝ }
-{
-    match hold {
-        MaybeTime::Missing => time,
-        MaybeTime::At(c) => c,
     }
 }
 

@@ -5,17 +5,18 @@ use mathlib.Core.List.{List, [], _∷_, _++_}
 use Prim.Native.Nat.{ℕ, zero, suc}
 use lib.Dec.{leb}
 use lib.ListN.{take, drop}
+use lib.Ieee as Ieee
 use lib.Ieee.{Float}
 use Rattle.rules.specs.declared.MaybeTime.{MaybeTime}
 use Rattle.rules.specs.declared.MaybeTime.the-variants as MaybeTime
 use Rattle.rules.specs.declared.Event.{Event}
 use Rattle.rules.specs.declared.Event.the-variants as Event
 use Rattle.rules.specs.Numbers.{isFinite, isZero}
-use Rattle.rules.specs.Queue.{filedUnder, putAt}
+use Rattle.rules.specs.Queue.{holdOr, filedUnder, putAt}
 use Rattle.rules.specs.Refusals.{isPeriod}
-use Rattle.rules.specs.Walk.{holdOr}
 use Rattle.laws.specs.Sound.{isNumber, isFromZero, isTaken, isTakenIfAny, isHeldBy, isSpan, fewestNumbers, isClear, isDue, all, areDue}
 use Rattle.laws.proofs.Tests.{both, and}
+use Rattle.laws.proofs.Order.{number-le}
 use Rattle.laws.proofs.Results.{from-zero-number, taken-number}
 
 -- ---- a test of every event
@@ -85,11 +86,16 @@ pub span-whole : (t : Float) (h : MaybeTime) → Span t h → isSpan t h ≡ tru
 unfolding isSpan
 span-whole t h s = and (s .time) (and (s .hold) (s .before))
 
--- a time from +0 on where it ends
-pub hold-taken : (h : MaybeTime) (t : Float) → isTakenIfAny h ≡ true → isTaken t ≡ true → isTaken (holdOr h t) ≡ true
+-- it is filed under a time as the calls take it, at or before its own
+pub span-taken : (t : Float) (h : MaybeTime) → Span t h → isTaken (holdOr h t) ≡ true
 unfolding isTakenIfAny holdOr
-hold-taken MaybeTime.Missing t k n = n
-hold-taken (MaybeTime.At c) t k n = k
+span-taken t MaybeTime.Missing s = s .time
+span-taken t (MaybeTime.At c) s = s .hold
+
+pub span-before : (t : Float) (h : MaybeTime) → Span t h → Ieee.le (holdOr h t) t ≡ true
+unfolding isHeldBy holdOr
+span-before t MaybeTime.Missing s = number-le t (taken-number t (s .time))
+span-before t (MaybeTime.At c) s = s .before
 
 pub step-parts : (v t : Float) → isClear (Event.Step v t) ≡ true → (isFinite v ≡ true) × (isFromZero t ≡ true)
 unfolding isClear
@@ -138,7 +144,7 @@ curve-parts s d n h k =
 pub clear-number : (e : Event) → isClear e ≡ true → isNumber (filedUnder e) ≡ true
 unfolding filedUnder
 clear-number (Event.Step v t) k = from-zero-number t (step-parts v t k .1)
-clear-number (Event.Linear v t h) k = taken-number t (linear-parts v t h k .1 .time)
-clear-number (Event.Exponential v t h) k = taken-number t (exponential-parts v t h k .2 .time)
+clear-number (Event.Linear v t h) k = taken-number (holdOr h t) (span-taken t h (linear-parts v t h k .1))
+clear-number (Event.Exponential v t h) k = taken-number (holdOr h t) (span-taken t h (exponential-parts v t h k .2))
 clear-number (Event.Target v t c h) k = taken-number t (target-parts v t c h k .time)
 clear-number (Event.Curve s d n h) k = taken-number s (curve-parts s d n h k .start)

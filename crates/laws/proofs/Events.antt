@@ -7,10 +7,14 @@ use native.Mathlib.Omega.{arith}
 use lib.ListN.{length, take, drop, getD, length-append, take-append-drop}
 use lib.Ieee as Ieee
 use lib.Ieee.{Float}
+use Rattle.rules.specs.declared.MaybeTime.{MaybeTime}
+use Rattle.rules.specs.declared.MaybeTime.the-variants as MaybeTime
 use Rattle.rules.specs.declared.Event.{Event}
 use Rattle.rules.specs.declared.Event.the-variants as Event
-use Rattle.rules.specs.Queue.{Waiting, alone, filedUnder, lengthOf, lengthsOf, eventsOf, attached, putAt, inserted, arrived, those, isBefore, cancelled, heldEvent, heldAt, isRamp, runsAt, heldIfRunning, lastHeld, isLater, isNotLater, heldBy, held}
+use Rattle.rules.specs.Queue.{Waiting, alone, holdOr, filedUnder, lengthOf, lengthsOf, eventsOf, attached, putAt, inserted, arrived, those, isBefore, cancelled, sooner, heldEvent, heldAt, isRamp, runsAt, heldIfRunning, lastHeld, isLater, isNotLater, heldBy, held}
 use Rattle.laws.specs.Search.{placeOf}
+use Rattle.laws.proofs.Tests.{never}
+use Rattle.laws.proofs.Order.{lt-le, le-not-lt}
 
 -- ---- lists
 
@@ -102,15 +106,37 @@ pub events-cancelled : (c : Float) (ws : List Waiting) → eventsOf (cancelled c
 unfolding cancelled isBefore
 events-cancelled c ws = events-those (λ e. Ieee.lt (filedUnder e) c) ws
 
--- ---- a hold: an event keeps its place and its numbers
+-- ---- a hold: what is no ramp keeps the time that it is filed under, a later ramp is filed under c; every event keeps its numbers
 
-pub held-filed : (c : Float) (e : Event) → filedUnder (heldEvent c e) ≡ filedUnder e
-unfolding heldEvent filedUnder
-held-filed c (Event.Step v t) = refl
-held-filed c (Event.Linear v t h) = refl
-held-filed c (Event.Exponential v t h) = refl
-held-filed c (Event.Target v t k h) = refl
-held-filed c (Event.Curve s d n h) = refl
+-- a target or a curve is no ramp
+pub runs-no-ramp : (c : Float) (e : Event) → runsAt c e ≡ true → isRamp e ≡ false
+unfolding runsAt isRamp
+runs-no-ramp c (Event.Step v t) r = refl
+runs-no-ramp c (Event.Linear v t k) r = never r
+runs-no-ramp c (Event.Exponential v t k) r = never r
+runs-no-ramp c (Event.Target v t k m) r = refl
+runs-no-ramp c (Event.Curve s d n k) r = refl
+
+pub held-filed : (c : Float) (e : Event) → isRamp e ≡ false → filedUnder (heldEvent c e) ≡ filedUnder e
+unfolding heldEvent filedUnder isRamp
+held-filed c (Event.Step v t) n = refl
+held-filed c (Event.Linear v t h) n = never (sym n)
+held-filed c (Event.Exponential v t h) n = never (sym n)
+held-filed c (Event.Target v t k h) n = refl
+held-filed c (Event.Curve s d n h) k = refl
+
+sooner-filed : (c t : Float) (h : MaybeTime) → Ieee.lt c (holdOr h t) ≡ true → holdOr (sooner h c) t ≡ c
+unfolding holdOr sooner
+sooner-filed c t MaybeTime.Missing l = refl
+sooner-filed c t (MaybeTime.At s) l = rw (le-not-lt c s (lt-le c s l))
+
+pub held-ramp-filed : (c : Float) (e : Event) → isRamp e ≡ true → Ieee.lt c (filedUnder e) ≡ true → filedUnder (heldEvent c e) ≡ c
+unfolding heldEvent filedUnder isRamp
+held-ramp-filed c (Event.Step v t) r l = never r
+held-ramp-filed c (Event.Linear v t h) r l = sooner-filed c t h l
+held-ramp-filed c (Event.Exponential v t h) r l = sooner-filed c t h l
+held-ramp-filed c (Event.Target v t k h) r l = never r
+held-ramp-filed c (Event.Curve s d n h) r l = never r
 
 pub held-size : (c : Float) (e : Event) → lengthOf (heldEvent c e) ≡ lengthOf e
 unfolding heldEvent lengthOf

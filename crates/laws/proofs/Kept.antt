@@ -20,7 +20,7 @@ use Rattle.rules.specs.declared.Refusal.the-variants as Refusal
 use Rattle.rules.specs.declared.Verdict.{Verdict}
 use Rattle.rules.specs.declared.Verdict.the-variants as Verdict
 use Rattle.rules.specs.Numbers.{mostEvents, storeLength, mostCount, plusZero, isFinite, isZero, isPositive, isNegative, takenTime, wide}
-use Rattle.rules.specs.Queue.{Waiting, filedUnder, lengthOf, lengthsOf, eventsOf, attached, inserted, arrived, targetEvent}
+use Rattle.rules.specs.Queue.{Waiting, holdOr, filedUnder, lengthOf, lengthsOf, eventsOf, attached, inserted, arrived, targetEvent}
 use Rattle.rules.specs.Refusals.{row, lowest, allFinite, areBounds, isPeriod, makingRows}
 use Rattle.rules.specs.Block.{Param, madeAs, made, calledAs, scheduledAs, Command, set, step, linear, exponential, target, curve, cancel, hold, called, Call, infosOf, answerOf, answeredAs, verdictOf, answered}
 use Rattle.laws.specs.Sound.{isFromZero, isTaken, isTakenIfAny, isHeldBy, isSpan, isClear, isDue, all, areDue, SoundQueue, isLastClear, hasPlayed, Sound}
@@ -129,12 +129,12 @@ module _ (p : Param) (store : List Float) (s : Sound p) where
   span-fit t g = and (scheduled-taken (p .queue) t g) refl
 
   linear-fit : (v t : Float) → isFinite v ≡ true → Scheduled (p .queue) t → Fit (Event.Linear v (takenTime t) MaybeTime.Missing) (p .queue)
-  unfolding lengthOf isClear filedUnder
+  unfolding lengthOf isClear filedUnder holdOr
   linear-fit v t n g = plain-fit (Event.Linear v (takenTime t) MaybeTime.Missing) t (and n (span-fit t g)) refl refl g
 
   exponential-fit : (v t : Float) → isFinite v ≡ true → isZero v ≡ false → Scheduled (p .queue) t
       → Fit (Event.Exponential v (takenTime t) MaybeTime.Missing) (p .queue)
-  unfolding lengthOf isClear filedUnder
+  unfolding lengthOf isClear filedUnder holdOr
   exponential-fit v t n z g =
       plain-fit (Event.Exponential v (takenTime t) MaybeTime.Missing) t (and n (and (ap not z) (span-fit t g))) refl refl g
 
@@ -186,7 +186,7 @@ module _ (p : Param) (store : List Float) (s : Sound p) where
       (λ h.
       let g = cancel-answered store c h in
       let k : isTaken (takenTime c) ≡ true = time-taken c (g .time) (g .from-zero) in
-      (held-sound (takenTime c) k waits waits-sound, held-due (takenTime c) k played waits (waits-sound .ordered) waits-due))
+      (held-sound (takenTime c) k waits waits-sound, held-due (takenTime c) k played waits waits-sound waits-due))
 
   -- ---- a block
 

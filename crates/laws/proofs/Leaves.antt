@@ -15,25 +15,20 @@ use Rattle.rules.specs.declared.LastEvent.{LastEvent}
 use Rattle.rules.specs.declared.LastEvent.the-variants as LastEvent
 use Rattle.rules.specs.declared.BlockInfos.{BlockInfos}
 use Rattle.rules.specs.Numbers.{mostEvents, storeLength, isFinite, isPositive, laterOf}
-use Rattle.rules.specs.Queue.{Waiting, filedUnder, isRamp, lengthOf, lengthsOf, headOf, eventsOf}
+use Rattle.rules.specs.Queue.{Waiting, holdOr, filedUnder, isRamp, lengthOf, lengthsOf, headOf, eventsOf}
 use Rattle.rules.specs.Refusals.{isPeriod}
-use Rattle.rules.specs.Walk.{Walk, holdOr, endByNext, endByHold, counted, withLast, withTurned, fill, withValues, withIntrinsic, consumed, startOf, lastOr}
+use Rattle.rules.specs.Walk.{Walk, endByNext, endByHold, counted, withLast, withTurned, fill, withValues, withIntrinsic, consumed, startOf, lastOr}
 use Rattle.rules.specs.Block.{target, restsFor, walkFrom, valuesBefore, renderedAs, rendered}
-use Rattle.laws.specs.Sound.{isNumber, isFromZero, isTakenIfAny, isHeldBy, isClear, areClear, goesBefore, inOrder, SoundQueue, isLastClear}
+use Rattle.laws.specs.Sound.{isNumber, isFromZero, isTakenIfAny, isClear, areClear, goesBefore, inOrder, SoundQueue, isLastClear}
 use Rattle.laws.proofs.Tests.{both, and}
-use Rattle.laws.proofs.Order.{le-le, not-lt, number-le}
+use Rattle.laws.proofs.Order.{not-lt}
 use Rattle.laws.proofs.Results.{add-number, from-zero-number, taken-parts, taken-number}
-use Rattle.laws.proofs.Clear.{all-parts, all-more, Span, hold-taken, CurveParts, linear-parts, exponential-parts, target-parts, curve-parts, clear-number}
+use Rattle.laws.proofs.Clear.{all-parts, all-more, span-taken, CurveParts, exponential-parts, target-parts, curve-parts, clear-number}
 use Rattle.laws.proofs.Ordered.{order-parts}
 use Rattle.laws.proofs.Queues.{suffix-sound}
 use Rattle.laws.proofs.Walks.{Timed, AllTimed, IfAny, Left, same, stepped, turned, snapped, Rest, none, here, later, Carries, walk-carries}
 
 -- ---- the queue
-
-earlier-before : (s t : Float) (q : List Event) → Ieee.le s t ≡ true → goesBefore t q ≡ true → goesBefore s q ≡ true
-unfolding goesBefore
-earlier-before s t [] h g = refl
-earlier-before s t (e ∷ q) h g = le-le s t (filedUnder e) h g
 
 -- the head becomes a step that is at or before the next event
 step-sound : (e : Event) (q : List Event) (v t : Float) → isFinite v ≡ true → isFromZero t ≡ true → goesBefore t q ≡ true → SoundQueue (e ∷ q) → SoundQueue (Event.Step v t ∷ q)
@@ -47,11 +42,6 @@ step-sound e q v t n z g s =
       clear = all-more isClear (Event.Step v t) q (and n z) (all-parts isClear e q (s .clear) .1);
       room = omega arith;
     }
-
-hold-before : (t : Float) (h : MaybeTime) → isNumber t ≡ true → isHeldBy t h ≡ true → Ieee.le (holdOr h t) t ≡ true
-unfolding isHeldBy holdOr
-hold-before t MaybeTime.Missing n k = number-le t n
-hold-before t (MaybeTime.At c) n k = k
 
 no-end-by-hold : (f : BlockInfos) (h e : MaybeTime) → endByHold f h e ≡ MaybeTime.Missing → e ≡ MaybeTime.Missing
 unfolding endByHold
@@ -79,20 +69,19 @@ no-end-by-next f t (x ∷ xs) n c k = go (isRamp (x .event)) (Ieee.lt (filedUnde
     go false true e k = let z : _≡_ {A = ℕ} 0 1 = cc in absurd (omega arith)
     go false false e k = not-lt (filedUnder (x .event)) (f .next) number n e
 
--- an exponential that becomes a step at its hold time is at or before its own
+-- an exponential that becomes a step does so at the time that it is filed under
 turned-sound : (v t : Float) (h : MaybeTime) (q : List Event) → SoundQueue (Event.Exponential v t h ∷ q) → SoundQueue (Event.Step v (holdOr h t) ∷ q)
 unfolding filedUnder
 turned-sound v t h q s =
     let a = exponential-parts v t h (all-parts isClear (Event.Exponential v t h) q (s .clear) .0) in
-    let l : Ieee.le (holdOr h t) t ≡ true = hold-before t h (taken-number t (a .2 .time)) (a .2 .before) in
     step-sound
     (Event.Exponential v t h)
     q
     v
     (holdOr h t)
     (a .0)
-    (taken-parts (holdOr h t) (hold-taken h t (a .2 .hold) (a .2 .time)) .1)
-    (earlier-before (holdOr h t) t q l (order-parts (Event.Exponential v t h) q (s .ordered) .0))
+    (taken-parts (holdOr h t) (span-taken t h (a .2)) .1)
+    (order-parts (Event.Exponential v t h) q (s .ordered) .0)
     s
 
 -- a target that snaps becomes a step at the next block time
@@ -141,9 +130,6 @@ unfolding isTakenIfAny
 any-number MaybeTime.Missing k = tt
 any-number (MaybeTime.At c) k = taken-number c k
 
-span-end : (t : Float) (h : MaybeTime) → Span t h → Number (holdOr h t)
-span-end t h s = taken-number (holdOr h t) (hold-taken h t (s .hold) (s .time))
-
 -- start + duration, or the hold time
 curve-end : (s d : Float) (n : ℕ) (h : MaybeTime) → CurveParts s d n h → Number (holdOr h (Ieee.add binary64 s d))
 unfolding isPeriod
@@ -158,9 +144,8 @@ curve-end s d n h p = go h (any-number h (p .hold))
 
 clear-timed : (e : Event) → isClear e ≡ true → Timed Number e
 clear-timed (Event.Step v t) h = record { filed = clear-number (Event.Step v t) h; ends = tt }
-clear-timed (Event.Linear v t k) h = record { filed = clear-number (Event.Linear v t k) h; ends = span-end t k (linear-parts v t k h .1) }
-clear-timed (Event.Exponential v t k) h =
-    record { filed = clear-number (Event.Exponential v t k) h; ends = span-end t k (exponential-parts v t k h .2) }
+clear-timed (Event.Linear v t k) h = record { filed = clear-number (Event.Linear v t k) h; ends = tt }
+clear-timed (Event.Exponential v t k) h = record { filed = clear-number (Event.Exponential v t k) h; ends = tt }
 clear-timed (Event.Target v t c k) h =
     record { filed = clear-number (Event.Target v t c k) h; ends = any-number k (target-parts v t c k h .hold) }
 clear-timed (Event.Curve s d n k) h =

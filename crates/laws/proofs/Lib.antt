@@ -13,6 +13,7 @@ pub mod Counts
 pub mod Store
 pub mod Leaves
 pub mod Kept
+pub mod Held
 pub mod Shapes
 pub mod Places
 pub mod Within

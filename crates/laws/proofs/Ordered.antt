@@ -3,8 +3,9 @@ use mathlib.Core.Path.{_≡_, refl, sym, ap, _∙_}
 use mathlib.Core.Bool.{Bool, true, false, cond, not, _||_}
 use mathlib.Core.List.{List, [], _∷_, _++_}
 use Prim.Native.Nat.{ℕ, zero, suc, _≤_, _<_}
-use lib.ListN.{length, take, drop, getD, drop-of-length-le}
-use lib.Seq.{drop-cons, take-suc}
+use native.Mathlib.Omega.{arith}
+use lib.ListN.{length, take, drop, getD, drop-of-length-le, take-append-drop}
+use lib.Seq.{drop-cons, take-length, take-suc}
 use borrow.Author.Tests.{not-true}
 use lib.Ieee as Ieee
 use lib.Ieee.{Float}
@@ -14,8 +15,8 @@ use Rattle.laws.specs.Sound.{isNumber, isClear, areClear, goesBefore, in
 use Rattle.laws.specs.Search.{placeOf, isLaterThan, isNotBefore, firstLater, firstNotBefore}
 use Rattle.laws.proofs.Tests.{clash, both, and}
 use Rattle.laws.proofs.Order.{le-le, lt-le, not-lt, lt-not-le, le-lt, lt-le-lt}
-use Rattle.laws.proofs.Clear.{all-parts, clear-number}
-use Rattle.laws.proofs.Events.{events-one, events-take, events-append, events-get, place-events}
+use Rattle.laws.proofs.Clear.{all-parts, all-take, clear-number}
+use Rattle.laws.proofs.Events.{events-one, events-take, events-drop, events-append, events-get, events-those, place-events, alones, events-alones}
 
 -- ---- in order, and from a time on
 
@@ -117,6 +118,21 @@ put-order e (d ∷ q) n c o =
 pub arrived-order : (e : Event) (q : List Event) → isNumber (filedUnder e) ≡ true → areClear q ≡ true → inOrder q ≡ true → inOrder (arrived e q) ≡ true
 unfolding arrived
 arrived-order e q n c o = rw (behind-is-first-later (filedUnder e) q n c o) (put-order e q n c o)
+
+-- an event goes behind all of equal or smaller time; where all are, it is the last
+
+abbrev pub AllUpTo : Float → List Event → Type 0
+AllUpTo t [] = Unit {0}
+AllUpTo t (e ∷ es) = (Ieee.le (filedUnder e) t ≡ true) × AllUpTo t es
+
+behind-all : (t : Float) (q : List Event) → AllUpTo t q → placeBehind t q ≡ length q
+unfolding placeBehind hasNotLater
+behind-all t [] h = refl
+behind-all t (e ∷ q) h = rw (h .0, behind-all t q (h .1))
+
+pub arrives-last : (e : Event) (q : List Event) → AllUpTo (filedUnder e) q → arrived e q ≡ q ++ (e ∷ [])
+unfolding arrived putAt
+arrives-last e q h = rw (behind-all (filedUnder e) q h, take-length q, drop-of-length-le q {i = length q} (omega arith))
 
 -- ---- the place behind, looked for from the back: the last event decides, or is as if not there
 
@@ -228,6 +244,14 @@ module _ (c : Float) where
       go true = refl
       go false = refl
 
+-- what is not later than c is at or before it
+all-up-to : (c : Float) (ws : List Waiting) → isNumber c ≡ true → areClear (eventsOf ws) ≡ true → AllPass (isNotLater c) ws → AllUpTo c (eventsOf ws)
+unfolding eventsOf isNotLater isLater
+all-up-to c [] n k h = tt
+all-up-to c (w ∷ ws) n k h =
+    let a = all-parts isClear (w .event) (eventsOf ws) k in
+    (not-lt c (filedUnder (w .event)) n (clear-number (w .event) (a .0)) (not-true (Ieee.lt c (filedUnder (w .event))) (h .0)), all-up-to c ws n (a .1) (h .1))
+
 module _ (c : Float) (ws : List Waiting) (o : inOrder (eventsOf ws) ≡ true) where
   later-cut : Cut (isLater c) ws
   unfolding isLater
@@ -241,6 +265,16 @@ module _ (c : Float) (ws : List Waiting) (o : inOrder (eventsOf ws) ≡ true) wh
   pub early-is : those (isNotLater c) ws ≡ take (firstLater c (eventsOf ws)) ws
   unfolding firstLater isLater isLaterThan isNotLater
   early-is = cut-prefix (isNotLater c) (isLater c) (λ w. refl) ws later-cut ∙ ap (λ (k : ℕ). take k ws) (place-events (isLaterThan c) ws)
+
+  -- and together they are the queue
+  pub early-late : those (isNotLater c) ws ++ those (isLater c) ws ≡ ws
+  early-late = rw (early-is, late-is) (take-append-drop (firstLater c (eventsOf ws)) ws)
+
+  pub early-up-to : isNumber c ≡ true → areClear (eventsOf ws) ≡ true → AllUpTo c (eventsOf (those (isNotLater c) ws))
+  early-up-to n k = all-up-to c (those (isNotLater c) ws) n clear (those-pass (isNotLater c) ws)
+    where
+      clear : areClear (eventsOf (those (isNotLater c) ws)) ≡ true
+      clear = rw (early-is, events-take) (all-take isClear (firstLater c (eventsOf ws)) (eventsOf ws) k)
 
   -- those before c are the first ones
   pub cancelled-is : cancelled c ws ≡ take (firstNotBefore c (eventsOf ws)) ws
@@ -277,6 +311,21 @@ module _ (c : Float) (ws : List Waiting) (o : inOrder (eventsOf ws) ≡ true) wh
       let k : ℕ = firstLater c (eventsOf ws) in
       let e : getD (eventsOf ws) k d ≡ getD ws k (alone d) .event = events-get ws k (alone d) in
       rw (held-ramp (alone d) l (sym (ap isRamp e) ∙ r), events-append (take k ws) (heldAt c (getD ws k (alone d)) ∷ []), events-one, events-take, e)
+
+-- the same cut of events
+pub events-cut : (t : Float) (q : List Event) → inOrder q ≡ true
+    → (take (firstLater t q) q ≡ those (λ e. not (isLaterThan t e)) q) × (drop (firstLater t q) q ≡ those (isLaterThan t) q)
+unfolding isLater isNotLater isLaterThan
+events-cut t q o =
+    let ws : List Waiting = alones q in
+    let is : eventsOf ws ≡ q = events-alones q in
+    let k : ℕ = firstLater t (eventsOf ws) in
+    let u : inOrder (eventsOf ws) ≡ true = rw is o in
+    let early : take k (eventsOf ws) ≡ those (λ e. not (Ieee.lt t (filedUnder e))) (eventsOf ws) =
+    sym (events-take k ws) ∙ ap eventsOf (sym (early-is t ws u)) ∙ events-those (λ e. not (Ieee.lt t (filedUnder e))) ws in
+    let late : drop k (eventsOf ws) ≡ those (λ e. Ieee.lt t (filedUnder e)) (eventsOf ws) =
+    sym (events-drop k ws) ∙ ap eventsOf (sym (late-is t ws u)) ∙ events-those (λ e. Ieee.lt t (filedUnder e)) ws in
+    (rw is at early, rw is at late)
 
 -- only the last one of these can be held
 pub last-held-is : (c : Float) (xs : List Waiting) (x : Waiting) → lastHeld c (xs ++ (x ∷ [])) ≡ xs ++ (heldIfRunning c x ∷ [])

@@ -1,10 +1,10 @@
 -- The queue's invariant is kept by an arrival, a cancel and a hold. Assumes nothing.
 use mathlib.Core.Path.{_≡_, refl, sym, ap, _∙_}
-use mathlib.Core.Bool.{Bool, true, false, cond}
+use mathlib.Core.Bool.{Bool, true, false, cond, not}
 use mathlib.Core.List.{List, [], _∷_, _++_}
 use Prim.Native.Nat.{ℕ, suc, _+_, _≤_, _<_}
 use native.Mathlib.Omega.{arith}
-use lib.ListN.{length, take, drop, length-take, length-drop, take-append-drop}
+use lib.ListN.{length, take, drop, length-take, length-drop, length-append}
 use lib.Seq.{take-append-seam, append-snoc}
 use lib.Ieee as Ieee
 use lib.Ieee.{Float}
@@ -13,14 +13,15 @@ use Rattle.rules.specs.declared.MaybeTime.the-variants as MaybeTime
 use Rattle.rules.specs.declared.Event.{Event}
 use Rattle.rules.specs.declared.Event.the-variants as Event
 use Rattle.rules.specs.Numbers.{mostEvents, storeLength}
-use Rattle.rules.specs.Queue.{Waiting, filedUnder, isRamp, lengthOf, lengthsOf, eventsOf, putAt, placeBehind, arrived, those, cancelled, sooner, heldEvent, heldAt, runsAt, heldIfRunning, lastHeld, isLater, isNotLater, heldBy, held}
+use Rattle.rules.specs.Queue.{Waiting, holdOr, filedUnder, isRamp, lengthOf, lengthsOf, eventsOf, putAt, placeBehind, arrived, those, cancelled, sooner, heldEvent, heldAt, runsAt, heldIfRunning, lastHeld, isLater, isNotLater, heldBy, held}
 use Rattle.laws.specs.Sound.{isTaken, isTakenIfAny, isHeldBy, isSpan, isClear, isDue, all, areClear, areDue, goesBefore, inOrder, SoundQueue}
-use Rattle.laws.specs.Search.{firstLater, firstNotBefore}
-use Rattle.laws.proofs.Tests.{never, both, and}
-use Rattle.laws.proofs.Order.{lt-le}
-use Rattle.laws.proofs.Events.{events-take, lengths-split, put-length, put-lengths, held-filed, held-size}
-use Rattle.laws.proofs.Clear.{all-parts, all-more, all-take, all-drop, all-put, Span, span-whole, linear-parts, exponential-parts, target-parts, curve-parts, clear-number}
-use Rattle.laws.proofs.Ordered.{order-take, order-drop, arrived-order, AllPass, those-pass, cancelled-is, early-is, late-is}
+use Rattle.laws.specs.Search.{isLaterThan, firstNotBefore}
+use Rattle.laws.proofs.Tests.{clash, both, and}
+use Rattle.laws.proofs.Results.{taken-parts, taken-number}
+use Rattle.laws.proofs.Order.{le-le, lt-le}
+use Rattle.laws.proofs.Events.{events-one, events-append, events-take, lengths-append, lengths-split, put-length, put-lengths, runs-no-ramp, held-filed, held-ramp-filed, held-size}
+use Rattle.laws.proofs.Clear.{all-parts, all-more, all-last, all-take, all-drop, all-put, finite-due, Span, span-whole, span-before, linear-parts, exponential-parts, target-parts, curve-parts, clear-number}
+use Rattle.laws.proofs.Ordered.{order-take, order-drop, behind-is-first-later, arrived-order, events-cut, AllUpTo, arrives-last, early-up-to, AllPass, those-pass, cancelled-is, early-late}
 
 -- ---- a part of the queue
 
@@ -62,6 +63,15 @@ arrived-sound e q c l r s =
       room = omega arith;
     }
 
+-- it goes behind all of equal or smaller time, and before all later ones
+pub arrived-behind : (e : Event) (q : List Event) → isClear e ≡ true → SoundQueue q
+    → arrived e q ≡ those (λ d. not (isLaterThan (filedUnder e) d)) q ++ (e ∷ those (isLaterThan (filedUnder e)) q)
+unfolding arrived putAt
+arrived-behind e q c s =
+    let t : Float = filedUnder e in
+    let cut = events-cut t q (s .ordered) in
+    rw (behind-is-first-later t q (clear-number e c) (s .clear) (s .ordered), cut .0, cut .1)
+
 -- ---- a cancel
 
 pub cancelled-sound : (c : Float) (ws : List Waiting) → SoundQueue (eventsOf ws) → SoundQueue (eventsOf (cancelled c ws))
@@ -73,7 +83,7 @@ pub cancelled-due : (played : Bool) (c : Float) (ws : List Waiting) → inOrder 
 cancelled-due played c ws o d =
     rw (cancelled-is c ws o, events-take) (all-take (isDue played) (firstNotBefore c (eventsOf ws)) (eventsOf ws) d)
 
--- ---- a hold: an event is held where it stands
+-- ---- a hold: what is no ramp is held where it stands
 
 -- d stands for e in a queue
 pub record Like (e d : Event) : Type 0 where
@@ -147,10 +157,12 @@ module _ (c : Float) (taken : isTaken c ≡ true) where
       go true = unfold isHeldBy in k
       go false = unfold isHeldBy in l
 
-  sooner-span : (t : Float) (h : MaybeTime) → Ieee.le c t ≡ true → Span t h → isSpan t (sooner h c) ≡ true
-  sooner-span t h l s = span-whole t (sooner h c) record { time = s .time; hold = sooner-taken h (s .hold); before = sooner-held t h l (s .before) }
+  sooner-span : (t : Float) (h : MaybeTime) → Ieee.le c (holdOr h t) ≡ true → Span t h → isSpan t (sooner h c) ≡ true
+  sooner-span t h l s =
+      let before : Ieee.le c t ≡ true = le-le c (holdOr h t) t l (span-before t h s) in
+      span-whole t (sooner h c) record { time = s .time; hold = sooner-taken h (s .hold); before = sooner-held t h before (s .before) }
 
-  -- a ramp is held before its own time
+  -- a ramp that is held where it is filed under a later time is held before its own
   held-clear : (e : Event) → (isRamp e ≡ true → Ieee.le c (filedUnder e) ≡ true) → isClear e ≡ true → isClear (heldEvent c e) ≡ true
   unfolding heldEvent isClear isRamp filedUnder
   held-clear (Event.Step v t) l k = k
@@ -161,24 +173,15 @@ module _ (c : Float) (taken : isTaken c ≡ true) where
   held-clear (Event.Curve s d n h) l k =
       let a = curve-parts s d n h k in and (a .start) (and (a .duration) (and (sooner-taken h (a .hold)) (a .enough)))
 
-  held-like : (e : Event) → (isRamp e ≡ true → Ieee.le c (filedUnder e) ≡ true) → Like e (heldEvent c e)
-  held-like e l = record { filed = held-filed c e; size = held-size c e; clear = held-clear e l }
-
-  -- a target or a curve is no ramp
-  runs-no-ramp : (e : Event) → runsAt c e ≡ true → isRamp e ≡ true → ⊥
-  unfolding runsAt isRamp
-  runs-no-ramp (Event.Step v t) r h = never r
-  runs-no-ramp (Event.Linear v t k) r h = never r
-  runs-no-ramp (Event.Exponential v t k) r h = never r
-  runs-no-ramp (Event.Target v t k m) r h = never h
-  runs-no-ramp (Event.Curve s d n k) r h = never h
+  held-like : (e : Event) → isRamp e ≡ false → Like e (heldEvent c e)
+  held-like e n = record { filed = held-filed c e n; size = held-size c e; clear = held-clear e (λ r. clash r n) }
 
   running-like : (w : Waiting) → Like (w .event) (heldIfRunning c w .event)
   unfolding heldIfRunning
   running-like w = go (runsAt c (w .event)) refl
     where
       go : (b : Bool) → runsAt c (w .event) ≡ b → Like (w .event) (cond b (heldAt c w) w .event)
-      go true r = unfold heldAt in held-like (w .event) (λ h. absurd (runs-no-ramp (w .event) r h))
+      go true r = unfold heldAt in held-like (w .event) (runs-no-ramp c (w .event) r)
       go false r = like-self (w .event)
 
   last-likes : (ws : List Waiting) → Likes (eventsOf ws) (eventsOf (lastHeld c ws))
@@ -187,42 +190,65 @@ module _ (c : Float) (taken : isTaken c ≡ true) where
   last-likes (w ∷ []) = more (running-like w) none
   last-likes (w ∷ x ∷ ws) = more (like-self (w .event)) (last-likes (x ∷ ws))
 
-  ramp-likes : (ws : List Waiting) (x : Waiting) → (isRamp (x .event) ≡ true → Ieee.le c (filedUnder (x .event)) ≡ true)
-      → Likes (eventsOf (ws ++ (x ∷ []))) (eventsOf (ws ++ (heldAt c x ∷ [])))
-  unfolding eventsOf heldAt
-  ramp-likes [] x l = more (held-like (x .event) l) none
-  ramp-likes (w ∷ ws) x l = more (like-self (w .event)) (ramp-likes ws x l)
+  -- ---- a hold: a later ramp is filed under c
 
-  -- what is kept by a part in front and by like events in their places, a hold keeps
-  module _ (P : List Event → Type 0) (part : (n : ℕ) (q : List Event) → P q → P (take n q)) (like : (p q : List Event) → Likes p q → P p → P q) where
+  -- it stands where it would if it arrived now: behind all of equal or smaller time
+  pub held-arrives : (ws : List Waiting) (x : Waiting) → isRamp (x .event) ≡ true → Ieee.lt c (filedUnder (x .event)) ≡ true → AllUpTo c (eventsOf ws)
+      → eventsOf (ws ++ (heldAt c x ∷ [])) ≡ arrived (heldEvent c (x .event)) (eventsOf ws)
+  unfolding heldAt
+  held-arrives ws x r l up =
+      let is : filedUnder (heldEvent c (x .event)) ≡ c = held-ramp-filed c (x .event) r l in
+      rw (events-append ws (heldAt c x ∷ []), events-one, arrives-last (heldEvent c (x .event)) (eventsOf ws) (rw is up))
+
+  -- What is kept by a part in front, by like events in their places and by a ramp that arrives anew, a hold keeps.
+  module _ (P : List Event → Type 0) (part : (n : ℕ) (q : List Event) → P q → P (take n q)) (like : (p q : List Event) → Likes p q → P p → P q)
+      (moves : (q : List Event) (e : Event) → Ieee.lt c (filedUnder e) ≡ true → isRamp e ≡ true → P (q ++ (e ∷ [])) → P (arrived (heldEvent c e) q)) where
     front : (ws xs : List Waiting) → P (eventsOf (ws ++ xs)) → P (eventsOf ws)
     front ws xs h =
         let e : take (length ws) (eventsOf (ws ++ xs)) ≡ eventsOf ws = sym (events-take (length ws) (ws ++ xs)) ∙ ap eventsOf (take-append-seam ws xs) in
         rw e at (part (length ws) (eventsOf (ws ++ xs)) h)
 
-    -- by the events at or before c and those later, the first of these being later
-    held-by-keeps : (early late : List Waiting) → AllPass (isLater c) late → P (eventsOf (early ++ late)) → P (eventsOf (heldBy c early late))
+    -- by the events at or before c and those later
+    held-by-keeps : (early late : List Waiting) → AllUpTo c (eventsOf early) → AllPass (isLater c) late → P (eventsOf (early ++ late)) → P (eventsOf (heldBy c early late))
     unfolding heldBy isLater
-    held-by-keeps early [] a h = like (eventsOf early) _ (last-likes early) (front early [] h)
-    held-by-keeps early (x ∷ late) a h = go (isRamp (x .event))
+    held-by-keeps early [] up a h = like (eventsOf early) _ (last-likes early) (front early [] h)
+    held-by-keeps early (x ∷ late) up a h = go (isRamp (x .event)) refl
       where
-        with-ramp : P (eventsOf (early ++ (x ∷ [])))
-        with-ramp = front (early ++ (x ∷ [])) late (rw (append-snoc early x late) h)
+        with-ramp : P (eventsOf early ++ (x .event ∷ []))
+        with-ramp = rw (events-append early (x ∷ []), events-one) at (front (early ++ (x ∷ [])) late (rw (append-snoc early x late) h))
 
-        go : (b : Bool) → P (eventsOf (cond b (early ++ (heldAt c x ∷ [])) (lastHeld c early)))
-        go true = like (eventsOf (early ++ (x ∷ []))) _ (ramp-likes early x (λ r. lt-le c (filedUnder (x .event)) (a .0))) with-ramp
-        go false = like (eventsOf early) _ (last-likes early) (front early (x ∷ late) h)
+        go : (b : Bool) → isRamp (x .event) ≡ b → P (eventsOf (cond b (early ++ (heldAt c x ∷ [])) (lastHeld c early)))
+        go true r = rw (held-arrives early x r (a .0) up) (moves (eventsOf early) (x .event) (a .0) r with-ramp)
+        go false r = like (eventsOf early) _ (last-likes early) (front early (x ∷ late) h)
 
-    held-keeps : (ws : List Waiting) → inOrder (eventsOf ws) ≡ true → P (eventsOf ws) → P (eventsOf (held c ws))
+    held-keeps : (ws : List Waiting) → inOrder (eventsOf ws) ≡ true → areClear (eventsOf ws) ≡ true → P (eventsOf ws) → P (eventsOf (held c ws))
     unfolding held
-    held-keeps ws o h =
-        let k : ℕ = firstLater c (eventsOf ws) in
-        let e : those (isNotLater c) ws ++ those (isLater c) ws ≡ ws = rw (early-is c ws o, late-is c ws o) (take-append-drop k ws) in
-        held-by-keeps (those (isNotLater c) ws) (those (isLater c) ws) (those-pass (isLater c) ws) (rw e h)
+    held-keeps ws o k h =
+        held-by-keeps (those (isNotLater c) ws) (those (isLater c) ws) (early-up-to c ws o (taken-number c taken) k) (those-pass (isLater c) ws) (rw (early-late c ws o) h)
+
+  moves-sound : (q : List Event) (e : Event) → Ieee.lt c (filedUnder e) ≡ true → isRamp e ≡ true → SoundQueue (q ++ (e ∷ [])) → SoundQueue (arrived (heldEvent c e) q)
+  unfolding lengthsOf
+  moves-sound q e l r s =
+      let k = both (areClear q) (isClear e) (rw (all-last isClear q e) at (s .clear)) in
+      let few : length q + 1 ≤ mostEvents = rw length-append at (s .few) in
+      let room : lengthsOf q + lengthsOf (e ∷ []) ≤ storeLength = rw (lengths-append q (e ∷ [])) at (s .room) in
+      arrived-sound (heldEvent c e) q
+      (held-clear e (λ r. lt-le c (filedUnder e) l) (k .1))
+      (omega arith)
+      (rw (held-size c e) (omega arith))
+      (rw (take-append-seam q (e ∷ [])) at (prefix-sound (length q) (q ++ (e ∷ [])) s))
 
   pub held-sound : (ws : List Waiting) → SoundQueue (eventsOf ws) → SoundQueue (eventsOf (held c ws))
-  held-sound ws s = held-keeps SoundQueue prefix-sound likes-sound ws (s .ordered) s
+  held-sound ws s = held-keeps SoundQueue prefix-sound likes-sound moves-sound ws (s .ordered) (s .clear) s
 
-  pub held-due : (played : Bool) (ws : List Waiting) → inOrder (eventsOf ws) ≡ true → areDue played (eventsOf ws) ≡ true → areDue played (eventsOf (held c ws)) ≡ true
-  held-due played ws o d =
-      held-keeps (λ q. areDue played q ≡ true) (all-take (isDue played)) (likes-all (isDue played) (λ e d m h. same-due played e d (m .filed) h)) ws o d
+  module _ (played : Bool) where
+    moves-due : (q : List Event) (e : Event) → Ieee.lt c (filedUnder e) ≡ true → isRamp e ≡ true → areDue played (q ++ (e ∷ [])) ≡ true
+        → areDue played (arrived (heldEvent c e) q) ≡ true
+    unfolding arrived
+    moves-due q e l r h =
+        let k = both (areDue played q) (isDue played e) (rw (all-last (isDue played) q e) at h) in
+        all-put (isDue played) _ (heldEvent c e) q (finite-due played (heldEvent c e) (rw (held-ramp-filed c e r l) (taken-parts c taken .0))) (k .0)
+
+    pub held-due : (ws : List Waiting) → SoundQueue (eventsOf ws) → areDue played (eventsOf ws) ≡ true → areDue played (eventsOf (held c ws)) ≡ true
+    held-due ws s d =
+        held-keeps (λ q. areDue played q ≡ true) (all-take (isDue played)) (likes-all (isDue played) (λ e d m h. same-due played e d (m .filed) h)) moves-due ws (s .ordered) (s .clear) d

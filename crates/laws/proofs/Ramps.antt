@@ -23,8 +23,8 @@ use Rattle.rules.specs.declared.BlockInfos.{BlockInfos}
 use Rattle.rules.specs.declared.Verdict.the-variants as Verdict
 use Rattle.rules.specs.Numbers.{plusZero, isFinite, isZero}
 use Rattle.rules.specs.Samples.{hasNoLength, rampSample, linearSample, exponentialSample, isRatio, ratioOf}
-use Rattle.rules.specs.Queue.{Waiting, attached, eventsOf, headOf, filedUnder, isRamp}
-use Rattle.rules.specs.Walk.{Walk, Walked, Turn, stop, on, walked, next, ended, turn, turnOf, linearTurn, exponentialTurn, spanTurn, stepTurn, stepFrom, stepTime, targetTurn, targetRun, targetLeft, endByNext, endByHold, snaps, curveTurn, startOf, lastOr, holdOr, counted, withLast, withIntrinsic, withValues, fill, consumed}
+use Rattle.rules.specs.Queue.{Waiting, attached, eventsOf, headOf, holdOr, filedUnder, isRamp}
+use Rattle.rules.specs.Walk.{Walk, Walked, Turn, stop, on, walked, next, ended, turn, turnOf, linearTurn, exponentialTurn, spanTurn, stepTurn, stepFrom, stepTime, targetTurn, targetRun, targetLeft, endByNext, endByHold, snaps, curveTurn, startOf, lastOr, counted, withLast, withIntrinsic, withValues, fill, consumed}
 use Rattle.rules.specs.Block.{Param, Call, infosOf, restsFor, walkFrom, valuesBefore, renderedAs, rendered, answerOf, answered, verdictOf}
 use Rattle.laws.specs.Sound.{isClear, areClear, Sound}
 use Rattle.laws.proofs.Tests.{never}
@@ -141,11 +141,15 @@ module _ (p : Param) (sound : Sound p) (u v t : Float) (e : Event) (rest : List 
 
 -- ---- after every block, whatever the events before were: where a ramp of no length waits first, the intrinsic value is its end value
 
--- of a head, the last event and the intrinsic value
+-- of a ramp to v at t, the last event and the intrinsic value
+abbrev pub EndsThere : Float → Float → LastEvent → Float → Type 0
+EndsThere v t last i = (l : Finished) → last ≡ LastEvent.Done l → hasNoLength (Ieee.sub binary64 t (l .time)) ≡ true → i ≡ v
+
+-- of a head
 abbrev pub AtItsEnd : Event → LastEvent → Float → Type 0
 AtItsEnd (Event.Step v t) last i = Unit {0}
-AtItsEnd (Event.Linear v t h) last i = (l : Finished) → last ≡ LastEvent.Done l → hasNoLength (Ieee.sub binary64 t (l .time)) ≡ true → i ≡ v
-AtItsEnd (Event.Exponential v t h) last i = (l : Finished) → last ≡ LastEvent.Done l → hasNoLength (Ieee.sub binary64 t (l .time)) ≡ true → i ≡ v
+AtItsEnd (Event.Linear v t h) last i = EndsThere v t last i
+AtItsEnd (Event.Exponential v t h) last i = EndsThere v t last i
 AtItsEnd (Event.Target v t c h) last i = Unit {0}
 AtItsEnd (Event.Curve s d n h) last i = Unit {0}
 
@@ -176,23 +180,19 @@ module _ (f : BlockInfos) (x : Waiting) (n : Head) where
     run-at-end w target sample MaybeTime.Missing = by-cond (snaps target (sample (f .next))) (stops tt) (stops (no-ramp _ _))
     run-at-end w target sample (MaybeTime.At end) = goes tt
 
-  -- from the event l on, which is the last one
-  linear-at-end : (l : Finished) (v t : Float) (h : MaybeTime) → x .event ≡ Event.Linear v t h
-      → AtItsEnd (x .event) (LastEvent.Done l) (linearSample l v (Ieee.sub binary64 t (l .time)) (f .next))
-  linear-at-end l v t h is = rw is (λ k e none. rw (linear-ended l v (Ieee.sub binary64 t (l .time)) (rw (same-last e) none)))
-
-  exponential-at-end : (l : Finished) (v t : Float) (h : MaybeTime) → x .event ≡ Event.Exponential v t h
-      → AtItsEnd (x .event) (LastEvent.Done l) (exponentialSample l v (Ieee.sub binary64 t (l .time)) (f .next))
-  exponential-at-end l v t h is = rw is (λ k e none. rw (exponential-ended l v (Ieee.sub binary64 t (l .time)) (rw (same-last e) none)))
+  -- from the event l on, which is the last one: either ramp's sample
+  ends-there : (sample : Finished → Float → Float → Float → Float) → ((l : Finished) (v d : Float) → hasNoLength d ≡ true → sample l v d ≡ (λ s. v))
+      → (l : Finished) (v t : Float) → EndsThere v t (LastEvent.Done l) (sample l v (Ieee.sub binary64 t (l .time)) (f .next))
+  ends-there sample ended l v t k e none = ap (λ (s : Float → Float). s (f .next)) (ended l v (Ieee.sub binary64 t (l .time)) (rw (same-last e) none))
 
   turn-at-end : (w : Walk) (e : Event) → x .event ≡ e → Turns StopsAtEnd Whatever (turnOf f w x n e)
   unfolding turnOf linearTurn exponentialTurn targetTurn curveTurn withLast
   turn-at-end w (Event.Step v t) is = step-at-end w v t
-  turn-at-end w (Event.Linear v t h) is = span-at-end (withLast (startOf f w) w) t v h _ (linear-at-end (startOf f w) v t h is)
+  turn-at-end w (Event.Linear v t h) is = span-at-end (withLast (startOf f w) w) t v h _ (rw is (ends-there linearSample linear-ended (startOf f w) v t))
   turn-at-end w (Event.Exponential v t h) is =
       by-cond
       (isRatio (ratioOf (startOf f w) v))
-      (span-at-end (withLast (startOf f w) w) t v h _ (exponential-at-end (startOf f w) v t h is))
+      (span-at-end (withLast (startOf f w) w) t v h _ (rw is (ends-there exponentialSample exponential-ended (startOf f w) v t)))
       (step-at-end _ v (holdOr h t))
   turn-at-end w (Event.Target v t c h) is =
       by-cond (Ieee.lt (f .next) t) (stops (rw is tt)) (run-at-end (λ last i. rw is tt) _ v _ (endByHold f h (endByNext f t n)))

@@ -8,8 +8,8 @@ use Rattle.rules.specs.declared.Event.{Event}
 use Rattle.rules.specs.declared.Event.the-variants as Event
 use Rattle.rules.specs.declared.BlockInfos.{BlockInfos}
 use Rattle.rules.specs.Samples.{isRatio, ratioOf}
-use Rattle.rules.specs.Queue.{Waiting, alone, headOf}
-use Rattle.rules.specs.Walk.{Walk, stop, on, turn, turnOf, next, ended, walked, counted, withLast, withTurned, exponentialTurn, startOf, holdOr}
+use Rattle.rules.specs.Queue.{Waiting, alone, headOf, holdOr}
+use Rattle.rules.specs.Walk.{Walk, stop, on, turn, turnOf, next, ended, walked, counted, withLast, withTurned, exponentialTurn, startOf}
 
 module _ (f : BlockInfos) (w : Walk) where
   pub walk-empty : walked f w [] ≡ ended f (counted w) []

@@ -17,8 +17,8 @@ use Rattle.rules.specs.declared.LastEvent.{LastEvent}
 use Rattle.rules.specs.declared.BlockInfos.{BlockInfos}
 use Rattle.rules.specs.Numbers.{isZero, laterOf, placeFrom, periodsTo, limit, endPlace}
 use Rattle.rules.specs.Samples.{isRatio, ratioOf}
-use Rattle.rules.specs.Queue.{Waiting, alone, filedUnder, isRamp, headOf}
-use Rattle.rules.specs.Walk.{Walk, Walked, Turn, stop, on, turn, turnOf, next, ended, fill, withValues, withIntrinsic, withLast, withTurned, consumed, walked, counted, stepFrom, stepTurn, stepTime, spanTurn, linearTurn, exponentialTurn, flushedFor, targetLeft, targetRun, targetTurn, endByNext, endByHold, curveTurn, holdOr, snaps, startOf}
+use Rattle.rules.specs.Queue.{Waiting, alone, holdOr, filedUnder, isRamp, headOf}
+use Rattle.rules.specs.Walk.{Walk, Walked, Turn, stop, on, turn, turnOf, next, ended, fill, withValues, withIntrinsic, withLast, withTurned, consumed, walked, counted, stepFrom, stepTurn, stepTime, spanTurn, linearTurn, exponentialTurn, flushedFor, targetLeft, targetRun, targetTurn, endByNext, endByHold, curveTurn, snaps, startOf}
 use Rattle.rules.specs.Block.{restsFor, rendered, renderedAs, walkFrom, valuesBefore}
 
 -- ---- an end place is at most the count
@@ -55,7 +55,7 @@ pub by-cond : {S : Walk → Waiting → Type 0} {G : Walk → Type 0} (b : Bool)
 by-cond true g h = g
 by-cond false g h = h
 
--- ---- T of every time that an event can end with
+-- ---- T of every time that an event can end with: the one that it is filed under, and those beside
 
 abbrev pub IfAny : (Float → Type 0) → MaybeTime → Type 0
 IfAny T MaybeTime.Missing = Unit {0}
@@ -63,8 +63,8 @@ IfAny T (MaybeTime.At t) = T t
 
 abbrev pub EndsAt : (Float → Type 0) → Event → Type 0
 EndsAt T (Event.Step v t) = Unit {0}
-EndsAt T (Event.Linear v t h) = T (holdOr h t)
-EndsAt T (Event.Exponential v t h) = T (holdOr h t)
+EndsAt T (Event.Linear v t h) = Unit {0}
+EndsAt T (Event.Exponential v t h) = Unit {0}
 EndsAt T (Event.Target v t c h) = IfAny T h
 EndsAt T (Event.Curve s d n h) = T (holdOr h (Ieee.add binary64 s d))
 
@@ -163,12 +163,12 @@ module _ (f : BlockInfos) (T : Float → Type 0) (P D E G : Walk → Type 0) (no
     turn-of-carries : (e : Event) → x .event ≡ e → Timed T e → HeadTimed T n → (w : Walk) → D w → Turns (Stops f E x n) G (turnOf f w x n e)
     unfolding turnOf linearTurn exponentialTurn targetTurn curveTurn filedUnder
     turn-of-carries (Event.Step v t) is m g w h = step-carries w v t (m .filed) (stepped is) (k .stays _ h)
-    turn-of-carries (Event.Linear v t e) is m g w h = span-carries _ t v e _ (m .ends) (k .stays _ (k .last w h))
+    turn-of-carries (Event.Linear v t e) is m g w h = span-carries _ t v e _ (m .filed) (k .stays _ (k .last w h))
     turn-of-carries (Event.Exponential v t e) is m g w h =
         by-cond
         (isRatio (ratioOf (startOf f w) v))
-        (span-carries _ t v e _ (m .ends) (k .stays _ (k .last w h)))
-        (step-carries _ v (holdOr e t) (m .ends) (turned is) (k .turns _ (k .last w h)))
+        (span-carries _ t v e _ (m .filed) (k .stays _ (k .last w h)))
+        (step-carries _ v (holdOr e t) (m .filed) (turned is) (k .turns _ (k .last w h)))
     turn-of-carries (Event.Target v t c e) is m g w h =
         by-cond
         (Ieee.lt (f .next) t)

@@ -1,3 +1,4 @@
 pub mod Sound
 pub mod Search
 pub mod Fits
+pub mod Held

@@ -38,7 +38,7 @@ unfoldable pub isTakenIfAny : MaybeTime → Bool
 isTakenIfAny MaybeTime.Missing = true
 isTakenIfAny (MaybeTime.At t) = isTaken t
 
--- A ramp is held before its own time. So an exponential that becomes a step at its hold time keeps its place in the queue.
+-- A ramp is held at or before its own time: a hold at c finds it where it is filed under a later one.
 unfoldable pub isHeldBy : Float → MaybeTime → Bool
 isHeldBy t MaybeTime.Missing = true
 isHeldBy t (MaybeTime.At c) = Ieee.le c t

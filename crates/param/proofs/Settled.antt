@@ -1,5 +1,6 @@
--- What the contracts settle: two results that one allows for the same input are the same; and a refused call changes nothing. Assumes nothing.
-use mathlib.Core.Path.{_≡_, refl, sym, ap, _∙_}
+-- What the contracts settle: two results that one allows for the same input are the same; a refused call changes nothing; and a hold leaves a queue in order.
+-- Assumes nothing.
+use mathlib.Core.Path.{_≡_, refl, sym, ap, subst, _∙_}
 use mathlib.Core.Bool.{true}
 use mathlib.Core.List.{List}
 use Prim.Native.Nat.{ℕ}
@@ -12,15 +13,17 @@ use Rattle.rules.specs.declared.Refusal.{Refusal}
 use Rattle.rules.specs.declared.Verdict.the-variants as Verdict
 use Rattle.rules.specs.declared.Event.{Event}
 use Rattle.rules.specs.declared.Verdict.{Verdict}
-use Rattle.rules.specs.Numbers.{mostEvents}
+use Rattle.rules.specs.Numbers.{mostEvents, takenTime}
 use Rattle.rules.specs.Queue.{Waiting}
 use Rattle.rules.specs.Block.{Param, madeAs, Called, calledAs, scheduledAs, Command, set, step, linear, exponential, target, curve, cancel, hold, called}
 use Rattle.laws.proofs.Tests.{and}
 use Rattle.laws.proofs.Tested.{passes-test}
+use Rattle.laws.specs.Held.{StillInOrder}
+use Rattle.laws.proofs.Held.{when-a-hold-moves-a-time as held-in-order}
 use Rattle.param.specs.declared.AudioParam.{AudioParam}
 use Rattle.param.specs.declared.Outcome.{Outcome}
 use Rattle.param.specs.Param.{paramOf, structOf, SoundParam, nothingMade, isWhole, Makes, Answers, Restores}
-use Rattle.param.proofs.Calls.{whole}
+use Rattle.param.proofs.Calls.{whole, struct-back}
 
 same : {a b : Outcome} → a .verdict ≡ b .verdict → a .param ≡ b .param → a ≡ b
 same {a} {b} v p = rw (v, p)
@@ -79,3 +82,10 @@ pub refused-same : {p : AudioParam} {store after : List Float} {c : Command} {r 
 refused-same {p} {store} {after} {c} s a h =
     let same = refused-called (paramOf p) store c (sym (a .verdict) ∙ h) in
     (a .param ∙ ap structOf (same .0) ∙ sym (whole p s), a .left ∙ same .1)
+
+-- ---- 02, C-15: "When a hold moves a time, the queue is still in order, equal times as before."
+
+pub when-a-hold-moves-a-time : {p : AudioParam} {store after : List Float} {c : Float} {r : Outcome} → SoundParam p → Answers p store (hold c) r after
+    → StillInOrder (takenTime c) (paramOf p .queue) (paramOf (r .param) .queue)
+when-a-hold-moves-a-time {p} {store} {c = c} s a =
+    subst (λ (q : Param). StillInOrder (takenTime c) (paramOf p .queue) (q .queue)) (sym (ap paramOf (a .param) ∙ struct-back _)) (held-in-order (paramOf p) store c (s .sound))

@@ -30,9 +30,11 @@ pub fn take(q: AudioParamEventTimeline, played: bool) -> Taken
     while i < len {
         let s = q.slots[i];
         let e = s.event;
-        let time = filed_under(e);
         let size = length_of(e);
-        let sound = is_clear(e) & is_due(played, time);
+        let clear = is_clear(e);
+        // behind `is_clear`: before it, the compiler copies the queue once more
+        let time = filed_under(e);
+        let sound = clear & is_due(played, time);
         let fits = (before <= time) & (sound & (size <= AudioParam::STORE - used));
         if !fits {
             return Taken {

@@ -41,7 +41,7 @@ pub fn is_taken_if_any(t: MaybeTime) -> bool
     }
 }
 
-// A ramp is held before its own time.
+// A ramp is held at or before its own time.
 fn is_held_by(time: f64, hold: MaybeTime) -> bool
     ensures { λ r. ⌜ r ≡ isHeldBy time hold ⌝ }
 {

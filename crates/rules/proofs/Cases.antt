@@ -1,7 +1,7 @@
 -- A second table beside the bench sheet, which has no target, no true exponential, no second hold and no walk at K-rate. What is expected does not come from the
 -- definitions: C1 to C26 are from a program written from document 01 alone, C27 to C49 from an interpreter of 01 in exact fractions by the second reader, who had read
--- the definitions, C50 to C52 from a program written from 01 and 02 (cases-02), C53 and what 02 changes of C39 by hand; the oracle's reference interpreter gives the
--- same. Under each case's name stand its calls in plain numbers.
+-- the definitions, C50 to C52 and C54 to C58 from a program written from 01 and 02 (cases-02), C53, C59, C60 and what 02 changes of C39 by hand; the oracle's
+-- reference interpreter gives the same. Under each case's name stand its calls in plain numbers.
 use mathlib.Core.Path.{_≡_, refl}
 use mathlib.Core.Bool.{true, false}
 use mathlib.Core.List.{List, [], _∷_, _++_}
@@ -1399,6 +1399,177 @@ cases =
           ∷ ok
           ∷ output 2 n5 false (n8 ∷ n8 ∷ [])
           ∷ state n8 (MaybeTime.At (fin false 4258857765019067 (pos 972))) (done (fin false 1096029571879907 (pos 974)) n8) [] true
+          ∷ [];
+    }
+    -- ---- 02, C-15: a held ramp is filed under its hold time (C54 to C58 are cases-02's)
+    -- C54 a cancel between the hold time and the ramp's own time leaves the ramp, and so does a hold there; an earlier hold moves it
+    -- make -10 0 10 a; step 0 0; linear 8 8; hold 2; cancel 5; state; hold 5; state; hold 1; state
+    ∷ record {
+      acts =
+          make (bounds minus10 n0 n10) Rate.A
+          ∷ ask (step n0 n0)
+          ∷ ask (linear n8 n8)
+          ∷ ask (hold n2)
+          ∷ ask (cancel n5)
+          ∷ look
+          ∷ ask (hold n5)
+          ∷ look
+          ∷ ask (hold n1)
+          ∷ look
+          ∷ [];
+      said =
+          ok
+          ∷ ok
+          ∷ ok
+          ∷ ok
+          ∷ ok
+          ∷ state n0 MaybeTime.Missing LastEvent.None (alone (Event.Step n0 n0) ∷ alone (Event.Linear n8 n8 (MaybeTime.At n2)) ∷ []) true
+          ∷ ok
+          ∷ state n0 MaybeTime.Missing LastEvent.None (alone (Event.Step n0 n0) ∷ alone (Event.Linear n8 n8 (MaybeTime.At n2)) ∷ []) true
+          ∷ ok
+          ∷ state n0 MaybeTime.Missing LastEvent.None (alone (Event.Step n0 n0) ∷ alone (Event.Linear n8 n8 (MaybeTime.At n1)) ∷ []) true
+          ∷ [];
+    }
+    -- C55 "equal times as before": the ramp stays behind what already stood at the hold time, and what comes later for that time goes behind the ramp
+    -- make -10 0 10 a; step 0 0; step 3 2; linear 8 8; hold 2; step 5 2; state; block 0 1 6
+    ∷ record {
+      acts =
+          make (bounds minus10 n0 n10) Rate.A
+          ∷ ask (step n0 n0)
+          ∷ ask (step n3 n2)
+          ∷ ask (linear n8 n8)
+          ∷ ask (hold n2)
+          ∷ ask (step n5 n2)
+          ∷ look
+          ∷ block n0 n1 6 6 []
+          ∷ [];
+      said =
+          ok
+          ∷ ok
+          ∷ ok
+          ∷ ok
+          ∷ ok
+          ∷ ok
+          ∷ state n0 MaybeTime.Missing LastEvent.None (alone (Event.Step n0 n0) ∷ alone (Event.Step n3 n2) ∷ alone (Event.Linear n8 n8 (MaybeTime.At n2)) ∷ alone (Event.Step n5 n2) ∷ []) true
+          ∷ output 5 n0 false (n0 ∷ n0 ∷ n5 ∷ n5 ∷ n5 ∷ n5 ∷ [])
+          ∷ [];
+    }
+    -- C56 a set goes behind a ramp held at 0
+    -- make -10 0 10 a; linear 8 8; hold 0; set 5; state; block 0 1 2
+    ∷ record {
+      acts =
+          make (bounds minus10 n0 n10) Rate.A
+          ∷ ask (linear n8 n8)
+          ∷ ask (hold n0)
+          ∷ ask (set n5)
+          ∷ look
+          ∷ block n0 n1 2 2 []
+          ∷ [];
+      said =
+          ok
+          ∷ ok
+          ∷ ok
+          ∷ ok
+          ∷ state n0 MaybeTime.Missing LastEvent.None (alone (Event.Linear n8 n8 (MaybeTime.At n0)) ∷ alone (Event.Step n5 n0) ∷ []) true
+          ∷ output 3 n0 false (n5 ∷ n5 ∷ [])
+          ∷ [];
+    }
+    -- C57 an exponential that becomes a step does so at the time that it is filed under, its hold time
+    -- make -10 0 10 a; step 0 0; exponential 5 8; hold 2; step 7 4; state; block 0 1 3; state; block 3 1 3
+    ∷ record {
+      acts =
+          make (bounds minus10 n0 n10) Rate.A
+          ∷ ask (step n0 n0)
+          ∷ ask (exponential n5 n8)
+          ∷ ask (hold n2)
+          ∷ ask (step n7 n4)
+          ∷ look
+          ∷ block n0 n1 3 3 []
+          ∷ look
+          ∷ block n3 n1 3 3 []
+          ∷ [];
+      said =
+          ok
+          ∷ ok
+          ∷ ok
+          ∷ ok
+          ∷ ok
+          ∷ state n0 MaybeTime.Missing LastEvent.None (alone (Event.Step n0 n0) ∷ alone (Event.Exponential n5 n8 (MaybeTime.At n2)) ∷ alone (Event.Step n7 n4) ∷ []) true
+          ∷ output 4 n0 false (n0 ∷ n0 ∷ n5 ∷ [])
+          ∷ state n5 (MaybeTime.At n0) (done n2 n5) (alone (Event.Step n7 n4) ∷ []) true
+          ∷ output 2 n5 false (n5 ∷ n7 ∷ n7 ∷ [])
+          ∷ [];
+    }
+    -- C58 02's example: a ramp to 8 held at 2, then a step for 5, which plays behind the held part; the slope still uses 8
+    -- make -10 0 10 a; step 0 0; linear 8 8; hold 2; step 7 5; state; block 0 1 8
+    ∷ record {
+      acts =
+          make (bounds minus10 n0 n10) Rate.A
+          ∷ ask (step n0 n0)
+          ∷ ask (linear n8 n8)
+          ∷ ask (hold n2)
+          ∷ ask (step n7 n5)
+          ∷ look
+          ∷ block n0 n1 8 8 []
+          ∷ [];
+      said =
+          ok
+          ∷ ok
+          ∷ ok
+          ∷ ok
+          ∷ ok
+          ∷ state n0 MaybeTime.Missing LastEvent.None (alone (Event.Step n0 n0) ∷ alone (Event.Linear n8 n8 (MaybeTime.At n2)) ∷ alone (Event.Step n7 n5) ∷ []) true
+          ∷ output 4 n0 false (n0 ∷ n1 ∷ n2 ∷ n2 ∷ n2 ∷ n7 ∷ n7 ∷ n7 ∷ [])
+          ∷ [];
+    }
+    -- C59 a cancel at the hold time takes the ramp, and the value returns; one behind it left both
+    -- make -10 0 10 a; step 1 0; linear 9 8; block 0 1 2; hold 4; cancel 5; state; cancel 4; state
+    ∷ record {
+      acts =
+          make (bounds minus10 n0 n10) Rate.A
+          ∷ ask (step n1 n0)
+          ∷ ask (linear n9 n8)
+          ∷ block n0 n1 2 2 []
+          ∷ ask (hold n4)
+          ∷ ask (cancel n5)
+          ∷ look
+          ∷ ask (cancel n4)
+          ∷ look
+          ∷ [];
+      said =
+          ok
+          ∷ ok
+          ∷ ok
+          ∷ output 2 n0 false (n1 ∷ n2 ∷ [])
+          ∷ ok
+          ∷ ok
+          ∷ state n3 (MaybeTime.At n0) (done n0 n1) (alone (Event.Linear n9 n8 (MaybeTime.At n4)) ∷ []) true
+          ∷ ok
+          ∷ state n1 (MaybeTime.At n0) (done n0 n1) [] true
+          ∷ [];
+    }
+    -- C60 a ramp that is sent behind a held one starts from its hold; a second hold holds that one, and leaves the first as it is
+    -- make -10 0 10 a; step 0 0; linear 8 8; hold 2; linear 4 6; hold 4; state; block 0 1 6
+    ∷ record {
+      acts =
+          make (bounds minus10 n0 n10) Rate.A
+          ∷ ask (step n0 n0)
+          ∷ ask (linear n8 n8)
+          ∷ ask (hold n2)
+          ∷ ask (linear n4 n6)
+          ∷ ask (hold n4)
+          ∷ look
+          ∷ block n0 n1 6 6 []
+          ∷ [];
+      said =
+          ok
+          ∷ ok
+          ∷ ok
+          ∷ ok
+          ∷ ok
+          ∷ ok
+          ∷ state n0 MaybeTime.Missing LastEvent.None (alone (Event.Step n0 n0) ∷ alone (Event.Linear n8 n8 (MaybeTime.At n2)) ∷ alone (Event.Linear n4 n6 (MaybeTime.At n4)) ∷ []) true
+          ∷ output 4 n0 false (n0 ∷ n1 ∷ n2 ∷ fin false 5 (negsuc 0) ∷ n3 ∷ n3 ∷ [])
           ∷ [];
     }
     ∷ []

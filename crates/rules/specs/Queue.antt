@@ -17,11 +17,17 @@ use Rattle.rules.specs.Numbers.{plusZero, storeLength, isZero}
 
 -- ---- an event: "a step, linear ramp, exponential ramp, target or curve, each with its own numbers"
 
--- The time that an event is filed under. Arrival, cancel, hold and a target's look at the next event all read this one.
+-- a hold time where there is one, else t
+unfoldable pub holdOr : MaybeTime → Float → Float
+holdOr MaybeTime.Missing t = t
+holdOr (MaybeTime.At c) t = c
+
+-- The time that an event is filed under: "A held ramp must be filed under its hold time, while its slope still uses" its own (02, C-15); all else under its own
+-- time. Arrival, cancel, hold and a target's look at the next event all read this one.
 unfoldable pub filedUnder : Event → Float
 filedUnder (Event.Step v t) = t
-filedUnder (Event.Linear v t h) = t
-filedUnder (Event.Exponential v t h) = t
+filedUnder (Event.Linear v t h) = holdOr h t
+filedUnder (Event.Exponential v t h) = holdOr h t
 filedUnder (Event.Target v t c h) = t
 filedUnder (Event.Curve s d n h) = s
 
@@ -103,7 +109,7 @@ inserted w ws = putAt (placeBehind (filedUnder (w .event)) (eventsOf ws)) w ws
 unfoldable pub arrived : Event → List Event → List Event
 arrived e es = putAt (placeBehind (filedUnder e) es) e es
 
--- ---- cancel at c
+-- ---- cancel at c: an event's time is the one that it is filed under, here and in a hold
 
 -- those of a list that pass a test, in their order
 unfoldable pub those : {A : Type 0} → (A → Bool) → List A → List A
@@ -173,7 +179,7 @@ lastHeld c [] = []
 lastHeld c (w ∷ []) = heldIfRunning c w ∷ []
 lastHeld c (w ∷ x ∷ ws) = w ∷ lastHeld c (x ∷ ws)
 
--- by the first event later than c: "if it is a ramp, it gets hold time c", and alone of the later ones it stays (DECISIONS, reading 6)
+-- by the first event later than c: "if it is a ramp, it gets hold time c", and alone of the later ones it stays
 unfoldable pub heldBy : Float → List Waiting → List Waiting → List Waiting
 heldBy c ws [] = lastHeld c ws
 heldBy c ws (x ∷ xs) = cond (isRamp (x .event)) (ws ++ (heldAt c x ∷ [])) (lastHeld c ws)

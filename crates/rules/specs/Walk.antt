@@ -17,7 +17,7 @@ use Rattle.rules.specs.declared.LastEvent.the-variants as LastEvent
 use Rattle.rules.specs.declared.BlockInfos.{BlockInfos}
 use Rattle.rules.specs.Numbers.{plusZero, isZero, isSubnormal, magnitude, laterOf, endPlace, filled}
 use Rattle.rules.specs.Samples.{linearSample, exponentialSample, ratioOf, isRatio, targetSample, curveSample, lastNumber}
-use Rattle.rules.specs.Queue.{Waiting, alone, filedUnder, isRamp, headOf}
+use Rattle.rules.specs.Queue.{Waiting, alone, holdOr, filedUnder, isRamp, headOf}
 
 -- ---- what a walk carries
 
@@ -82,11 +82,6 @@ lastOr f v (LastEvent.Done l) = l
 unfoldable pub startOf : BlockInfos → Walk → Finished
 startOf f w = lastOr f (w .intrinsic) (w .last)
 
--- "End is the hold time, else the event time."
-unfoldable pub holdOr : MaybeTime → Float → Float
-holdOr MaybeTime.Missing t = t
-holdOr (MaybeTime.At c) t = c
-
 -- ---- step
 
 -- "Time 0 becomes the block time."
@@ -109,8 +104,8 @@ unfoldable pub valueAtEnd : MaybeTime → Float → (Float → Float) → Float
 valueAtEnd MaybeTime.Missing v sample = v
 valueAtEnd (MaybeTime.At c) v sample = sample c
 
--- x is the head, t where it ends if not held and v the value with which it then ends, sample its value at each time: "Fill to the end place.
--- End ≥ next block time: intrinsic becomes the value at next block time; stop. Otherwise consume"
+-- x is the head, t where it ends if not held and v the value with which it then ends, sample its value at each time: "End is the hold time, else the event time. Fill
+-- to the end place. End ≥ next block time: intrinsic becomes the value at next block time; stop. Otherwise consume"
 unfoldable pub spanTurn : BlockInfos → Walk → Waiting → Float → Float → MaybeTime → (Float → Float) → Turn
 spanTurn f w x t v h sample =
     let end = holdOr h t in

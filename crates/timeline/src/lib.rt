@@ -4,7 +4,7 @@ ghost use mathlib.Core.List.{[]};
 ghost use Prim.Native.Nat.{_≤_, _<_, _^_};
 ghost use lib.ListN.{take, drop, set};
 ghost use Rattle.rules.specs.Numbers.{mostEvents};
-ghost use Rattle.rules.specs.Queue.{filedUnder, isRamp, lengthOf, lengthsOf, placeBehind, putAt, arrived, those, heldEvent, runsAt, lastHeld, held, eventsOf, attached};
+ghost use Rattle.rules.specs.Queue.{holdOr, filedUnder, isRamp, lengthOf, lengthsOf, placeBehind, putAt, arrived, those, heldEvent, runsAt, lastHeld, held, eventsOf, attached};
 ghost use Rattle.rules.specs.Queue as rule;
 ghost use Rattle.laws.specs.Search.{isLaterThan};
 ghost use Rattle.timeline.specs.Timeline.{blankEvent, slotOf, made, waiting, Neat, firstOf, headAs, beginning, stays};
@@ -26,14 +26,24 @@ pub struct AudioParamEventTimeline {
     pub len: usize,
 }
 
-// The time that an event is filed under.
+// The hold time, else the time given.
+pub fn hold_or(hold: MaybeTime, time: f64) -> f64
+    ensures { λ r. ⌜ r ≡ holdOr hold time ⌝ }
+{
+    match hold {
+        MaybeTime::Missing => time,
+        MaybeTime::At(c) => c,
+    }
+}
+
+// The time that an event is filed under: a held ramp's hold time, else its own.
 pub fn filed_under(e: Event) -> f64
     ensures { λ r. ⌜ r ≡ filedUnder e ⌝ }
 {
     match e {
         Event::Step { time, .. } => time,
-        Event::Linear { time, .. } => time,
-        Event::Exponential { time, .. } => time,
+        Event::Linear { time, hold, .. } => hold_or(hold, time),
+        Event::Exponential { time, hold, .. } => hold_or(hold, time),
         Event::Target { time, .. } => time,
         Event::Curve { start, .. } => start,
     }

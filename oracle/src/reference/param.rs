@@ -180,7 +180,7 @@ impl Reference {
         let refused = refusal(&rows);
         if refused.is_none() {
             self.read_store();
-            if cancel(&mut self.queue, c) {
+            if cancel(&mut self.queue, c, &mut self.claims) {
                 self.claims.note(Reach::Ends, "no-last-event", self.last.is_none());
                 self.intrinsic = self.last.map_or(self.intrinsic, |(_, v)| v);
             }

@@ -1,5 +1,5 @@
 //! The waiting events: arriving, cancel, cancel-and-hold (01, "Events as they
-//! arrive"), with the claims of what param.rs does differently there.
+//! arrive"; 02, C-15), with the claims of what param.rs does differently there.
 
 use crate::claims::{Claims, Reach};
 
@@ -24,7 +24,7 @@ impl Kind {
     }
 }
 
-#[derive(Clone, Debug)]
+#[derive(Clone, Debug, PartialEq)]
 pub struct Event {
     pub kind: Kind,
     pub value: f32,
@@ -37,6 +37,18 @@ impl Event {
         matches!(self.kind, Kind::Linear | Kind::Exponential)
     }
 
+    /// The time it is filed under: "A held ramp must be filed under its hold time",
+    /// all else under its own. "The order of the queue is by that. Cancel, hold, ..
+    /// and the target's look at the next event read this time" (02, C-15).
+    pub fn filed(&self) -> f64 {
+        self.hold.filter(|_| self.is_ramp()).unwrap_or(self.time)
+    }
+
+    /// The same in param.rs, whose queue goes by the event's own time.
+    fn own(&self) -> f64 {
+        self.time
+    }
+
     /// Start and end, if it is a curve.
     fn span(&self) -> Option<(f64, f64)> {
         match &self.kind {
@@ -46,38 +58,53 @@ impl Event {
     }
 }
 
-/// Behind all events of equal or smaller time.
-pub fn insert(queue: &mut Vec<Event>, event: Event) {
-    let place = queue.iter().take_while(|e| e.time <= event.time).count();
-    queue.insert(place, event);
+/// The time that events are filed under: 02's, or param.rs's.
+type Filing = fn(&Event) -> f64;
+
+/// The place behind all events of equal or smaller time.
+fn place(queue: &[Event], time: f64, filing: Filing) -> usize {
+    queue.iter().take_while(|e| filing(e) <= time).count()
 }
 
-/// What the Rust's intake does beside that.
+pub fn insert(queue: &mut Vec<Event>, event: Event) {
+    queue.insert(place(queue, event.filed(), Event::filed), event);
+}
+
+/// What the Rust's intake does otherwise. (Where a held ramp is inside a new curve
+/// by its own time alone, it panics too; that curve's place is another anyway.)
 pub fn claim_arrival(queue: &[Event], event: &Event, no_last: bool, claims: &mut Claims) {
     let inside = |t: f64, (start, end): (f64, f64)| start < t && t < end;
-    let in_mine = |e: &Event| event.span().is_some_and(|span| inside(e.time, span));
+    let mine = |t: f64| event.span().is_some_and(|span| inside(t, span));
+    let in_mine = |e: &Event| mine(e.own()) && mine(e.filed());
     let in_theirs = |e: &Event| e.span().is_some_and(|span| inside(event.time, span));
     let clash = queue.iter().any(|e| in_mine(e) || (event.span().is_none() && in_theirs(e)));
     claims.note(Reach::Ends, "curve-inside", clash);
+    let place = |filing: Filing| place(queue, event.time, filing);
+    let elsewhere = place(Event::filed) != place(Event::own);
+    claims.note(Reach::Ends, "held-ramp", !clash && elsewhere);
     let target = matches!(event.kind, Kind::Target { .. });
     let first = queue.is_empty() && (target || (event.is_ramp() && no_last));
     claims.note(Reach::Ends, "implicit-step", first);
 }
 
 /// Removes every event at or after c; true if the head was a ramp and went.
-pub fn cancel(queue: &mut Vec<Event>, c: f64) -> bool {
-    let ramp_went = queue.first().is_some_and(|e| e.is_ramp() && e.time >= c);
-    queue.retain(|e| e.time < c);
+pub fn cancel(queue: &mut Vec<Event>, c: f64, claims: &mut Claims) -> bool {
+    let stays = |e: &Event| e.filed() < c;
+    let rust_stays = |e: &Event| e.own() < c;
+    let other = queue.iter().any(|e| stays(e) != rust_stays(e));
+    claims.note(Reach::Ends, "held-ramp", other);
+    let ramp_went = queue.first().is_some_and(|e| e.is_ramp() && !stays(e));
+    queue.retain(stays);
     ramp_went
 }
 
 /// The event that a hold at c is for, by 01.
-fn held_place(queue: &[Event], c: f64) -> Option<usize> {
-    let later = queue.iter().position(|e| e.time > c);
-    if let Some(i) = later.filter(|i| queue[*i].is_ramp()) {
-        return Some(i);
+fn held_place(queue: &[Event], c: f64, filing: Filing) -> Option<usize> {
+    let later = place(queue, c, filing);
+    if queue.get(later).is_some_and(Event::is_ramp) {
+        return Some(later);
     }
-    let before = later.unwrap_or(queue.len()).checked_sub(1)?;
+    let before = later.checked_sub(1)?;
     let held = match (&queue[before].kind, queue[before].span()) {
         (Kind::Target { .. }, _) => true,
         (_, Some((_, end))) => c < end,
@@ -86,27 +113,27 @@ fn held_place(queue: &[Event], c: f64) -> Option<usize> {
     held.then_some(before)
 }
 
+/// An existing hold time only moves earlier. The ramp just held is filed under
+/// c from then on: it is not among the later events, which go.
 pub fn hold(queue: &mut Vec<Event>, c: f64, claims: &mut Claims) {
-    claim_hold(queue, c, claims);
-    let held = held_place(queue, c);
-    if let Some(i) = held {
+    let before = queue.clone();
+    if let Some(i) = held_place(queue, c, Event::filed) {
         let earlier = queue[i].hold.map_or(c, |h| h.min(c));
         queue[i].hold = Some(earlier);
     }
-    let mut place = 0;
-    queue.retain(|e| {
-        place += 1;
-        e.time <= c || (held == Some(place - 1) && e.is_ramp())
-    });
+    queue.retain(|e| e.filed() <= c);
+    if *queue != rust_hold(&before, c) {
+        claim_hold(&before, c, claims);
+    }
 }
 
 /// The event that param.rs marks: it takes no later event at the largest f64,
 /// and looks at the earlier one only where there is no later one.
 fn rust_held_place(queue: &[Event], c: f64) -> Option<usize> {
-    if let Some(i) = queue.iter().position(|e| e.time > c && e.time < f64::MAX) {
+    if let Some(i) = queue.iter().position(|e| e.own() > c && e.own() < f64::MAX) {
         return queue[i].is_ramp().then_some(i);
     }
-    let before = queue.iter().rposition(|e| e.time <= c)?;
+    let before = queue.iter().rposition(|e| e.own() <= c)?;
     let held = match (&queue[before].kind, queue[before].span()) {
         (Kind::Target { .. }, _) => true,
         (_, Some((_, end))) => c <= end,
@@ -115,19 +142,39 @@ fn rust_held_place(queue: &[Event], c: f64) -> Option<usize> {
     held.then_some(before)
 }
 
+/// Whether param.rs keeps an event after a hold at c: by its hold time where it
+/// has one.
+fn rust_keeps(e: &Event, c: f64) -> bool {
+    e.hold.unwrap_or(e.own()) <= c
+}
+
+/// What param.rs has after a hold at c: the event that it marks gets c, later or not.
+fn rust_hold(queue: &[Event], c: f64) -> Vec<Event> {
+    let mut after = queue.to_vec();
+    if let Some(i) = rust_held_place(queue, c) {
+        after[i].hold = Some(c);
+    }
+    after.retain(|e| rust_keeps(e, c));
+    after
+}
+
+/// Why param.rs has another queue after a hold at c than 01. A ramp that is held
+/// already, at c or before, is its first later event, and is found.
 fn claim_hold(queue: &[Event], c: f64, claims: &mut Claims) {
-    let (ours, theirs) = (held_place(queue, c), rust_held_place(queue, c));
-    let largest = queue.iter().any(|e| e.is_ramp() && e.time == f64::MAX);
-    let curve_end = ours.is_none() && theirs.is_some();
-    claims.note(Reach::Ends, "hold-largest-time", ours != theirs && largest);
-    claims.note(Reach::Ends, "hold-curve-end", !largest && curve_end);
-    claims.note(Reach::Ends, "hold-shadowed", !largest && ours.is_some() && theirs != ours);
-    let later = ours.is_some_and(|i| queue[i].hold.is_some_and(|h| h < c));
-    claims.note(Reach::Ends, "hold-moves-later", ours == theirs && later);
-    // param.rs keeps or drops an event by its hold time where it has one.
-    let kept = |i: usize| queue[i].time <= c || (ours == Some(i) && queue[i].is_ramp());
-    let rust_hold = |i: usize| if theirs == Some(i) { Some(c) } else { queue[i].hold };
-    let rust_kept = |i: usize| rust_hold(i).unwrap_or(queue[i].time) <= c;
-    let other = (0..queue.len()).any(|i| kept(i) != rust_kept(i));
-    claims.note(Reach::Ends, "hold-drops-by-hold", ours == theirs && other);
+    let (ours, theirs) = (held_place(queue, c, Event::filed), rust_held_place(queue, c));
+    if ours != held_place(queue, c, Event::own) {
+        return claims.note(Reach::Ends, "held-ramp", true);
+    }
+    let largest = ours.is_some_and(|i| queue[i].is_ramp() && queue[i].time == f64::MAX);
+    claims.note(Reach::Ends, "hold-largest-time", largest);
+    let shadowed = ours.is_some() && theirs.is_none() && !largest;
+    claims.note(Reach::Ends, "hold-shadowed", shadowed);
+    let later = theirs.is_some_and(|i| queue[i].hold.is_some_and(|h| h < c));
+    claims.note(Reach::Ends, "hold-moves-later", later);
+    claims.note(Reach::Ends, "hold-curve-end", ours.is_none() && theirs.is_some() && !later);
+    // A target or curve that is held for later, though it has begun.
+    let other = |i: &usize| ours != Some(*i) && theirs != Some(*i);
+    let drops = |i: usize| queue[i].filed() <= c && !rust_keeps(&queue[i], c);
+    let dropped = (0..queue.len()).filter(other).any(drops);
+    claims.note(Reach::Ends, "hold-drops-by-hold", dropped);
 }

@@ -194,7 +194,7 @@ impl Walk<'_> {
         let Facts { time, next, .. } = self.facts;
         let follower = self.queue.get(1);
         let ramp_next = follower.is_some_and(Event::is_ramp);
-        let mut end = follower.map(|e| e.time).filter(|t| *t < next);
+        let mut end = follower.map(Event::filed).filter(|t| *t < next);
         if ramp_next {
             end = Some(time.max(head.time));
         }

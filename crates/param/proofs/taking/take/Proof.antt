@@ -39,11 +39,11 @@ next : (c : tie.In-loop Inv-loop μ-loop)
 next c = slot-next (c .before .before .before .before .args .t1) (c .before .loop .i) (full (c .before .before .before .before)) (omega arith) (omega arith)
 
 fitted : (c : tie.Else1 Inv-loop μ-loop)
-    → (Ieee.le (c .before .before .before .before .before .before .before .loop .before) (c .before .before .before .before .filed-under .result) && (c .before .before .is-clear .result && c .before .is-due .result && leb (c .before .before .before .length-of .result) (storeLength - c .before .before .before .before .before .before .before .loop .used))) ≡ true
+    → (Ieee.le (c .before .before .before .before .before .before .before .loop .before) (c .before .before .filed-under .result) && (c .before .before .before .is-clear .result && c .before .is-due .result && leb (c .before .before .before .before .length-of .result) (storeLength - c .before .before .before .before .before .before .before .loop .used))) ≡ true
 fitted c = not-false _ (c .if1 .left)
 
-room : (c : tie.Else1 Inv-loop μ-loop) → c .before .before .before .length-of .result ≤ storeLength - c .before .before .before .before .before .before .before .loop .used
-room c = leb-true _ _ (both (c .before .before .is-clear .result && c .before .is-due .result) _ (both (Ieee.le _ _) _ (fitted c) .1) .1)
+room : (c : tie.Else1 Inv-loop μ-loop) → c .before .before .before .before .length-of .result ≤ storeLength - c .before .before .before .before .before .before .before .loop .used
+room c = leb-true _ _ (both (c .before .before .before .is-clear .result && c .before .is-due .result) _ (both (Ieee.le _ _) _ (fitted c) .1) .1)
 
 new-requires : tie.Need-new-requires Inv-loop μ-loop
 new-requires c κs = search needs
@@ -62,14 +62,14 @@ mul-s c = search needs
 element-copy-out-s : tie.Need-element-copy-out-s Inv-loop μ-loop
 element-copy-out-s c = search needs
 
-filed-under-requires : tie.Need-filed-under-requires Inv-loop μ-loop
-filed-under-requires c κs = search needs
-
 length-of-requires : tie.Need-length-of-requires Inv-loop μ-loop
 length-of-requires c κs = search needs
 
 is-clear-requires : tie.Need-is-clear-requires Inv-loop μ-loop
 is-clear-requires c κs = search needs
+
+filed-under-requires : tie.Need-filed-under-requires Inv-loop μ-loop
+filed-under-requires c κs = search needs
 
 is-due-requires : tie.Need-is-due-requires Inv-loop μ-loop
 is-due-requires c κs = search needs
@@ -86,10 +86,10 @@ returns c =
           _
           (next (c .before .before .before .before .before .before))
           (omega arith)
-          (c .before .before .before .before .filed-under .ensures)
-          (c .before .before .is-clear .ensures)
+          (c .before .before .filed-under .ensures)
+          (c .before .before .before .is-clear .ensures)
           (c .before .is-due .ensures)
-          (c .before .before .before .length-of .ensures)
+          (c .before .before .before .before .length-of .ensures)
           (not-true _ (c .if1 .taken));
       queue = λ h. never h;
     }
@@ -111,7 +111,7 @@ loop-less c = search needs
 
 loop-again : tie.Need-loop-again Inv-loop μ-loop
 loop-again c =
-    (omega arith, takes-more (c .before .before .before .before .before .before .before .loop .inv .1) _ (next (c .before .before .before .before .before .before)) (omega arith) (c .before .before .before .before .filed-under .ensures) (c .before .before .is-clear .ensures) (c .before .is-due .ensures) (c .before .before .before .length-of .ensures) (fitted c) refl)
+    (omega arith, takes-more (c .before .before .before .before .before .before .before .loop .inv .1) _ (next (c .before .before .before .before .before .before)) (omega arith) (c .before .before .filed-under .ensures) (c .before .before .before .is-clear .ensures) (c .before .is-due .ensures) (c .before .before .before .before .length-of .ensures) (fitted c) refl)
 
 returns-2 : tie.Need-returns-2 Inv-loop μ-loop
 returns-2 c =
@@ -133,9 +133,9 @@ take-spec =
     loop-holds
     mul-s
     element-copy-out-s
-    filed-under-requires
     length-of-requires
     is-clear-requires
+    filed-under-requires
     is-due-requires
     sub-fits
     returns

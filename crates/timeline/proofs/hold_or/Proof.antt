@@ -1,8 +1,8 @@
 -- `hold_or` meets its contract, variant by variant. Assumes nothing.
-use Rattle.rules.specs.Walk.{holdOr}
+use Rattle.rules.specs.Queue.{holdOr}
 use borrow.Author.Needs.{needs}
-use Rattle.automation.proofs.hold_or.Statement.{statement}
-use Rattle.automation.proofs.hold_or.Tie as tie
+use Rattle.timeline.proofs.hold_or.Statement.{statement}
+use Rattle.timeline.proofs.hold_or.Tie as tie
 
 enum-told : tie.Need-enum-told
 enum-told c = search needs
