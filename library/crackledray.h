@@ -47,7 +47,7 @@ extern "C" {
 #endif
 
 /* Major, minor and patch, 8 bits each. */
-#define CRACKLEDRAY_VERSION 0x000400u
+#define CRACKLEDRAY_VERSION 0x000500u
 
 /* The same number, of the archive: not this one where header and archive do not belong together. */
 uint32_t crackledray_version(void);
@@ -67,7 +67,8 @@ enum crackledray_stack {
     CRACKLEDRAY_STACK_CALL = 32768  /* each of the others */
 };
 
-/* What a call answers. Where several apply, 100 is given, else the lowest. The other numbers are given by no function. */
+/* What a call answers. Where several apply, 100 is given, else the lowest, 11 counting as between 6 and 7. The other numbers are given
+ * by no function. */
 enum crackledray_answer {
     CRACKLEDRAY_ANSWERED = 0,      /* done */
     CRACKLEDRAY_BOUNDS = 1,        /* a bound or the default is not finite, or not min <= default <= max */
@@ -80,6 +81,7 @@ enum crackledray_answer {
     CRACKLEDRAY_STORE_FULL = 8,    /* the waiting curves and this one have more than 4,096 numbers */
     CRACKLEDRAY_BAD_BLOCK = 9,     /* block time, sample period, count, or the lengths of input and output */
     CRACKLEDRAY_OUT_OF_ORDER = 10, /* a block before the last answered one */
+    CRACKLEDRAY_INSIDE = 11,       /* inside a waiting curve, or a curve with a waiting event's time inside */
     CRACKLEDRAY_BAD_STORE = 14,    /* the curve store has not 4,096 floats */
     CRACKLEDRAY_BAD_STATE = 100    /* the state's length, or the test of a state (not document 01's) */
 };

@@ -47,6 +47,7 @@ zero-answers (Verdict.Refused Refusal.QueueFull) h = absurd (omega (arith, h))
 zero-answers (Verdict.Refused Refusal.StoreFull) h = absurd (omega (arith, h))
 zero-answers (Verdict.Refused Refusal.BadBlock) h = absurd (omega (arith, h))
 zero-answers (Verdict.Refused Refusal.OutOfOrder) h = absurd (omega (arith, h))
+zero-answers (Verdict.Refused Refusal.Inside) h = absurd (omega (arith, h))
 zero-answers (Verdict.Refused Refusal.BadStore) h = absurd (omega (arith, h))
 
 -- ---- the state of a parameter

@@ -11,8 +11,8 @@ use lib.Ieee.{Float}
 use Rattle.rules.specs.declared.Event.{Event}
 use Rattle.rules.specs.declared.Event.the-variants as Event
 use Rattle.rules.specs.Numbers.{plusZero, storeLength}
-use Rattle.rules.specs.Queue.{Waiting, filedUnder, isRamp, lengthOf, lengthsOf, eventsOf, numbersOf, packed, attached, placeBehind, putAt, arrived, inserted, those, isBefore, cancelled, isLater, isNotLater, heldAt, lastHeld, heldBy, held}
-use Rattle.laws.proofs.Events.{events-attached, events-drop, events-inserted, events-cancelled, events-held, alones, lengths-split}
+use Rattle.rules.specs.Queue.{Waiting, filedUnder, isRamp, lengthOf, lengthsOf, eventsOf, numbersOf, packed, attached, placeBehind, putAt, arrived, inserted, those, isBefore, cancelled, isLater, isNotLater, heldAt, lastHeld, holdsRamp, heldBy, held}
+use Rattle.laws.proofs.Events.{events-attached, events-drop, events-inserted, events-cancelled, held-by-ramp, events-held, alones, lengths-split}
 use Rattle.laws.proofs.Store.{numbers-append, numbers-attached, numbers-put, numbers-last-held, attached-length, attached-take, attached-drop}
 use Rattle.timeline.specs.declared.AudioParamEventTimeline.{AudioParamEventTimeline}
 use Rattle.timeline.specs.Timeline.{made, waiting, isKept, stays}
@@ -76,7 +76,7 @@ those-fair test (w ∷ ws) f = go (test w) (those-fair test ws (f .1))
 by-numbers : (c : Float) (ws xs : List Waiting) → Fair xs → numbersOf (heldBy c ws xs) ≡ numbersOf ws
 unfolding heldBy numbersOf heldAt
 by-numbers c ws [] f = numbers-last-held c ws
-by-numbers c ws (x ∷ xs) f = go (isRamp (x .event)) (f .0)
+by-numbers c ws (x ∷ xs) f = go (holdsRamp c ws x) (λ h. f .0 (held-by-ramp c ws x h))
   where
     go : (b : Bool) → (b ≡ true → x .numbers ≡ []) → numbersOf (cond b (ws ++ (heldAt c x ∷ [])) (lastHeld c ws)) ≡ numbersOf ws
     go true g = numbers-append ws (heldAt c x ∷ []) ∙ ap (λ (l : List Float). numbersOf ws ++ (l ++ [])) (g refl) ∙ append-nil (numbersOf ws)

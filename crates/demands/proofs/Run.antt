@@ -1,4 +1,5 @@
--- Any list of results, each of which meets the contract for what the one before left, is what the rules schedule and play; so demand 3 is the code's. Assumes nothing.
+-- Any list of results, each of which meets the contract for what the one before left, is what the rules schedule and play; so demand 3 is the code's, and
+-- that no event lies inside a curve before the first block. Assumes nothing.
 use mathlib.Core.Path.{_≡_, refl, sym, ap, _∙_}
 use mathlib.Core.Bool.{Bool, true, false}
 use mathlib.Core.List.{List, [], _∷_, map}
@@ -12,6 +13,7 @@ use Rattle.rules.specs.declared.Verdict.{Verdict}
 use Rattle.rules.specs.declared.Verdict.the-variants as Verdict
 use Rattle.rules.specs.Numbers.{storeLength}
 use Rattle.rules.specs.Block.{Param, Call, Answer, Command, Called, set, step, linear, exponential, target, curve, cancel, hold, called, scheduledAs, answered, made}
+use Rattle.laws.specs.Apart.{areApart}
 use Rattle.laws.proofs.Tests.{never}
 use Rattle.param.specs.declared.AudioParam.{AudioParam}
 use Rattle.param.specs.declared.Outcome.{Outcome}
@@ -22,6 +24,7 @@ use Rattle.param.proofs.Settled.{restores-own}
 use Rattle.playing.specs.Play.{State, waiting, begun, scheduled, asked, answerTo, played, apart, told}
 use Rattle.playing.specs.Demand.{behind, whileTwoWait, resumed, Holds, PlayedTheSame}
 use Rattle.playing.specs.Results.{Results, lastLeft}
+use Rattle.playing.proofs.Schedules.{nothing-inside}
 use Rattle.playing.proofs.Demand.{demand-3}
 use Rattle.playing.proofs.Results.{results-scheduled, results-played, results-the-same}
 use Rattle.demands.specs.Run.{Held, stateOf, Done, leftByDone, calledBy, isLent, DoneAs, MeetsCall, Block, leftByBlock, answerBy, MeetsBlock}
@@ -80,6 +83,22 @@ pub code-schedules : {h : Held} {cs : List Command} {rs : List Done} → Ok h �
     → (stateOf (lastLeft leftByDone h rs) ≡ scheduled (stateOf h) cs) × Ok (lastLeft leftByDone h rs)
 code-schedules ok = results-scheduled stateOf leftByDone Ok calledBy MeetsCall (λ r. refl) call-settled ok
 
+-- a parameter just made is the rules' one
+code-begins : {b : Bounds} {rate : AutomationRate} {o : Outcome} → Makes b rate o → (store : List Float)
+    → stateOf (record { param = o .param; store = store }) ≡ begun b rate store
+unfolding begun
+code-begins makes store = rw (back (makes .param))
+
+-- ---- before the first block no event lies inside a curve (02, C-14)
+
+pub nothing-inside-of-code : {b : Bounds} {rate : AutomationRate} {o : Outcome} → Makes b rate o → (store : List Float) {xs : List Command} {ds : List Done}
+    → Results leftByDone MeetsCall (record { param = o .param; store = store }) xs ds
+    → areApart (paramOf (lastLeft leftByDone (record { param = o .param; store = store }) ds .param) .queue) ≡ true
+nothing-inside-of-code {b} {rate} {o} makes store {xs} {ds} results =
+    let is : stateOf (lastLeft leftByDone (record { param = o .param; store = store }) ds) ≡ scheduled (begun b rate store) xs =
+    code-schedules (makes .sound) results .0 ∙ ap (λ (s : State). scheduled s xs) (code-begins makes store) in
+    ap (λ (s : State). areApart (s .param .queue)) is ∙ nothing-inside b rate store xs
+
 -- ---- demand 3 of the code
 
 -- Two schedules given to two parameters made alike, ds and es what their calls gave. Both are played over the blocks `all`, with the results rs and us; cs are the blocks
@@ -96,15 +115,11 @@ module _ (b : Bounds) (rate : AutomationRate) (one other : List Float) (long : l
   abbrev y : Held
   y = lastLeft leftByDone (record { param = o .param; store = other }) es
 
-  begins : (store : List Float) → stateOf (record { param = o .param; store = store }) ≡ begun b rate store
-  unfolding begun
-  begins store = rw (back (makes .param))
-
   x-is : stateOf x ≡ scheduled (begun b rate one) xs
-  x-is = code-schedules (makes .sound) first .0 ∙ ap (λ (s : State). scheduled s xs) (begins one)
+  x-is = code-schedules (makes .sound) first .0 ∙ ap (λ (s : State). scheduled s xs) (code-begins makes one)
 
   y-is : stateOf y ≡ scheduled (begun b rate other) ys
-  y-is = code-schedules (makes .sound) second .0 ∙ ap (λ (s : State). scheduled s ys) (begins other)
+  y-is = code-schedules (makes .sound) second .0 ∙ ap (λ (s : State). scheduled s ys) (code-begins makes other)
 
   pub code-plays-the-same : (m : ℕ) → take m (waiting (stateOf x)) ≡ take m (waiting (stateOf y)) → (all : List Call)
       → PlayedTheSame m (stateOf x) (stateOf y) all (whileTwoWait (behind m (stateOf x)) (stateOf x) all)

@@ -6,7 +6,7 @@ use Prim.Native.Nat.{ℕ, zero, suc}
 use lib.Dec.{leb}
 use lib.ListN.{take, drop}
 use lib.Ieee as Ieee
-use lib.Ieee.{Float}
+use lib.Ieee.{Float, binary64}
 use Rattle.rules.specs.declared.MaybeTime.{MaybeTime}
 use Rattle.rules.specs.declared.MaybeTime.the-variants as MaybeTime
 use Rattle.rules.specs.declared.Event.{Event}
@@ -14,7 +14,7 @@ use Rattle.rules.specs.declared.Event.the-variants as Event
 use Rattle.rules.specs.Numbers.{isFinite, isZero}
 use Rattle.rules.specs.Queue.{holdOr, filedUnder, putAt}
 use Rattle.rules.specs.Refusals.{isPeriod}
-use Rattle.laws.specs.Sound.{isNumber, isFromZero, isTaken, isTakenIfAny, isHeldBy, isSpan, fewestNumbers, isClear, isDue, all, areDue}
+use Rattle.laws.specs.Sound.{isNumber, isFromZero, isTaken, isTakenIfAny, isHeldBy, isHeldFrom, isSpan, isCurveHold, fewestNumbers, isClear, isDue, all, areDue}
 use Rattle.laws.proofs.Tests.{both, and}
 use Rattle.laws.proofs.Order.{number-le}
 use Rattle.laws.proofs.Results.{from-zero-number, taken-number}
@@ -130,15 +130,23 @@ pub record CurveParts (s d : Float) (n : ℕ) (h : MaybeTime) : Type 0 where
   pub start : isTaken s ≡ true
   pub duration : isPeriod d ≡ true
   pub hold : isTakenIfAny h ≡ true
+  pub from : isHeldFrom s h ≡ true
+  pub by : isHeldBy (Ieee.add binary64 s d) h ≡ true
   pub enough : leb fewestNumbers n ≡ true
 
 pub curve-parts : (s d : Float) (n : ℕ) (h : MaybeTime) → isClear (Event.Curve s d n h) ≡ true → CurveParts s d n h
-unfolding isClear
+unfolding isClear isCurveHold
 curve-parts s d n h k =
     let a = both (isTaken s) _ k in
     let b = both (isPeriod d) _ (a .1) in
-    let c = both (isTakenIfAny h) _ (b .1) in
-    record { start = a .0; duration = b .0; hold = c .0; enough = c .1 }
+    let c = both (isCurveHold s d h) _ (b .1) in
+    let x = both (isTakenIfAny h) _ (c .0) in
+    let y = both (isHeldFrom s h) _ (x .1) in
+    record { start = a .0; duration = b .0; hold = x .0; from = y .0; by = y .1; enough = c .1 }
+
+pub curve-whole : (s d : Float) (n : ℕ) (h : MaybeTime) → CurveParts s d n h → isClear (Event.Curve s d n h) ≡ true
+unfolding isClear isCurveHold
+curve-whole s d n h p = and (p .start) (and (p .duration) (and (and (p .hold) (and (p .from) (p .by))) (p .enough)))
 
 -- the time that it is filed under has a place in the order
 pub clear-number : (e : Event) → isClear e ≡ true → isNumber (filedUnder e) ≡ true

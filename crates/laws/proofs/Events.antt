@@ -1,6 +1,6 @@
 -- Waiting events and their events: what a list of the first does, the second does too. Assumes nothing.
 use mathlib.Core.Path.{_≡_, refl, sym, ap, ap₂, _∙_}
-use mathlib.Core.Bool.{Bool, true, false, cond, not}
+use mathlib.Core.Bool.{Bool, true, false, cond, not, _&&_}
 use mathlib.Core.List.{List, [], _∷_, _++_}
 use Prim.Native.Nat.{ℕ, zero, suc, _+_}
 use native.Mathlib.Omega.{arith}
@@ -11,9 +11,9 @@ use Rattle.rules.specs.declared.MaybeTime.{MaybeTime}
 use Rattle.rules.specs.declared.MaybeTime.the-variants as MaybeTime
 use Rattle.rules.specs.declared.Event.{Event}
 use Rattle.rules.specs.declared.Event.the-variants as Event
-use Rattle.rules.specs.Queue.{Waiting, alone, holdOr, filedUnder, lengthOf, lengthsOf, eventsOf, attached, putAt, inserted, arrived, those, isBefore, cancelled, sooner, heldEvent, heldAt, isRamp, runsAt, heldIfRunning, lastHeld, isLater, isNotLater, heldBy, held}
+use Rattle.rules.specs.Queue.{Waiting, alone, holdOr, filedUnder, lengthOf, lengthsOf, eventsOf, attached, putAt, inserted, arrived, those, isBefore, cancelled, sooner, heldEvent, heldAt, isRamp, runsAt, heldIfRunning, lastHeld, isLater, isNotLater, anyCovers, holdsRamp, heldBy, held}
 use Rattle.laws.specs.Search.{placeOf}
-use Rattle.laws.proofs.Tests.{never}
+use Rattle.laws.proofs.Tests.{never, both}
 use Rattle.laws.proofs.Order.{lt-le, le-not-lt}
 
 -- ---- lists
@@ -138,6 +138,18 @@ held-ramp-filed c (Event.Exponential v t h) r l = sooner-filed c t h l
 held-ramp-filed c (Event.Target v t k h) r l = never r
 held-ramp-filed c (Event.Curve s d n h) r l = never r
 
+pub held-by-ramp : (c : Float) (ws : List Waiting) (x : Waiting) → holdsRamp c ws x ≡ true → isRamp (x .event) ≡ true
+unfolding holdsRamp
+held-by-ramp c ws x h = both (isRamp (x .event)) _ h .0
+
+pub held-is-ramp : (c : Float) (e : Event) → isRamp (heldEvent c e) ≡ isRamp e
+unfolding heldEvent isRamp
+held-is-ramp c (Event.Step v t) = refl
+held-is-ramp c (Event.Linear v t h) = refl
+held-is-ramp c (Event.Exponential v t h) = refl
+held-is-ramp c (Event.Target v t k h) = refl
+held-is-ramp c (Event.Curve s d n h) = refl
+
 pub held-size : (c : Float) (e : Event) → lengthOf (heldEvent c e) ≡ lengthOf e
 unfolding heldEvent lengthOf
 held-size c (Event.Step v t) = refl
@@ -188,9 +200,9 @@ module _ (c : Float) where
   bare-last (w ∷ x ∷ ws) = ap (λ (l : List Waiting). alone (w .event) ∷ l) (bare-last (x ∷ ws))
 
   bare-held-by : (early late : List Waiting) → heldBy c (bare early) (bare late) ≡ bare (heldBy c early late)
-  unfolding heldBy eventsOf heldAt
+  unfolding heldBy holdsRamp eventsOf heldAt
   bare-held-by early [] = bare-last early
-  bare-held-by early (x ∷ late) = go (isRamp (x .event))
+  bare-held-by early (x ∷ late) = rw (events-alones (eventsOf early)) (go (isRamp (x .event) && not (anyCovers c (eventsOf early))))
     where
       go : (b : Bool) → cond b (bare early ++ (alone (heldEvent c (x .event)) ∷ [])) (lastHeld c (bare early))
           ≡ bare (cond b (early ++ (heldAt c x ∷ [])) (lastHeld c early))

@@ -15,15 +15,16 @@ use Rattle.rules.specs.declared.LastEvent.{LastEvent}
 use Rattle.rules.specs.declared.LastEvent.the-variants as LastEvent
 use Rattle.rules.specs.declared.BlockInfos.{BlockInfos}
 use Rattle.rules.specs.Numbers.{mostEvents, storeLength, isFinite, isPositive, laterOf}
-use Rattle.rules.specs.Queue.{Waiting, holdOr, filedUnder, isRamp, lengthOf, lengthsOf, headOf, eventsOf}
+use Rattle.rules.specs.Queue.{Waiting, holdOr, filedUnder, isRamp, curveEnd, lengthOf, lengthsOf, headOf, eventsOf}
 use Rattle.rules.specs.Refusals.{isPeriod}
 use Rattle.rules.specs.Walk.{Walk, endByNext, endByHold, counted, withLast, withTurned, fill, withValues, withIntrinsic, consumed, startOf, lastOr}
 use Rattle.rules.specs.Block.{target, restsFor, walkFrom, valuesBefore, renderedAs, rendered}
-use Rattle.laws.specs.Sound.{isNumber, isFromZero, isTakenIfAny, isClear, areClear, goesBefore, inOrder, SoundQueue, isLastClear}
+use Rattle.laws.specs.Sound.{isNumber, isFromZero, isTakenIfAny, isClear, areClear, reachOf, goesBefore, inOrder, SoundQueue, isLastClear}
 use Rattle.laws.proofs.Tests.{both, and}
 use Rattle.laws.proofs.Order.{not-lt}
 use Rattle.laws.proofs.Results.{add-number, from-zero-number, taken-parts, taken-number}
-use Rattle.laws.proofs.Clear.{all-parts, all-more, span-taken, CurveParts, exponential-parts, target-parts, curve-parts, clear-number}
+use Rattle.laws.proofs.Clear.{all-parts, all-more, span-taken, exponential-parts, target-parts, curve-parts, clear-number}
+use Rattle.laws.proofs.Reach.{end-number}
 use Rattle.laws.proofs.Ordered.{order-parts}
 use Rattle.laws.proofs.Queues.{suffix-sound}
 use Rattle.laws.proofs.Walks.{Timed, AllTimed, IfAny, Left, same, stepped, turned, snapped, Rest, none, here, later, Carries, walk-carries}
@@ -32,7 +33,7 @@ use Rattle.laws.proofs.Walks.{Timed, AllTimed, IfAny, Left, same, stepp
 
 -- the head becomes a step that is at or before the next event
 step-sound : (e : Event) (q : List Event) (v t : Float) → isFinite v ≡ true → isFromZero t ≡ true → goesBefore t q ≡ true → SoundQueue (e ∷ q) → SoundQueue (Event.Step v t ∷ q)
-unfolding inOrder isClear lengthsOf lengthOf filedUnder
+unfolding inOrder isClear lengthsOf lengthOf reachOf filedUnder
 step-sound e q v t n z g s =
     let a : suc (length q) ≤ mostEvents = s .few in
     let b : lengthOf e + lengthsOf q ≤ storeLength = s .room in
@@ -71,7 +72,7 @@ no-end-by-next f t (x ∷ xs) n c k = go (isRamp (x .event)) (Ieee.lt (filedUnde
 
 -- an exponential that becomes a step does so at the time that it is filed under
 turned-sound : (v t : Float) (h : MaybeTime) (q : List Event) → SoundQueue (Event.Exponential v t h ∷ q) → SoundQueue (Event.Step v (holdOr h t) ∷ q)
-unfolding filedUnder
+unfolding reachOf filedUnder
 turned-sound v t h q s =
     let a = exponential-parts v t h (all-parts isClear (Event.Exponential v t h) q (s .clear) .0) in
     step-sound
@@ -130,18 +131,6 @@ unfolding isTakenIfAny
 any-number MaybeTime.Missing k = tt
 any-number (MaybeTime.At c) k = taken-number c k
 
--- start + duration, or the hold time
-curve-end : (s d : Float) (n : ℕ) (h : MaybeTime) → CurveParts s d n h → Number (holdOr h (Ieee.add binary64 s d))
-unfolding isPeriod
-curve-end s d n h p = go h (any-number h (p .hold))
-  where
-    sum : Number (Ieee.add binary64 s d)
-    sum = add-number binary64 s d (taken-parts s (p .start) .0) (both (isFinite d) (isPositive d) (p .duration) .0)
-
-    go : (h : MaybeTime) → IfAny Number h → Number (holdOr h (Ieee.add binary64 s d))
-    go MaybeTime.Missing k = unfold holdOr in sum
-    go (MaybeTime.At c) k = unfold holdOr in k
-
 clear-timed : (e : Event) → isClear e ≡ true → Timed Number e
 clear-timed (Event.Step v t) h = record { filed = clear-number (Event.Step v t) h; ends = tt }
 clear-timed (Event.Linear v t k) h = record { filed = clear-number (Event.Linear v t k) h; ends = tt }
@@ -149,7 +138,7 @@ clear-timed (Event.Exponential v t k) h = record { filed = clear-number (Event.E
 clear-timed (Event.Target v t c k) h =
     record { filed = clear-number (Event.Target v t c k) h; ends = any-number k (target-parts v t c k h .hold) }
 clear-timed (Event.Curve s d n k) h =
-    record { filed = clear-number (Event.Curve s d n k) h; ends = curve-end s d n k (curve-parts s d n k h) }
+    record { filed = clear-number (Event.Curve s d n k) h; ends = unfold curveEnd in end-number s d n k (curve-parts s d n k h) }
 
 all-timed : (ws : List Waiting) → areClear (eventsOf ws) ≡ true → AllTimed Number ws
 unfolding eventsOf

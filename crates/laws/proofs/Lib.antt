@@ -4,6 +4,7 @@ pub mod Results
 pub mod Rows
 pub mod Events
 pub mod Clear
+pub mod Reach
 pub mod Ordered
 pub mod Search
 pub mod Queues
@@ -12,6 +13,7 @@ pub mod Walks
 pub mod Counts
 pub mod Store
 pub mod Leaves
+pub mod Apart
 pub mod Kept
 pub mod Held
 pub mod Shapes

@@ -288,3 +288,26 @@ later-true s t h = rw h
 pub later-false : (s t : Float) → Ieee.lt s t ≡ false → laterOf s t ≡ s
 unfolding laterOf
 later-false s t h = rw h
+
+-- where the later one is at or before u, both are; and the other way round
+pub later-first : (s t u : Float) → Ieee.le (laterOf s t) u ≡ true → Ieee.le s u ≡ true
+later-first s t u h = go (Ieee.lt s t) refl
+  where
+    go : (b : Bool) → Ieee.lt s t ≡ b → Ieee.le s u ≡ true
+    go true l = le-le s t u (lt-le s t l) (rw (later-true s t l) at h)
+    go false l = rw (later-false s t l) at h
+
+pub later-second : (s t u : Float) → isNumber s ≡ true → isNumber t ≡ true → Ieee.le (laterOf s t) u ≡ true → Ieee.le t u ≡ true
+later-second s t u p q h = go (Ieee.lt s t) refl
+  where
+    go : (b : Bool) → Ieee.lt s t ≡ b → Ieee.le t u ≡ true
+    go true l = rw (later-true s t l) at h
+    go false l = le-le t s u (not-lt s t p q l) (rw (later-false s t l) at h)
+
+pub later-up-to : (s t u : Float) → Ieee.le s u ≡ true → Ieee.le t u ≡ true → Ieee.le (laterOf s t) u ≡ true
+unfolding laterOf
+later-up-to s t u h k = go (Ieee.lt s t)
+  where
+    go : (b : Bool) → Ieee.le (cond b t s) u ≡ true
+    go true = k
+    go false = h

@@ -10,12 +10,14 @@ use borrow.Author.Tests.{not-true}
 use lib.Ieee as Ieee
 use lib.Ieee.{Float}
 use Rattle.rules.specs.declared.Event.{Event}
-use Rattle.rules.specs.Queue.{Waiting, alone, filedUnder, eventsOf, hasNotLater, placeBehind, putAt, arrived, those, isBefore, cancelled, heldEvent, heldAt, isRamp, runsAt, heldIfRunning, lastHeld, isLater, isNotLater, heldBy, held}
-use Rattle.laws.specs.Sound.{isNumber, isClear, areClear, goesBefore, inOrder}
+use Rattle.rules.specs.Queue.{Waiting, alone, filedUnder, covers, eventsOf, hasNotLater, placeBehind, putAt, arrived, those, isBefore, cancelled, heldEvent, heldAt, isRamp, runsAt, heldIfRunning, lastHeld, isLater, isNotLater, heldBy, held}
+use Rattle.laws.specs.Sound.{isNumber, isClear, all, areClear, reachOf, goesBefore, inOrder}
+use Rattle.laws.specs.Apart.{isApart}
 use Rattle.laws.specs.Search.{placeOf, isLaterThan, isNotBefore, firstLater, firstNotBefore}
 use Rattle.laws.proofs.Tests.{clash, both, and}
 use Rattle.laws.proofs.Order.{le-le, lt-le, not-lt, lt-not-le, le-lt, lt-le-lt}
 use Rattle.laws.proofs.Clear.{all-parts, all-take, clear-number}
+use Rattle.laws.proofs.Reach.{filed-before, uncovered, apart-parts}
 use Rattle.laws.proofs.Events.{events-one, events-take, events-drop, events-append, events-get, events-those, place-events, alones, events-alones}
 
 -- ---- in order, and from a time on
@@ -24,19 +26,22 @@ abbrev pub AllFrom : Float → List Event → Type 0
 AllFrom t [] = Unit {0}
 AllFrom t (e ∷ es) = (Ieee.le t (filedUnder e) ≡ true) × AllFrom t es
 
-pub all-from : (t : Float) (q : List Event) → goesBefore t q ≡ true → inOrder q ≡ true → AllFrom t q
-unfolding goesBefore inOrder
-all-from t [] h o = tt
-all-from t (e ∷ q) h o = let a = both (goesBefore (filedUnder e) q) (inOrder q) o in (h, earlier t (filedUnder e) q h (all-from (filedUnder e) q (a .0) (a .1)))
+-- what a queue's first event reaches at most, and the others in order
+pub order-parts : (e : Event) (q : List Event) → inOrder (e ∷ q) ≡ true → (goesBefore (reachOf e) q ≡ true) × (inOrder q ≡ true)
+unfolding inOrder
+order-parts e q o = both (goesBefore (reachOf e) q) (inOrder q) o
+
+-- so the first event's time is at or before all of theirs
+pub order-from : (e : Event) (q : List Event) → inOrder (e ∷ q) ≡ true → AllFrom (filedUnder e) q
+order-from e [] o = tt
+order-from e (d ∷ q) o =
+    let a = order-parts e (d ∷ q) o in
+    let l : Ieee.le (filedUnder e) (filedUnder d) ≡ true = filed-before e (filedUnder d) (unfold goesBefore in a .0) in
+    (l, earlier (filedUnder e) (filedUnder d) q l (order-from d q (a .1)))
   where
     earlier : (s t : Float) (q : List Event) → Ieee.le s t ≡ true → AllFrom t q → AllFrom s q
     earlier s t [] h f = tt
     earlier s t (e ∷ q) h f = (le-le s t (filedUnder e) h (f .0), earlier s t q h (f .1))
-
--- what a queue's first event is at or before, and the others in order
-pub order-parts : (e : Event) (q : List Event) → inOrder (e ∷ q) ≡ true → (goesBefore (filedUnder e) q ≡ true) × (inOrder q ≡ true)
-unfolding inOrder
-order-parts e q o = both (goesBefore (filedUnder e) q) (inOrder q) o
 
 pub order-drop : (n : ℕ) (q : List Event) → inOrder q ≡ true → inOrder (drop n q) ≡ true
 order-drop zero q o = o
@@ -54,7 +59,7 @@ unfolding inOrder
 order-take zero q o = refl
 order-take (suc n) [] o = refl
 order-take (suc n) (e ∷ q) o =
-    let a = order-parts e q o in and (before-take (filedUnder e) n q (a .0)) (order-take n q (a .1))
+    let a = order-parts e q o in and (before-take (reachOf e) n q (a .0)) (order-take n q (a .1))
 
 -- ---- arrival
 
@@ -76,7 +81,7 @@ behind-is-first-later t (e ∷ q) n c o =
     (Ieee.lt t (filedUnder e))
     refl
     (clear-number e (a .0))
-    (all-from (filedUnder e) q (r .0) (r .1))
+    (order-from e q o)
     (behind-is-first-later t q n (a .1) (r .1))
   where
     go : (b : Bool) → Ieee.lt t (filedUnder e) ≡ b → isNumber (filedUnder e) ≡ true → AllFrom (filedUnder e) q → placeBehind t q ≡ placeOf (isLaterThan t) q
@@ -96,28 +101,32 @@ before-put t zero e q h g = h
 before-put t (suc k) e [] h g = h
 before-put t (suc k) e (d ∷ q) h g = g
 
-put-order : (e : Event) (q : List Event) → isNumber (filedUnder e) ≡ true → areClear q ≡ true → inOrder q ≡ true → inOrder (putAt (firstLater (filedUnder e) q) e q) ≡ true
+-- what has no event's time inside and lies inside none, goes between two of them
+put-order : (e : Event) (q : List Event) → isClear e ≡ true → all (isApart e) q ≡ true → areClear q ≡ true → inOrder q ≡ true
+    → inOrder (putAt (firstLater (filedUnder e) q) e q) ≡ true
 unfolding firstLater placeOf isLaterThan inOrder goesBefore
-put-order e [] n c o = unfold putAt in refl
-put-order e (d ∷ q) n c o =
+put-order e [] k f c o = unfold putAt in refl
+put-order e (d ∷ q) k f c o =
     let a = all-parts isClear d q c in
+    let g = all-parts (isApart e) d q f in
     let r = order-parts d q o in
-    let m : isNumber (filedUnder d) ≡ true = clear-number d (a .0) in
     rw (arrives (Ieee.lt (filedUnder e) (filedUnder d)) (placeOf (isLaterThan (filedUnder e)) q) e d q)
-    (go (Ieee.lt (filedUnder e) (filedUnder d)) refl m r (put-order e q n (a .1) (r .1)))
+    (go (Ieee.lt (filedUnder e) (filedUnder d)) refl (a .0) (apart-parts e d (g .0)) r (put-order e q k (g .1) (a .1) (r .1)))
   where
-    k : ℕ
-    k = placeOf (isLaterThan (filedUnder e)) q
+    n : ℕ
+    n = placeOf (isLaterThan (filedUnder e)) q
 
-    go : (b : Bool) → Ieee.lt (filedUnder e) (filedUnder d) ≡ b → isNumber (filedUnder d) ≡ true
-        → (goesBefore (filedUnder d) q ≡ true) × (inOrder q ≡ true) → inOrder (putAt k e q) ≡ true
-        → inOrder (cond b (e ∷ d ∷ q) (d ∷ putAt k e q)) ≡ true
-    go true h m r i = and (lt-le (filedUnder e) (filedUnder d) h) (and (r .0) (r .1))
-    go false h m r i = and (before-put (filedUnder d) k e q (not-lt (filedUnder e) (filedUnder d) n m h) (r .0)) i
+    go : (b : Bool) → Ieee.lt (filedUnder e) (filedUnder d) ≡ b → isClear d ≡ true → (covers (filedUnder e) d ≡ false) × (covers (filedUnder d) e ≡ false)
+        → (goesBefore (reachOf d) q ≡ true) × (inOrder q ≡ true) → inOrder (putAt n e q) ≡ true
+        → inOrder (cond b (e ∷ d ∷ q) (d ∷ putAt n e q)) ≡ true
+    go true l m g r i = and (uncovered (filedUnder d) e (clear-number d m) k (g .1) (lt-le (filedUnder e) (filedUnder d) l)) (and (r .0) (r .1))
+    go false l m g r i =
+        let up : Ieee.le (filedUnder d) (filedUnder e) ≡ true = not-lt (filedUnder e) (filedUnder d) (clear-number e k) (clear-number d m) l in
+        and (before-put (reachOf d) n e q (uncovered (filedUnder e) d (clear-number e k) m (g .0) up) (r .0)) i
 
-pub arrived-order : (e : Event) (q : List Event) → isNumber (filedUnder e) ≡ true → areClear q ≡ true → inOrder q ≡ true → inOrder (arrived e q) ≡ true
+pub arrived-order : (e : Event) (q : List Event) → isClear e ≡ true → all (isApart e) q ≡ true → areClear q ≡ true → inOrder q ≡ true → inOrder (arrived e q) ≡ true
 unfolding arrived
-arrived-order e q n c o = rw (behind-is-first-later (filedUnder e) q n c o) (put-order e q n c o)
+arrived-order e q k f c o = rw (behind-is-first-later (filedUnder e) q (clear-number e k) c o) (put-order e q k f c o)
 
 -- an event goes behind all of equal or smaller time; where all are, it is the last
 
@@ -221,9 +230,7 @@ module _ (test : Waiting → Bool)
   order-cut : (ws : List Waiting) → inOrder (eventsOf ws) ≡ true → Cut test ws
   unfolding eventsOf
   order-cut [] o = tt
-  order-cut (w ∷ ws) o =
-      let r = order-parts (w .event) (eventsOf ws) o in
-      (λ h. all-up w ws (all-from (filedUnder (w .event)) (eventsOf ws) (r .0) (r .1)) h, order-cut ws (r .1))
+  order-cut (w ∷ ws) o = (λ h. all-up w ws (order-from (w .event) (eventsOf ws) o) h, order-cut ws (order-parts (w .event) (eventsOf ws) o .1))
 
 -- ---- cancel, and hold
 
@@ -286,31 +293,6 @@ module _ (c : Float) (ws : List Waiting) (o : inOrder (eventsOf ws) ≡ true) wh
   pub held-is : held c ws ≡ heldBy c (take (firstLater c (eventsOf ws)) ws) (drop (firstLater c (eventsOf ws)) ws)
   unfolding held
   held-is = rw (early-is, late-is)
-
-  -- the first later event is a ramp, and stays
-  pub held-ramp : (d : Waiting) → firstLater c (eventsOf ws) < length ws → isRamp (getD ws (firstLater c (eventsOf ws)) d .event) ≡ true
-      → held c ws ≡ take (firstLater c (eventsOf ws)) ws ++ (heldAt c (getD ws (firstLater c (eventsOf ws)) d) ∷ [])
-  unfolding heldBy
-  held-ramp d l r = rw (held-is, drop-cons ws (firstLater c (eventsOf ws)) d l, r)
-
-  -- it is none, or there is none
-  pub held-other : (d : Waiting) → firstLater c (eventsOf ws) < length ws → isRamp (getD ws (firstLater c (eventsOf ws)) d .event) ≡ false
-      → held c ws ≡ lastHeld c (take (firstLater c (eventsOf ws)) ws)
-  unfolding heldBy
-  held-other d l r = rw (held-is, drop-cons ws (firstLater c (eventsOf ws)) d l, r)
-
-  pub held-all : length ws ≤ firstLater c (eventsOf ws) → held c ws ≡ lastHeld c (take (firstLater c (eventsOf ws)) ws)
-  unfolding heldBy
-  held-all l = rw (held-is, drop-of-length-le ws l)
-
-  -- the events alone
-  pub events-held-ramp : (d : Event) → firstLater c (eventsOf ws) < length ws → isRamp (getD (eventsOf ws) (firstLater c (eventsOf ws)) d) ≡ true
-      → eventsOf (held c ws) ≡ take (firstLater c (eventsOf ws)) (eventsOf ws) ++ (heldEvent c (getD (eventsOf ws) (firstLater c (eventsOf ws)) d) ∷ [])
-  unfolding heldAt
-  events-held-ramp d l r =
-      let k : ℕ = firstLater c (eventsOf ws) in
-      let e : getD (eventsOf ws) k d ≡ getD ws k (alone d) .event = events-get ws k (alone d) in
-      rw (held-ramp (alone d) l (sym (ap isRamp e) ∙ r), events-append (take k ws) (heldAt c (getD ws k (alone d)) ∷ []), events-one, events-take, e)
 
 -- the same cut of events
 pub events-cut : (t : Float) (q : List Event) → inOrder q ≡ true

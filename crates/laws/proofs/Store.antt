@@ -14,13 +14,13 @@ use Rattle.rules.specs.declared.Head.{Head}
 use Rattle.rules.specs.declared.LastEvent.{LastEvent}
 use Rattle.rules.specs.declared.BlockInfos.{BlockInfos}
 use Rattle.rules.specs.Numbers.{storeLength, plusZero}
-use Rattle.rules.specs.Queue.{Waiting, alone, filedUnder, isRamp, lengthOf, lengthsOf, eventsOf, numbersOf, packed, attached, headOf, placeBehind, putAt, arrived, inserted, those, isBefore, cancelled, heldAt, runsAt, heldIfRunning, lastHeld, isLater, isNotLater, heldBy, held}
+use Rattle.rules.specs.Queue.{Waiting, alone, filedUnder, isRamp, lengthOf, lengthsOf, eventsOf, numbersOf, packed, attached, headOf, placeBehind, putAt, arrived, inserted, those, isBefore, cancelled, heldAt, runsAt, heldIfRunning, lastHeld, isLater, isNotLater, holdsRamp, heldBy, held}
 use Rattle.rules.specs.Block.{rendered}
 use Rattle.laws.specs.Sound.{inOrder}
 use Rattle.laws.specs.Search.{firstLater}
 use Rattle.laws.specs.Fits.{Fits, AllFit}
 use Rattle.laws.proofs.Tests.{never}
-use Rattle.laws.proofs.Events.{events-attached, events-take, held-size}
+use Rattle.laws.proofs.Events.{events-attached, events-take, held-by-ramp, held-size}
 use Rattle.laws.proofs.Ordered.{held-is}
 use Rattle.laws.proofs.Walks.{Left, same, stepped, turned, snapped, Rest, none, here, later, rest-length, rendered-leaves}
 
@@ -206,7 +206,7 @@ module _ (c : Float) where
   fit-held-by : (early late : List Waiting) → AllFit early → AllFit late → AllFit (heldBy c early late)
   unfolding heldBy
   fit-held-by early [] f g = fit-last early f
-  fit-held-by early (x ∷ late) f g = go (isRamp (x .event))
+  fit-held-by early (x ∷ late) f g = go (holdsRamp c early x)
     where
       go : (b : Bool) → AllFit (cond b (early ++ (heldAt c x ∷ [])) (lastHeld c early))
       go true = fit-append early (heldAt c x ∷ []) f (fit-held-at x (g .0), tt)
@@ -231,12 +231,12 @@ module _ (c : Float) where
   numbers-held-by : (early late : List Waiting) → AllFit late → numbersOf (heldBy c early late) ≡ numbersOf early
   unfolding heldBy
   numbers-held-by early [] f = numbers-last-held early
-  numbers-held-by early (x ∷ late) f = go (isRamp (x .event)) refl
+  numbers-held-by early (x ∷ late) f = go (holdsRamp c early x) refl
     where
-      go : (b : Bool) → isRamp (x .event) ≡ b → numbersOf (cond b (early ++ (heldAt c x ∷ [])) (lastHeld c early)) ≡ numbersOf early
+      go : (b : Bool) → holdsRamp c early x ≡ b → numbersOf (cond b (early ++ (heldAt c x ∷ [])) (lastHeld c early)) ≡ numbersOf early
       go true r =
           numbers-append early (heldAt c x ∷ [])
-          ∙ unfold numbersOf heldAt in (rw (ramp-numbers x (f .0) r) (append-nil (numbersOf early)))
+          ∙ unfold numbersOf heldAt in (rw (ramp-numbers x (f .0) (held-by-ramp c early x r)) (append-nil (numbersOf early)))
       go false r = numbers-last-held early
 
   pub numbers-held : (ws : List Waiting) → AllFit ws → inOrder (eventsOf ws) ≡ true → numbersOf (held c ws) ≡ numbersOf (take (firstLater c (eventsOf ws)) ws)

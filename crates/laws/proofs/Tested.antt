@@ -12,7 +12,7 @@ use Rattle.rules.specs.Numbers.{mostEvents, storeLength}
 use Rattle.rules.specs.Queue.{filedUnder, lengthsOf}
 use Rattle.rules.specs.Refusals.{areBounds}
 use Rattle.rules.specs.Block.{Param}
-use Rattle.laws.specs.Sound.{areClear, areDue, goesBefore, inOrder, SoundQueue, isSoundQueue, isLastClear, hasPlayed, Sound, isSound}
+use Rattle.laws.specs.Sound.{areClear, areDue, reachOf, goesBefore, inOrder, SoundQueue, isSoundQueue, isLastClear, hasPlayed, Sound, isSound}
 use Rattle.laws.proofs.Tests.{both, and}
 
 -- ---- the invariant is what its test says
@@ -50,7 +50,7 @@ unfolding goesBefore
 before-last t [] d e = refl
 before-last t (c ∷ q) d e = refl
 
-pub order-last : (q : List Event) (d e : Event) → inOrder (q ++ (d ∷ e ∷ [])) ≡ (inOrder (q ++ (d ∷ [])) && Ieee.le (filedUnder d) (filedUnder e))
+pub order-last : (q : List Event) (d e : Event) → inOrder (q ++ (d ∷ e ∷ [])) ≡ (inOrder (q ++ (d ∷ [])) && Ieee.le (reachOf d) (filedUnder e))
 unfolding inOrder
-order-last [] d e = unfold goesBefore in and-true (Ieee.le (filedUnder d) (filedUnder e))
-order-last (c ∷ q) d e = rw (before-last (filedUnder c) q d e, order-last q d e) (sym (and-assoc (goesBefore (filedUnder c) (q ++ (d ∷ []))) _ _))
+order-last [] d e = unfold goesBefore in and-true (Ieee.le (reachOf d) (filedUnder e))
+order-last (c ∷ q) d e = rw (before-last (reachOf c) q d e, order-last q d e) (sym (and-assoc (goesBefore (reachOf c) (q ++ (d ∷ []))) _ _))

@@ -1,6 +1,6 @@
 -- Tests taken apart and put together. Assumes nothing.
 use mathlib.Core.Path.{_≡_, refl, sym, _∙_}
-use mathlib.Core.Bool.{Bool, true, false, _&&_}
+use mathlib.Core.Bool.{Bool, true, false, not, _&&_, _||_}
 use Prim.Native.Nat.{ℕ}
 use native.Mathlib.Omega.{arith}
 
@@ -18,3 +18,8 @@ both false b h = never h
 
 pub and : {a b : Bool} → a ≡ true → b ≡ true → (a && b) ≡ true
 and h k = rw (h, k)
+
+pub neither : (a b : Bool) → (a || b) ≡ false → (a ≡ false) × (b ≡ false)
+neither true b h = never (sym h)
+neither false true h = never (sym h)
+neither false false h = (refl, refl)

@@ -2,3 +2,4 @@ pub mod Sound
 pub mod Search
 pub mod Fits
 pub mod Held
+pub mod Apart

@@ -6,15 +6,15 @@ use Prim.Native.Nat.{ℕ, _≤_}
 use lib.Dec.{leb}
 use lib.ListN.{length}
 use lib.Ieee as Ieee
-use lib.Ieee.{Float, nan, inf, fin}
+use lib.Ieee.{Float, nan, inf, fin, binary64}
 use Rattle.rules.specs.declared.MaybeTime.{MaybeTime}
 use Rattle.rules.specs.declared.MaybeTime.the-variants as MaybeTime
 use Rattle.rules.specs.declared.Event.{Event}
 use Rattle.rules.specs.declared.Event.the-variants as Event
 use Rattle.rules.specs.declared.LastEvent.{LastEvent}
 use Rattle.rules.specs.declared.LastEvent.the-variants as LastEvent
-use Rattle.rules.specs.Numbers.{mostEvents, storeLength, isFinite, isZero}
-use Rattle.rules.specs.Queue.{filedUnder, lengthsOf}
+use Rattle.rules.specs.Numbers.{mostEvents, storeLength, isFinite, isZero, laterOf}
+use Rattle.rules.specs.Queue.{filedUnder, curveEnd, lengthsOf}
 use Rattle.rules.specs.Refusals.{areBounds, isPeriod}
 use Rattle.rules.specs.Block.{Param}
 
@@ -38,10 +38,15 @@ unfoldable pub isTakenIfAny : MaybeTime → Bool
 isTakenIfAny MaybeTime.Missing = true
 isTakenIfAny (MaybeTime.At t) = isTaken t
 
--- A ramp is held at or before its own time: a hold at c finds it where it is filed under a later one.
+-- A ramp is held at or before its own time: a hold at c finds it where it is filed under a later one. So is a curve at or before start + duration.
 unfoldable pub isHeldBy : Float → MaybeTime → Bool
 isHeldBy t MaybeTime.Missing = true
 isHeldBy t (MaybeTime.At c) = Ieee.le c t
+
+-- A curve is held at its start or later: a hold at c finds it where it starts at or before c.
+unfoldable pub isHeldFrom : Float → MaybeTime → Bool
+isHeldFrom s MaybeTime.Missing = true
+isHeldFrom s (MaybeTime.At c) = Ieee.le s c
 
 -- ---- a waiting event
 
@@ -53,6 +58,10 @@ fewestNumbers = 2
 unfoldable pub isSpan : Float → MaybeTime → Bool
 isSpan t h = isTaken t && (isTakenIfAny h && isHeldBy t h)
 
+-- a curve's hold time, where it has one
+unfoldable pub isCurveHold : Float → Float → MaybeTime → Bool
+isCurveHold s d h = isTakenIfAny h && (isHeldFrom s h && isHeldBy (Ieee.add binary64 s d) h)
+
 -- Its numbers are as the calls let them in: values finite, an exponential's not 0, times taken, a time constant and a duration finite and above 0 (as a period is), 2
 -- numbers of a curve or more. A step alone may be at +infinity: a target that snapped left it, at a next block time that is (DECISIONS, reading 13).
 unfoldable pub isClear : Event → Bool
@@ -60,7 +69,7 @@ isClear (Event.Step v t) = isFinite v && isFromZero t
 isClear (Event.Linear v t h) = isFinite v && isSpan t h
 isClear (Event.Exponential v t h) = isFinite v && (not (isZero v) && isSpan t h)
 isClear (Event.Target v t c h) = isFinite v && (isTaken t && (isPeriod c && isTakenIfAny h))
-isClear (Event.Curve s d n h) = isTaken s && (isPeriod d && (isTakenIfAny h && leb fewestNumbers n))
+isClear (Event.Curve s d n h) = isTaken s && (isPeriod d && (isCurveHold s d h && leb fewestNumbers n))
 
 -- before the first answered block no event is at +infinity: no target has snapped
 unfoldable pub isDue : Bool → Event → Bool
@@ -79,15 +88,24 @@ areClear q = all isClear q
 abbrev pub areDue : Bool → List Event → Bool
 areDue played q = all (isDue played) q
 
+-- How far an event reaches: a curve to its end, all else to the time that it is filed under. (Of 64-bit floats start + duration is never before the start. Here floats
+-- can be of any length, so the later of both is said.)
+unfoldable pub reachOf : Event → Float
+reachOf (Event.Step v t) = filedUnder (Event.Step v t)
+reachOf (Event.Linear v t h) = filedUnder (Event.Linear v t h)
+reachOf (Event.Exponential v t h) = filedUnder (Event.Exponential v t h)
+reachOf (Event.Target v t c h) = filedUnder (Event.Target v t c h)
+reachOf (Event.Curve s d n h) = laterOf s (curveEnd s d h)
+
 -- whether the first of these, if any, is at t or later
 unfoldable pub goesBefore : Float → List Event → Bool
 goesBefore t [] = true
 goesBefore t (e ∷ es) = Ieee.le t (filedUnder e)
 
--- each event is at or before the next one: by the time it is filed under
+-- each event reaches no further than the time that the next one is filed under, so that none is inside a curve before it (02, C-14)
 unfoldable pub inOrder : List Event → Bool
 inOrder [] = true
-inOrder (e ∷ es) = goesBefore (filedUnder e) es && inOrder es
+inOrder (e ∷ es) = goesBefore (reachOf e) es && inOrder es
 
 -- at most 64 wait, in order, and their curves have room in the store
 pub record SoundQueue (q : List Event) : Type 0 where

@@ -18,7 +18,7 @@ use Rattle.rules.specs.Numbers.{mostEvents, storeLength, plusZero, isFinite}
 use Rattle.rules.specs.Queue.{filedUnder, lengthOf, lengthsOf}
 use Rattle.rules.specs.Refusals.{lowest, allFinite, areBounds, makingRows}
 use Rattle.rules.specs.Block.{made, madeAs}
-use Rattle.laws.specs.Sound.{isNumber, isTakenIfAny, isLastClear, goesBefore, inOrder, isClear, isDue, all, areDue, SoundQueue, isSoundQueue, hasPlayed, Sound, isSound}
+use Rattle.laws.specs.Sound.{isNumber, isTakenIfAny, isLastClear, reachOf, goesBefore, inOrder, isClear, isDue, all, areDue, SoundQueue, isSoundQueue, hasPlayed, Sound, isSound}
 use Rattle.laws.proofs.Tests.{clash, both, and}
 use Rattle.laws.proofs.Order.{bottom}
 use Rattle.laws.proofs.Events.{lengths-append}
@@ -64,7 +64,7 @@ too-many parts h = rw (lt-leb (parts .timeline .len) mostEvents h)
 abbrev areFine : Bool → List Event → Bool
 areFine played q = isSoundQueue q && areDue played q
 
--- the first i of them are so, have so many numbers, the last is at a time, and they wait in these slots
+-- the first i of them are so, have so many numbers, the last reaches so far, and they wait in these slots
 pub record Took (es : List Event) (played : Bool) (used : ℕ) (before : Float) (i : ℕ) (slots : List AudioParamEvent) : Type 0 where
   pub sound : SoundQueue (take i es)
   pub due : areDue played (take i es) ≡ true
@@ -125,7 +125,7 @@ module _ {es : List Event} {played : Bool} {used : ℕ} {before : Float} {i : �
       go false h =
           rw (short, all-last isClear q e, t .sound .clear, h) (none (inOrder (q ++ (e ∷ []))) (Ieee.le before (filedUnder e)) (areDue played (q ++ (e ∷ []))))
 
-  took-more : {x : AudioParamEvent} → fits ≡ true → x ≡ slotOf e → Took es played (used + lengthOf e) (filedUnder e) (i + 1) (set slots i x)
+  took-more : {x : AudioParamEvent} → fits ≡ true → x ≡ slotOf e → Took es played (used + lengthOf e) (reachOf e) (i + 1) (set slots i x)
   unfolding lengthsOf
   took-more h g =
       let b = both (isSoundQueue (take (i + 1) es)) _ (fits-is ∙ h) in
@@ -135,7 +135,7 @@ module _ {es : List Event} {played : Bool} {used : ℕ} {before : Float} {i : �
         due = b .1;
         many = ap (λ (n : ℕ). n + lengthOf e) (t .many) ∙ sym (ap lengthsOf more ∙ lengths-append q (e ∷ []) ∙ omega arith);
         next = λ d n. ap (λ (l : List Event). inOrder (l ++ (d ∷ []))) more ∙ ap inOrder (append-snoc q e (d ∷ [])) ∙ order-last q e d
-            ∙ ap (λ (b : Bool). b && Ieee.le (filedUnder e) (filedUnder d)) (ap inOrder (sym more) ∙ s .ordered);
+            ∙ ap (λ (b : Bool). b && Ieee.le (reachOf e) (filedUnder d)) (ap inOrder (sym more) ∙ s .ordered);
         filled = filled-more (t .filled) few g more;
       }
 
@@ -155,9 +155,9 @@ module _ {es : List Event} {played : Bool} {used : ℕ} {before : Float} {i : �
     unfolding isDue
     found = rw (ed, et, ec, es')
 
-    pub takes-more : {x : AudioParamEvent} → (Ieee.le before time && (clear && due && leb size (storeLength - used))) ≡ true → x ≡ slotOf e
-        → Took es played (used + size) time (i + 1) (set slots i x)
-    takes-more h g = rw (et, es') (took-more (sym found ∙ h) g)
+    pub takes-more : {reach : Float} {x : AudioParamEvent} → (Ieee.le before time && (clear && due && leb size (storeLength - used))) ≡ true → reach ≡ reachOf e → x ≡ slotOf e
+        → Took es played (used + size) reach (i + 1) (set slots i x)
+    takes-more h r g = rw (r, es') (took-more (sym found ∙ h) g)
 
     pub takes-not : (Ieee.le before time && (clear && due && leb size (storeLength - used))) ≡ false → false ≡ areFine played es
     takes-not h = took-not (sym found ∙ h)

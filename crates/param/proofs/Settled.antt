@@ -1,8 +1,8 @@
--- What the contracts settle: two results that one allows for the same input are the same; a refused call changes nothing; and a hold leaves a queue in order.
--- Assumes nothing.
+-- What the contracts settle: two results that one allows for the same input are the same; a refused call changes nothing; a hold leaves a queue in order,
+-- and inside a curve it holds that. Assumes nothing.
 use mathlib.Core.Path.{_≡_, refl, sym, ap, subst, _∙_}
 use mathlib.Core.Bool.{true}
-use mathlib.Core.List.{List}
+use mathlib.Core.List.{List, [], _∷_, _++_}
 use Prim.Native.Nat.{ℕ}
 use native.Mathlib.Omega.{arith}
 use lib.Ieee.{Float}
@@ -14,12 +14,12 @@ use Rattle.rules.specs.declared.Verdict.the-variants as Verdict
 use Rattle.rules.specs.declared.Event.{Event}
 use Rattle.rules.specs.declared.Verdict.{Verdict}
 use Rattle.rules.specs.Numbers.{mostEvents, takenTime}
-use Rattle.rules.specs.Queue.{Waiting}
+use Rattle.rules.specs.Queue.{Waiting, covers, heldEvent}
 use Rattle.rules.specs.Block.{Param, madeAs, Called, calledAs, scheduledAs, Command, set, step, linear, exponential, target, curve, cancel, hold, called}
 use Rattle.laws.proofs.Tests.{and}
 use Rattle.laws.proofs.Tested.{passes-test}
 use Rattle.laws.specs.Held.{StillInOrder}
-use Rattle.laws.proofs.Held.{when-a-hold-moves-a-time as held-in-order}
+use Rattle.laws.proofs.Held.{when-a-hold-moves-a-time as held-in-order, inside-a-curve-it-is-held as held-inside}
 use Rattle.param.specs.declared.AudioParam.{AudioParam}
 use Rattle.param.specs.declared.Outcome.{Outcome}
 use Rattle.param.specs.Param.{paramOf, structOf, SoundParam, nothingMade, isWhole, Makes, Answers, Restores}
@@ -89,3 +89,11 @@ pub when-a-hold-moves-a-time : {p : AudioParam} {store after : List Float} {c : 
     → StillInOrder (takenTime c) (paramOf p .queue) (paramOf (r .param) .queue)
 when-a-hold-moves-a-time {p} {store} {c = c} s a =
     subst (λ (q : Param). StillInOrder (takenTime c) (paramOf p .queue) (q .queue)) (sym (ap paramOf (a .param) ∙ struct-back _)) (held-in-order (paramOf p) store c (s .sound))
+
+-- ---- 02, C-14: "A cancel-and-hold at or after a waiting curve's start and before its end holds that curve, as if no ramp followed"
+
+pub inside-a-curve-it-is-held : {p : AudioParam} {store after : List Float} {c : Float} {r : Outcome} → SoundParam p → Answers p store (hold c) r after
+    → r .verdict ≡ Verdict.Answered → (before : List Event) (e : Event) (behind : List Event) → paramOf p .queue ≡ before ++ (e ∷ behind) → covers (takenTime c) e ≡ true
+    → paramOf (r .param) .queue ≡ before ++ (heldEvent (takenTime c) e ∷ [])
+inside-a-curve-it-is-held {p} {store} {c = c} s a h before e behind split inside =
+    ap (λ (q : Param). q .queue) (ap paramOf (a .param) ∙ struct-back _) ∙ held-inside (paramOf p) store c (s .sound) (sym (a .verdict) ∙ h) before e behind split inside

@@ -4,7 +4,8 @@ ghost use mathlib.Core.List.{List, []};
 ghost use lib.Dec.{leb};
 ghost use lib.ListN.{length, take, drop};
 ghost use Rattle.rules.specs.Numbers.{mostEvents};
-ghost use Rattle.rules.specs.Queue.{Waiting, headOf, lengthsOf, losesRamp, valueAfterCancel, targetEvent};
+ghost use Rattle.rules.specs.Queue.{Waiting, headOf, lengthsOf, anyCovers, losesRamp, valueAfterCancel, targetEvent};
+ghost use Rattle.rules.specs.Refusals.{isCrossed};
 ghost use Rattle.rules.specs.Block.{fresh, scheduledAs, set, step, linear, exponential, target, curve, cancel, hold};
 ghost use Rattle.timeline.specs.Timeline.{made, firstOf};
 ghost use Rattle.param.specs.Param.{paramOf, structOf, outcomeOf, SoundParam, HasRoom, unmade, answeredWith, Makes, Answers, partsOf, Restores};
@@ -22,6 +23,7 @@ use rules::MaybeTime;
 use rules::Refusal;
 use rules::Verdict;
 use timeline::AudioParamEventTimeline;
+use timeline::curve_end;
 use timeline::filed_under;
 use timeline::is_ramp;
 
@@ -220,6 +222,25 @@ impl AudioParam {
         AudioParam::EVENTS <= self.timeline.len
     }
 
+    // Whether a time lies inside a waiting curve.
+    fn is_inside(self, time: f64) -> bool
+        requires { ⌜ SoundParam self ⌝ }
+        ensures { λ r. ⌜ r ≡ anyCovers time (paramOf self .queue) ⌝ }
+    {
+        let q = self.timeline;
+        q.any_covers(time)
+    }
+
+    // Whether a curve lies inside a waiting one, or has a waiting event's time inside.
+    fn is_crossed(self, start: f64, duration: f64) -> bool
+        requires { ⌜ SoundParam self ⌝ }
+        ensures { λ r. ⌜ r ≡ isCrossed (paramOf self .queue) start duration ⌝ }
+    {
+        let q = self.timeline;
+        let end = curve_end(start, duration, MaybeTime::Missing);
+        q.any_covers(start) | q.any_inside(start, end)
+    }
+
     // The same parameter with another queue and intrinsic value: what an answered call gives back.
     fn answered(self, timeline: AudioParamEventTimeline, intrinsic: f32) -> Outcome
         ensures { λ r. ⌜ r ≡ answeredWith self timeline intrinsic ⌝ }
@@ -262,8 +283,9 @@ impl AudioParam {
         requires { ⌜ SoundParam self ⌝ }
         ensures { λ r. ⌜ Answers self [] (step value «start_time») r [] ⌝ }
     {
-        let verdict = refusals::value(self.is_full(), value, start_time);
         let time = taken_time(start_time);
+        let inside = self.is_inside(time);
+        let verdict = refusals::value(inside, self.is_full(), value, start_time);
         self.schedule(verdict, Event::Step { value, time })
     }
 
@@ -271,8 +293,9 @@ impl AudioParam {
         requires { ⌜ SoundParam self ⌝ }
         ensures { λ r. ⌜ Answers self [] (linear value «end_time») r [] ⌝ }
     {
-        let verdict = refusals::value(self.is_full(), value, end_time);
         let time = taken_time(end_time);
+        let inside = self.is_inside(time);
+        let verdict = refusals::value(inside, self.is_full(), value, end_time);
         let hold = MaybeTime::Missing;
         self.schedule(verdict, Event::Linear { value, time, hold })
     }
@@ -281,8 +304,9 @@ impl AudioParam {
         requires { ⌜ SoundParam self ⌝ }
         ensures { λ r. ⌜ Answers self [] (exponential value «end_time») r [] ⌝ }
     {
-        let verdict = refusals::exponential(self.is_full(), value, end_time);
         let time = taken_time(end_time);
+        let inside = self.is_inside(time);
+        let verdict = refusals::exponential(inside, self.is_full(), value, end_time);
         let hold = MaybeTime::Missing;
         self.schedule(verdict, Event::Exponential { value, time, hold })
     }
@@ -291,8 +315,10 @@ impl AudioParam {
         requires { ⌜ SoundParam self ⌝ }
         ensures { λ r. ⌜ Answers self [] (target value «start_time» «time_constant») r [] ⌝ }
     {
-        let verdict = refusals::target(self.is_full(), value, start_time, time_constant);
         let time = taken_time(start_time);
+        let inside = self.is_inside(time);
+        let full = self.is_full();
+        let verdict = refusals::target(inside, full, value, start_time, time_constant);
         self.schedule(verdict, target_event(value, time, time_constant))
     }
 
@@ -307,13 +333,14 @@ impl AudioParam {
         ensures { λ r. ⌜ Answers self (now (store .entry)) (curve «start_time» duration (now (values .entry))) r (now (store .exit)) ⌝ }
     {
         let q = self.timeline;
+        let start = taken_time(start_time);
+        let crossed = self.is_crossed(start, duration);
         let full = self.is_full();
         let crowded = AudioParam::STORE - q.lengths() < values.len();
         let lent = store.len() == AudioParam::STORE;
-        let verdict = refusals::curve(values, start_time, duration, full, crowded, lent);
+        let verdict = refusals::curve(values, start_time, duration, crossed, full, crowded, lent);
         match verdict {
             Verdict::Answered => {
-                let start = taken_time(start_time);
                 let q = curves::insert(q, start, duration, values, store);
                 self.answered(q, self.intrinsic)
             }

@@ -5,6 +5,7 @@ ghost use Rattle.param.specs.Takes.{Takes};
 use crate::AudioParam;
 use refusals::sound::is_clear;
 use refusals::sound::is_due;
+use refusals::sound::reach_of;
 use timeline::AudioParamEventTimeline;
 use timeline::filed_under;
 use timeline::length_of;
@@ -24,7 +25,7 @@ pub fn take(q: AudioParamEventTimeline, played: bool) -> Taken
     let mut slots = empty.slots;
     let len = q.len;
     let mut used = 0usize;
-    // the time of the event before: at first none is before it
+    // how far the event before reaches: at first none is before it
     let mut before = f64::from_bits(0xfff0_0000_0000_0000);
     let mut i = 0usize;
     while i < len {
@@ -34,6 +35,7 @@ pub fn take(q: AudioParamEventTimeline, played: bool) -> Taken
         let clear = is_clear(e);
         // behind `is_clear`: before it, the compiler copies the queue once more
         let time = filed_under(e);
+        let reach = reach_of(e);
         let sound = clear & is_due(played, time);
         let fits = (before <= time) & (sound & (size <= AudioParam::STORE - used));
         if !fits {
@@ -44,7 +46,7 @@ pub fn take(q: AudioParamEventTimeline, played: bool) -> Taken
         }
         slots[i] = s;
         used += size;
-        before = time;
+        before = reach;
         i += 1;
     }
     Taken {

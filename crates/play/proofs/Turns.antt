@@ -8,17 +8,22 @@ use native.Mathlib.Omega.{arith}
 use lib.ListN.{length, take, drop, length-append}
 use lib.Seq.{take-at}
 use lib.Ieee.{Float}
+use Rattle.rules.specs.declared.Event.{Event}
 use Rattle.text.specs.Put.{put, Put}
 use Rattle.text.specs.Words.{sameWord}
 use Rattle.text.proofs.Writing.{put-same, put-then}
-use Rattle.calls.specs.Language.{callOf}
+use Rattle.calls.specs.Language.{Said, callOf, Heard}
+use Rattle.calls.specs.declared.Call.{Call}
 use Rattle.decimal.specs.Codes.{codes}
 use Rattle.wording.specs.Plain.{translation}
 use Rattle.replies.specs.Plain.{reply}
+use Rattle.clashes.specs.declared.Clash.{Clash}
+use Rattle.clashes.specs.Clashes.{clashOf, clashText}
+use Rattle.param.specs.Param.{paramOf}
 use Rattle.desk.specs.declared.Desk.{Desk}
 use Rattle.desk.specs.declared.Answered.{Answered}
 use Rattle.desk.specs.Desk.{Table, Turn, tableOf, SoundDesk, Spoken, unchanged, saidTurn, withNewline, lineTurn}
-use Rattle.play.specs.Played.{notRead, told, strictTurn, translatedTurn, plainTurn}
+use Rattle.play.specs.Played.{notRead, clashIn, told, strictTurn, translatedTurn, plainTurn}
 
 -- ---- an answer without its newline, and what is told of it
 
@@ -39,29 +44,41 @@ module _ (line : List ℕ) {d : Desk} {s : List Float} {l : List ℕ} {r : Answe
       ap (take (r .next - 1)) (written .bytes ∙ append-assoc answer (10 ∷ []) (drop (0 + length (answer ++ (10 ∷ []))) l))
       ∙ take-at answer _ (r .next - 1) (omega (arith, long))
 
-  pub for-a-person : (n : ℕ) {out out₁ out₂ : List ℕ} {at to next : ℕ} → Put out at (told n (take (r .next - 1) l′)) out₁ to → to ≤ length out → Put out₁ to (10 ∷ []) out₂ next → next ≤ at + 168200
+  pub for-a-person : (n : ℕ) {clash : Clash} → clash ≡ clashIn (paramOf (d .param) .queue) (callOf line)
+      → {out out₁ out₂ : List ℕ} {at to next : ℕ} → Put out at (told n clash (take (r .next - 1) l′)) out₁ to → to ≤ length out → Put out₁ to (10 ∷ []) out₂ next → next ≤ at + 168200
       → Spoken 168200 (withNewline (strictTurn n line)) d s out at (record { desk = r .desk; next = next }) s′ out₂
   unfolding lineTurn withNewline strictTurn
-  for-a-person n p h q near =
+  for-a-person n {clash} e p h q near =
       record {
         param = spoken .param;
         lent = spoken .lent;
         store = spoken .store;
-        text = put-then (put-same (ap (told n) is-answer) p) q h;
+        text = put-then (put-same (ap (λ (x : Clash). told n x (take (r .next - 1) l′)) e ∙ ap (told n (clashIn (paramOf (d .param) .queue) (callOf line))) is-answer) p) q h;
         sound = spoken .sound;
         room = near;
       }
 
--- ---- which line is not read
+-- ---- what is told
 
-module _ (n : ℕ) (answer : List ℕ) where
-  pub told-unread : sameWord answer (codes "unread") ≡ true → told n answer ≡ notRead n
+module _ (n : ℕ) (clash : Clash) (answer : List ℕ) where
+  pub told-unread : sameWord answer (codes "unread") ≡ true → told n clash answer ≡ notRead n
   unfolding told
   told-unread e = rw e
 
-  pub told-reply : sameWord answer (codes "unread") ≡ false → told n answer ≡ reply answer
-  unfolding told
-  told-reply e = rw e
+  module _ (read : sameWord answer (codes "unread") ≡ false) where
+    pub told-clash : sameWord answer (codes "refused 11") ≡ true → told n clash answer ≡ answer ++ clashText clash
+    unfolding told
+    told-clash e = rw (read, e)
+
+    pub told-reply : sameWord answer (codes "refused 11") ≡ false → told n clash answer ≡ reply answer
+    unfolding told
+    told-reply e = rw (read, e)
+
+-- the call that was read runs into what its line runs into
+pub heard-clash : (q : List Event) (o : Option Said) (call : Call) (numbers : List Float) → Heard o call numbers → clashOf q call ≡ clashIn q o
+unfolding Heard clashIn clashOf
+heard-clash q none call numbers h = ap (clashOf q) h
+heard-clash q (some s) call numbers h = ap (clashOf q) (h .0)
 
 -- ---- by the line's translation
 
@@ -79,6 +96,9 @@ pub spoken-same : {most : ℕ} {turn this : Table → Turn} {d : Desk} {s : List
 spoken-same {most} {turn} {this} {d} {s} {l} {at} {r} {s′} {l′} e v = subst (λ (f : Table → Turn). Spoken most f d s l at r s′ l′) e v
 
 -- ---- room for it
+
+pub within : (next before after : ℕ) → next ≤ 0 + 42000 → 42000 ≤ before → after ≡ before → next - 1 ≤ after
+within next before after h i e = omega arith
 
 pub room-for : (at k len total : ℕ) → len ≡ k - 1 → k ≤ 0 + 42000 → at + 168200 ≤ total → at + 4 * len + 90 ≤ total
 room-for at k len total e h r = omega arith

@@ -6,12 +6,16 @@ use mathlib.Core.Option.{Option, none, some}
 use Prim.Native.Nat.{ℕ, _+_, _*_, _≤_}
 use lib.ListN.{length}
 use lib.Ieee.{Float}
+use Rattle.rules.specs.declared.Event.{Event}
 use Rattle.text.specs.Digits.{decimalOf}
 use Rattle.text.specs.Words.{sameWord}
-use Rattle.calls.specs.Language.{callOf}
+use Rattle.calls.specs.Language.{Said, callOf}
 use Rattle.decimal.specs.Codes.{codes}
 use Rattle.wording.specs.Plain.{translation}
 use Rattle.replies.specs.Plain.{reply}
+use Rattle.clashes.specs.declared.Clash.{Clash}
+use Rattle.clashes.specs.declared.Clash.the-variants as Clash
+use Rattle.clashes.specs.Clashes.{clashOf, clashText}
 use Rattle.lines.specs.declared.Lines.{Lines}
 use Rattle.lines.specs.Lines.{Within}
 use Rattle.desk.specs.declared.Desk.{Desk}
@@ -22,13 +26,21 @@ use Rattle.desk.specs.Desk.{Table, Turn, unchanged, saidTurn, SoundDesk}
 unfoldable pub notRead : ℕ → List ℕ
 notRead n = codes "line " ++ (decimalOf n ++ codes " is not read: no call, or a number out of reach")
 
--- an answer of the session language for a person; for `unread`, which line it is
-unfoldable pub told : ℕ → List ℕ → List ℕ
-told n answer = cond (sameWord answer (codes "unread")) (notRead n) (reply answer)
+-- what a line runs into, these events waiting
+unfoldable pub clashIn : List Event → Option Said → Clash
+clashIn q none = Clash.None
+clashIn q (some s) = clashOf q (s .0)
+
+-- an answer of the session language for a person; for `unread`, which line it is, and for `refused 11`, what is in the way
+unfoldable pub told : ℕ → Clash → List ℕ → List ℕ
+told n clash answer =
+    cond (sameWord answer (codes "unread")) (notRead n) (cond (sameWord answer (codes "refused 11")) (answer ++ clashText clash) (reply answer))
 
 -- the n-th line, in the session language
 unfoldable pub strictTurn : ℕ → List ℕ → Table → Turn
-strictTurn n line t = let r = saidTurn (callOf line) t in record { table = r .table; text = told n (r .text) }
+strictTurn n line t =
+    let r = saidTurn (callOf line) t in
+    record { table = r .table; text = told n (clashIn (t .param .queue) (callOf line)) (r .text) }
 
 unfoldable pub translatedTurn : ℕ → Option (List ℕ) → Table → Turn
 translatedTurn n none = unchanged (notRead n)

@@ -5,9 +5,15 @@ ghost use lib.ListN.{length};
 ghost use lib.Ieee.{Float};
 ghost use mathlib.Core.List.{List};
 ghost use Rattle.text.specs.Put.{Put};
+ghost use Rattle.calls.specs.Language.{callOf};
+ghost use Rattle.param.specs.Param.{paramOf};
 ghost use Rattle.desk.specs.Desk.{SoundDesk, Spoken, unchanged, withNewline};
 ghost use Rattle.lines.specs.Lines.{LineIn};
-ghost use Rattle.play.specs.Played.{notRead, told, strictTurn, plainTurn, Lent, Going};
+ghost use Rattle.play.specs.Played.{notRead, clashIn, told, strictTurn, plainTurn, Lent, Going};
+use calls::read_call;
+use clashes::Clash;
+use clashes::clash_of;
+use clashes::put_clash;
 use desk::Answered;
 use desk::Desk;
 use desk::answer_line;
@@ -47,14 +53,28 @@ fn put_not_read(out: &mut [u8], at: usize, n: u64) -> usize
     put_word(out, to, b" is not read: no call, or a number out of reach")
 }
 
+// What the line runs into, should 11 refuse it.
+fn clash_in(desk: Desk, line: &[u8], numbers: &mut [f32]) -> Clash
+    requires { ⌜ SoundDesk desk × (5000 ≤ length (now numbers)) ⌝ }
+    ensures { λ r. ⌜ r ≡ clashIn (paramOf (desk .param) .queue) (callOf (now (line .entry))) ⌝ }
+{
+    let call = read_call(line, numbers);
+    let p = desk.param;
+    clash_of(p.timeline(), call)
+}
+
 // An answer of the session language for a person.
-fn put_told(out: &mut [u8], at: usize, n: u64, answer: &[u8]) -> usize
+fn put_told(out: &mut [u8], at: usize, n: u64, clash: Clash, answer: &[u8]) -> usize
     requires { ⌜ at + 4 * length (now answer) + 90 ≤ length (now out) ⌝ }
-    ensures { λ r. ⌜ Put (now (out .entry)) at (told n (now (answer .entry))) (now (out .exit)) r ⌝ }
+    ensures { λ r. ⌜ Put (now (out .entry)) at (told n clash (now (answer .entry))) (now (out .exit)) r ⌝ }
     ensures { λ r. ⌜ r ≤ at + 4 * length (now (answer .entry)) + 90 ⌝ }
 {
     if same(answer, b"unread") {
         return put_not_read(out, at, n);
+    }
+    if same(answer, b"refused 11") {
+        let to = put_word(out, at, answer);
+        return put_clash(out, to, clash);
     }
     put_reply(out, at, answer)
 }
@@ -73,11 +93,13 @@ fn answer_strict(
     requires { ⌜ SoundDesk desk × (5000 ≤ length (now numbers)) × (length (now store) ≡ 8192) × (42000 ≤ length (now said)) × (at + 168200 ≤ length (now out)) ⌝ }
     ensures { λ r. ⌜ Spoken 168200 (withNewline (strictTurn n (now (line .entry)))) desk (now (store .entry)) (now (out .entry)) at r (now (store .exit)) (now (out .exit)) ⌝ }
 {
+    // by the events that wait before the call
+    let clash = clash_in(desk, line, numbers);
     let r = answer_line(desk, line, numbers, store, said, 0);
     let desk = r.desk;
     // without its newline
     let end = r.next - 1;
-    let to = put_told(out, at, n, &said[..end]);
+    let to = put_told(out, at, n, clash, &said[..end]);
     let next = put_byte(out, to, b'\n');
     Answered { desk, next }
 }

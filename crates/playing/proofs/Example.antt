@@ -10,7 +10,7 @@ use lib.Ieee.{Float, fin, nan}
 use Rattle.rules.specs.declared.AutomationRate.the-variants as Rate
 use Rattle.rules.specs.Numbers.{storeLength}
 use Rattle.rules.specs.Block.{Command, step, linear, target, curve, cancel, Call, Answer}
-use Rattle.rules.proofs.Table.{results, bounds, n0, n1, n2, n3, n4, n5, n7, n9, n10, minus10}
+use Rattle.rules.proofs.Table.{results, bounds, n0, n1, n2, n3, n4, n5, n7, n9, n10, half, minus10}
 use Rattle.playing.specs.Play as Play
 use Rattle.playing.specs.Play.{State, begun, scheduled, waiting, after, answerTo, afterAll, played, apart}
 use Rattle.playing.specs.Demand as Demand
@@ -35,13 +35,21 @@ unfolding results Play.waiting Play.loaded Play.begun Play.asked Play.afterCall 
 outputs [] = []
 outputs (a ∷ more) = a .output ∷ outputs more
 
--- ---- three shared events, in the second as they are left by a cancel; behind them a step, or a curve
+-- ---- three shared events, in the second as they are left by a cancel; behind them a step, or a curve. The first's curve at the ramp's time 4 and its step inside the
+-- curve from 4.5 to 5 are refused by 11, and so are no part of its schedule.
+
+abbrev halfway : Command
+halfway = curve (fin false 9 (negsuc 0)) half (n3 ∷ n5 ∷ [])
 
 abbrev first : State
-first = start n9 (linear n3 n4 ∷ step n1 n0 ∷ curve n4 n1 (n3 ∷ n5 ∷ []) ∷ step n7 n5 ∷ [])
+first = start n9 (linear n3 n4 ∷ step n1 n0 ∷ curve n4 n1 (n3 ∷ n5 ∷ []) ∷ halfway ∷ step n9 (fin false 19 (negsuc 1)) ∷ step n7 n5 ∷ [])
 
 abbrev second : State
-second = start nan (step n1 n0 ∷ linear n3 n4 ∷ step n2 n5 ∷ cancel n5 ∷ curve n5 n2 (n1 ∷ n2 ∷ []) ∷ curve n4 n1 (n3 ∷ n5 ∷ []) ∷ [])
+second = start nan (step n1 n0 ∷ linear n3 n4 ∷ step n2 n5 ∷ cancel n5 ∷ curve n5 n2 (n1 ∷ n2 ∷ []) ∷ halfway ∷ [])
+
+four-wait : length (first .param .queue) ≡ 4
+unfolding outputs
+four-wait = refl
 
 -- they agree in three events, curve included; after the first two of the blocks two of these wait, and after the third none
 agree : take 3 (waiting first) ≡ take 3 (waiting second)

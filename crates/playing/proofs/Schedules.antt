@@ -1,4 +1,5 @@
--- What any calls before the first block leave of a parameter just made: only its waiting events differ, and every curve has its numbers. Assumes nothing.
+-- What any calls before the first block leave of a parameter just made: only its waiting events differ, every curve has its numbers, and none
+-- has an event inside. Assumes nothing.
 use mathlib.Core.Path.{_≡_, refl, ap, _∙_}
 use mathlib.Core.Bool.{Bool, true, false, cond}
 use mathlib.Core.List.{List, [], _∷_}
@@ -20,8 +21,9 @@ use Rattle.rules.specs.Refusals.{makingRows, lowest}
 use Rattle.rules.specs.Block.{Param, Called, Command, set, step, linear, exponential, target, curve, cancel, hold, withQueue, scheduledAs, calledAs, called, made, madeAs}
 use Rattle.laws.specs.Fits.{AllFit}
 use Rattle.laws.specs.Sound.{Sound}
+use Rattle.laws.specs.Apart.{areApart}
 use Rattle.laws.proofs.Store.{fit-inserted, fit-cancelled, fit-held, numbers-length, packed-length}
-use Rattle.laws.proofs.Kept.{made-sound, called-sound}
+use Rattle.laws.proofs.Kept.{made-sound, called-sound, called-apart}
 use Rattle.playing.specs.Play.{State, waiting, begun, asked, leftByCall, afterCall, scheduled, acceptedIf, accepted, AllAccepted}
 use Rattle.playing.proofs.States.{bare, SoundState, waiting-fit}
 
@@ -118,6 +120,22 @@ begun-ready b r store long cs =
     cs
     (begun b r store)
     record { same = refl; sound = record { sound = made-sound b r; long = long } }
+
+-- ---- before the first block no event lies inside a curve (02, C-14)
+
+apart-scheduled : (cs : List Command) (s : State) → Sound (s .param) → areApart (s .param .queue) ≡ true → areApart (scheduled s cs .param .queue) ≡ true
+unfolding scheduled afterCall asked
+apart-scheduled [] s h a = a
+apart-scheduled (c ∷ cs) s h a = unfold scheduled afterCall asked in apart-scheduled cs (afterCall s c) (called-sound (s .param) (s .store) h c) (called-apart (s .param) (s .store) h c a)
+
+none-made : (v : Verdict) (b : Bounds) (r : AutomationRate) → areApart (madeAs v b r .queue) ≡ true
+unfolding madeAs areApart
+none-made Verdict.Answered b r = refl
+none-made (Verdict.Refused why) b r = refl
+
+pub nothing-inside : (b : Bounds) (r : AutomationRate) (store : List Float) (cs : List Command) → areApart (scheduled (begun b r store) cs .param .queue) ≡ true
+unfolding begun made
+nothing-inside b r store cs = apart-scheduled cs (begun b r store) (made-sound b r) (none-made (lowest (makingRows b)) b r)
 
 -- ---- a refused call changes nothing, so any calls are a schedule of those that are accepted
 

@@ -6,9 +6,9 @@ ghost use Prim.Native.Nat.{_+_};
 ghost use lib.Dec.{leb, ltb, eqb};
 ghost use lib.ListN.{length};
 ghost use lib.Ieee.{Float};
-ghost use Rattle.rules.specs.Numbers.{mostEvents, storeLength};
-ghost use Rattle.rules.specs.Queue.{lengthsOf};
-ghost use Rattle.rules.specs.Refusals.{numberOf, lowest, allFinite, areBounds, makingRows, valueRows, exponentialRows, targetRows, curveRows, cancelRows};
+ghost use Rattle.rules.specs.Numbers.{mostEvents, storeLength, takenTime};
+ghost use Rattle.rules.specs.Queue.{lengthsOf, anyCovers};
+ghost use Rattle.rules.specs.Refusals.{numberOf, lowest, allFinite, areBounds, isCrossed, makingRows, valueRows, exponentialRows, targetRows, curveRows, cancelRows};
 ghost use Rattle.refusals.specs.Rows.{withRow};
 use floats::is_finite32;
 use floats::is_finite64;
@@ -37,6 +37,7 @@ pub fn number_of(r: Refusal) -> u8
         Refusal::StoreFull => 8,
         Refusal::BadBlock => 9,
         Refusal::OutOfOrder => 10,
+        Refusal::Inside => 11,
         Refusal::BadStore => 14,
     }
 }
@@ -78,9 +79,9 @@ pub fn are_bounds(b: Bounds) -> bool
     finite & ((b.min <= b.default) & (b.default <= b.max))
 }
 
-// Of a step or a linear ramp; `full` says whether as many events wait as can.
-pub fn value(full: bool, value: f32, time: f64) -> Verdict
-    ensures { λ r. ⌜ ((q : List Event) → full ≡ leb mostEvents (length q) → r ≡ lowest (valueRows q value time)) ⌝ }
+// Of a step or a linear ramp; `inside` says whether its time lies inside a waiting curve, `full` whether as many events wait as can.
+pub fn value(inside: bool, full: bool, value: f32, time: f64) -> Verdict
+    ensures { λ r. ⌜ ((q : List Event) → inside ≡ anyCovers (takenTime time) q → full ≡ leb mostEvents (length q) → r ≡ lowest (valueRows q value time)) ⌝ }
 {
     let v = Verdict::Answered;
     let v = row(
@@ -89,11 +90,12 @@ pub fn value(full: bool, value: f32, time: f64) -> Verdict
         !(is_finite32(value) & is_finite64(time)),
     );
     let v = row(v, Refusal::BeforeZero, is_negative64(time));
+    let v = row(v, Refusal::Inside, inside);
     row(v, Refusal::QueueFull, full)
 }
 
-pub fn exponential(full: bool, value: f32, time: f64) -> Verdict
-    ensures { λ r. ⌜ ((q : List Event) → full ≡ leb mostEvents (length q) → r ≡ lowest (exponentialRows q value time)) ⌝ }
+pub fn exponential(inside: bool, full: bool, value: f32, time: f64) -> Verdict
+    ensures { λ r. ⌜ ((q : List Event) → inside ≡ anyCovers (takenTime time) q → full ≡ leb mostEvents (length q) → r ≡ lowest (exponentialRows q value time)) ⌝ }
 {
     let v = Verdict::Answered;
     let v = row(
@@ -103,30 +105,33 @@ pub fn exponential(full: bool, value: f32, time: f64) -> Verdict
     );
     let v = row(v, Refusal::BeforeZero, is_negative64(time));
     let v = row(v, Refusal::ZeroTarget, is_zero32(value));
+    let v = row(v, Refusal::Inside, inside);
     row(v, Refusal::QueueFull, full)
 }
 
-pub fn target(full: bool, value: f32, time: f64, constant: f64) -> Verdict
-    ensures { λ r. ⌜ ((q : List Event) → full ≡ leb mostEvents (length q) → r ≡ lowest (targetRows q value time constant)) ⌝ }
+pub fn target(inside: bool, full: bool, value: f32, time: f64, constant: f64) -> Verdict
+    ensures { λ r. ⌜ ((q : List Event) → inside ≡ anyCovers (takenTime time) q → full ≡ leb mostEvents (length q) → r ≡ lowest (targetRows q value time constant)) ⌝ }
 {
     let v = Verdict::Answered;
     let finite = is_finite32(value) & (is_finite64(time) & is_finite64(constant));
     let v = row(v, Refusal::NotFinite, !finite);
     let v = row(v, Refusal::BeforeZero, is_negative64(time));
     let v = row(v, Refusal::NotAbove, is_negative64(constant));
+    let v = row(v, Refusal::Inside, inside);
     row(v, Refusal::QueueFull, full)
 }
 
-// `crowded` says whether the waiting curves' numbers and these are more than the store has, `lent` whether a whole store is lent.
+// `crossed` says whether it lies inside a waiting curve or has a waiting event inside, `crowded` whether the waiting curves' numbers and these are more than the store has, `lent` whether a whole store is lent.
 pub fn curve(
     values: &[f32],
     time: f64,
     duration: f64,
+    crossed: bool,
     full: bool,
     crowded: bool,
     lent: bool,
 ) -> Verdict
-    ensures { λ r. ⌜ ((q : List Event) (store : List Float) → full ≡ leb mostEvents (length q) → crowded ≡ ltb storeLength (lengthsOf q + length (now (values .entry)))
+    ensures { λ r. ⌜ ((q : List Event) (store : List Float) → crossed ≡ isCrossed q (takenTime time) duration → full ≡ leb mostEvents (length q) → crowded ≡ ltb storeLength (lengthsOf q + length (now (values .entry)))
         → lent ≡ eqb (length store) storeLength → r ≡ lowest (curveRows q store time duration (now (values .entry)))) ⌝ }
 {
     let v = Verdict::Answered;
@@ -135,6 +140,7 @@ pub fn curve(
     let v = row(v, Refusal::BeforeZero, is_negative64(time));
     let v = row(v, Refusal::NotAbove, !is_positive64(duration));
     let v = row(v, Refusal::ShortCurve, values.len() < 2);
+    let v = row(v, Refusal::Inside, crossed);
     let v = row(v, Refusal::QueueFull, full);
     let v = row(v, Refusal::StoreFull, crowded);
     row(v, Refusal::BadStore, !lent)

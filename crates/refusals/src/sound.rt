@@ -2,14 +2,17 @@
 ghost use mathlib.Core.Path.{_≡_};
 ghost use mathlib.Core.Bool.{_||_};
 ghost use Rattle.rules.specs.Numbers.{isFinite};
-ghost use Rattle.laws.specs.Sound.{isNumber, isFromZero, isTaken, isTakenIfAny, isHeldBy, isSpan, isClear, isLastClear, hasPlayed};
+ghost use Rattle.laws.specs.Sound.{isNumber, isFromZero, isTaken, isTakenIfAny, isHeldBy, isHeldFrom, isSpan, isCurveHold, isClear, reachOf, isLastClear, hasPlayed};
 use crate::block::is_period;
 use floats::is_finite32;
 use floats::is_finite64;
 use floats::is_zero32;
+use floats::later_of;
 use rules::Event;
 use rules::LastEvent;
 use rules::MaybeTime;
+use timeline::curve_end;
+use timeline::filed_under;
 
 // No NaN.
 fn is_number(t: f64) -> bool
@@ -41,7 +44,7 @@ pub fn is_taken_if_any(t: MaybeTime) -> bool
     }
 }
 
-// A ramp is held at or before its own time.
+// A ramp is held at or before its own time, a curve at or before start + duration.
 fn is_held_by(time: f64, hold: MaybeTime) -> bool
     ensures { λ r. ⌜ r ≡ isHeldBy time hold ⌝ }
 {
@@ -49,6 +52,24 @@ fn is_held_by(time: f64, hold: MaybeTime) -> bool
         MaybeTime::Missing => true,
         MaybeTime::At(c) => c <= time,
     }
+}
+
+// A curve is held at its start or later.
+fn is_held_from(start: f64, hold: MaybeTime) -> bool
+    ensures { λ r. ⌜ r ≡ isHeldFrom start hold ⌝ }
+{
+    match hold {
+        MaybeTime::Missing => true,
+        MaybeTime::At(c) => start <= c,
+    }
+}
+
+// A curve's hold time.
+fn is_curve_hold(start: f64, duration: f64, hold: MaybeTime) -> bool
+    ensures { λ r. ⌜ r ≡ isCurveHold start duration hold ⌝ }
+{
+    let held = is_held_from(start, hold) & is_held_by(start + duration, hold);
+    is_taken_if_any(hold) & held
 }
 
 // A ramp's time, and its hold time.
@@ -82,7 +103,28 @@ pub fn is_clear(e: Event) -> bool
             duration,
             len,
             hold,
-        } => is_taken(start) & (is_period(duration) & (is_taken_if_any(hold) & (2 <= len))),
+        } => {
+            let held = is_curve_hold(start, duration, hold);
+            is_taken(start) & (is_period(duration) & (held & (2 <= len)))
+        }
+    }
+}
+
+// How far an event reaches: a curve to its end, all else to the time that it is filed under.
+pub fn reach_of(e: Event) -> f64
+    ensures { λ r. ⌜ r ≡ reachOf e ⌝ }
+{
+    match e {
+        Event::Step { .. } => filed_under(e),
+        Event::Linear { .. } => filed_under(e),
+        Event::Exponential { .. } => filed_under(e),
+        Event::Target { .. } => filed_under(e),
+        Event::Curve {
+            start,
+            duration,
+            hold,
+            ..
+        } => later_of(start, curve_end(start, duration, hold)),
     }
 }
 

@@ -21,5 +21,6 @@ pub examples :
     "state k -10 2 10 NaN - 4.5:1 1 curve:0:4:-:3:0,4,0 zeros"
     × means "refused 3" "refused 3: a scheduled or cancel time is below 0"
     × means "refused 9 clean" "refused 9 clean: block time, period or count out of range, or output or input of a wrong length"
+    × means "refused 11" "refused 11: inside a waiting curve, or with a waiting event inside"
 unfolding isMark parts shownOr plainField plainFields table meaningIn meaningOf reason reply plainText textOf shownText placesText signText shown shownAs millionths wordsOf joined sameWord taken beside countIn upTo floatIn floatOf floatText bitsIn numberIn numberFrom areDigits valueFrom digitOf digitsOf glyphOf decimalOf placesOf round ofBits toBits
-examples = (refl, refl, refl, refl, refl, refl, refl)
+examples = (refl, refl, refl, refl, refl, refl, refl, refl)

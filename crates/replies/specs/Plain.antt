@@ -41,7 +41,7 @@ unfoldable pub plainFields : List Word → List ℕ
 plainFields [] = []
 plainFields (w ∷ ws) = plainField w ++ plainFields ws
 
--- ---- what a refusal means: document 01's table in a few words
+-- ---- what a refusal means: document 01's table and 02's in a few words
 
 pub data Row : Type 0 where
   row : ℕ → Word → Row
@@ -58,6 +58,7 @@ table =
     ∷ row 8 (codes ": waiting curves and the new one exceed 4096 numbers")
     ∷ row 9 (codes ": block time, period or count out of range, or output or input of a wrong length")
     ∷ row 10 (codes ": block time below that of the last answered block")
+    ∷ row 11 (codes ": inside a waiting curve, or with a waiting event inside")
     ∷ row 14 (codes ": the curve store lent is not 4096 numbers long") ∷ []
 
 unfoldable pub meaningIn : List Row → ℕ → List ℕ

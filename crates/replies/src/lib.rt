@@ -79,8 +79,8 @@ fn put_fields(out: &mut [u8], at: usize, line: &[u8]) -> usize
     }
 }
 
-// What document 01's number means.
-fn put_meaning(out: &mut [u8], at: usize, number: u64) -> usize
+// What document 01's number means, or 02's.
+pub fn put_meaning(out: &mut [u8], at: usize, number: u64) -> usize
     requires { ⌜ at + 90 ≤ length (now out) ⌝ }
     ensures { λ r. ⌜ Put (now (out .entry)) at (meaningIn table number) (now (out .exit)) r × (r ≤ at + 90) ⌝ }
 {
@@ -114,6 +114,11 @@ fn put_meaning(out: &mut [u8], at: usize, number: u64) -> usize
             out,
             at,
             b": block time below that of the last answered block",
+        ),
+        11 => put_word(
+            out,
+            at,
+            b": inside a waiting curve, or with a waiting event inside",
         ),
         14 => put_word(out, at, b": the curve store lent is not 4096 numbers long"),
         _ => at,

@@ -1,7 +1,7 @@
 -- A second table beside the bench sheet, which has no target, no true exponential, no second hold and no walk at K-rate. What is expected does not come from the
 -- definitions: C1 to C26 are from a program written from document 01 alone, C27 to C49 from an interpreter of 01 in exact fractions by the second reader, who had read
--- the definitions, C50 to C52 and C54 to C58 from a program written from 01 and 02 (cases-02), C53, C59, C60 and what 02 changes of C39 by hand; the oracle's
--- reference interpreter gives the same. Under each case's name stand its calls in plain numbers.
+-- the definitions, C50 to C52, C54 to C58 and C61 to C66 from a program written from 01 and 02 (cases-02), C53, C59, C60, C67 and what 02 changes of C39, C42
+-- and C46 by hand; the oracle's reference interpreter gives the same. Under each case's name stand its calls in plain numbers.
 use mathlib.Core.Path.{_≡_, refl}
 use mathlib.Core.Bool.{true, false}
 use mathlib.Core.List.{List, [], _∷_, _++_}
@@ -1059,7 +1059,7 @@ cases =
           ∷ state n5 (MaybeTime.At (fin false 3602879701896397 (negsuc 54))) (done (fin false 5404319552844595 (negsuc 52)) n1) (record { event = Event.Curve (fin false 1351079888211149 (negsuc 50)) n1 2 MaybeTime.Missing; numbers = (n5 ∷ n5 ∷ []) } ∷ []) true
           ∷ [];
     }
-    -- C42 a next block time that is infinite, with a curve and a ramp
+    -- C42 a next block time that is infinite, with a curve; its end is, too, and a ramp behind its start lies inside
     -- make -10 1 10 a; curve 1.7e308 1e307 3 5; linear 4 1.75e308; block 1.7e308 1e307 2; state
     ∷ record {
       acts =
@@ -1072,9 +1072,9 @@ cases =
       said =
           ok
           ∷ ok
-          ∷ ok
+          ∷ refused 11
           ∷ output 1 n1 false (n3 ∷ n5 ∷ [])
-          ∷ state n5 (MaybeTime.At (fin false 4258857765019067 (pos 972))) LastEvent.None (record { event = Event.Curve (fin false 4258857765019067 (pos 972)) (fin false 8016673440035891 (pos 967)) 2 MaybeTime.Missing; numbers = (n3 ∷ n5 ∷ []) } ∷ alone (Event.Linear n4 (fin false 1096029571879907 (pos 974)) MaybeTime.Missing) ∷ []) true
+          ∷ state n5 (MaybeTime.At (fin false 4258857765019067 (pos 972))) LastEvent.None (record { event = Event.Curve (fin false 4258857765019067 (pos 972)) (fin false 8016673440035891 (pos 967)) 2 MaybeTime.Missing; numbers = (n3 ∷ n5 ∷ []) } ∷ []) true
           ∷ [];
     }
     -- C43 the flush: +0 also of a negative sample, and only below 2^-126
@@ -1163,14 +1163,15 @@ cases =
           ∷ state minus0 (MaybeTime.At (fin false 3828059683264921 (negsuc 49))) (done (fin false 7656119366529843 (negsuc 50)) minus0) [] true
           ∷ [];
     }
-    -- C46 64 events wait: 7, but 6 comes before it and 8 and 14 after it; cancel is answered
-    -- make -10 0 10 a; 65 times step 1 1; set 1; curve 1 1 5; curve 1 1 5000 times 1; cancel 1; state
+    -- C46 64 events wait: 7, but 6 and 11 come before it and 8 and 14 after it; cancel is answered
+    -- make -10 0 10 a; 65 times step 1 1; set 1; curve 1 1 5; curve 1 1 5000 times 1; curve 2 1 5000 times 1; cancel 1; state
     ∷ record {
       acts =
           make (bounds minus10 n0 n10) Rate.A
           ∷ (replicate 65 (ask (step n1 n1)) ++ (ask (set n1)
           ∷ ask (curve n1 n1 (n5 ∷ []))
           ∷ ask (curve n1 n1 (replicate 5000 n1))
+          ∷ ask (curve n2 n1 (replicate 5000 n1))
           ∷ ask (cancel n1)
           ∷ look
           ∷ []));
@@ -1178,6 +1179,7 @@ cases =
           (replicate 65 ok ++ (refused 7
           ∷ refused 7
           ∷ refused 6
+          ∷ refused 11
           ∷ refused 7
           ∷ ok
           ∷ state n0 MaybeTime.Missing LastEvent.None [] true
@@ -1570,6 +1572,193 @@ cases =
           ∷ ok
           ∷ state n0 MaybeTime.Missing LastEvent.None (alone (Event.Step n0 n0) ∷ alone (Event.Linear n8 n8 (MaybeTime.At n2)) ∷ alone (Event.Linear n4 n6 (MaybeTime.At n4)) ∷ []) true
           ∷ output 4 n0 false (n0 ∷ n1 ∷ n2 ∷ fin false 5 (negsuc 0) ∷ n3 ∷ n3 ∷ [])
+          ∷ [];
+    }
+    -- ---- 02, C-14: nothing inside a curve (C61 to C66 are cases-02's)
+    -- C61 a hold inside a curve with a ramp behind it holds the curve, and the ramp goes; behind the hold time it holds the ramp
+    -- make -10 0 10 a; curve 0 4 0 4 8; linear 0 8; hold 1; state; linear 0 8; hold 2; state; block 0 1 10
+    ∷ record {
+      acts =
+          make (bounds minus10 n0 n10) Rate.A
+          ∷ ask (curve n0 n4 (n0 ∷ n4 ∷ n8 ∷ []))
+          ∷ ask (linear n0 n8)
+          ∷ ask (hold n1)
+          ∷ look
+          ∷ ask (linear n0 n8)
+          ∷ ask (hold n2)
+          ∷ look
+          ∷ block n0 n1 10 10 []
+          ∷ [];
+      said =
+          ok
+          ∷ ok
+          ∷ ok
+          ∷ ok
+          ∷ state n0 MaybeTime.Missing LastEvent.None (record { event = Event.Curve n0 n4 3 (MaybeTime.At n1); numbers = (n0 ∷ n4 ∷ n8 ∷ []) } ∷ []) true
+          ∷ ok
+          ∷ ok
+          ∷ state n0 MaybeTime.Missing LastEvent.None (record { event = Event.Curve n0 n4 3 (MaybeTime.At n1); numbers = (n0 ∷ n4 ∷ n8 ∷ []) } ∷ alone (Event.Linear n0 n8 (MaybeTime.At n2)) ∷ []) true
+          ∷ output 3 n0 false (n0 ∷ n2 ∷ (fin false 14380471 (negsuc 22)) ∷ (fin false 14380471 (negsuc 22)) ∷ (fin false 14380471 (negsuc 22)) ∷ (fin false 14380471 (negsuc 22)) ∷ (fin false 14380471 (negsuc 22)) ∷ (fin false 14380471 (negsuc 22)) ∷ (fin false 14380471 (negsuc 22)) ∷ (fin false 14380471 (negsuc 22)) ∷ [])
+          ∷ [];
+    }
+    -- C62 what is at a curve's start or inside it is refused, at its end or before its start not; a curve is refused over a waiting time, and inside another
+    -- make -10 0 10 a; curve 2 4 0 4 8; step 1 2; step 1 5; step 1 1; step 1 6; curve 0 1 1 2; curve 0 2 1 2; curve 1 1 1 2; curve 5 8 1 2; curve 6 1 1 2; state
+    ∷ record {
+      acts =
+          make (bounds minus10 n0 n10) Rate.A
+          ∷ ask (curve n2 n4 (n0 ∷ n4 ∷ n8 ∷ []))
+          ∷ ask (step n1 n2)
+          ∷ ask (step n1 n5)
+          ∷ ask (step n1 n1)
+          ∷ ask (step n1 n6)
+          ∷ ask (curve n0 n1 (n1 ∷ n2 ∷ []))
+          ∷ ask (curve n0 n2 (n1 ∷ n2 ∷ []))
+          ∷ ask (curve n1 n1 (n1 ∷ n2 ∷ []))
+          ∷ ask (curve n5 n8 (n1 ∷ n2 ∷ []))
+          ∷ ask (curve n6 n1 (n1 ∷ n2 ∷ []))
+          ∷ look
+          ∷ [];
+      said =
+          ok
+          ∷ ok
+          ∷ refused 11
+          ∷ refused 11
+          ∷ ok
+          ∷ ok
+          ∷ ok
+          ∷ refused 11
+          ∷ refused 11
+          ∷ refused 11
+          ∷ refused 11
+          ∷ state n0 MaybeTime.Missing LastEvent.None (record { event = Event.Curve n0 n1 2 MaybeTime.Missing; numbers = (n1 ∷ n2 ∷ []) } ∷ alone (Event.Step n1 n1) ∷ record { event = Event.Curve n2 n4 3 MaybeTime.Missing; numbers = (n0 ∷ n4 ∷ n8 ∷ []) } ∷ alone (Event.Step n1 n6) ∷ []) true
+          ∷ [];
+    }
+    -- C63 start + duration can be the start: then nothing is inside; or infinite: then all from the start on is
+    -- make -10 0 10 a; curve 1e17 1 0 1; step 1 1e17; curve 1e17 2 3 4; state; make -10 0 10 a; curve 1e308 1e308 0 1; step 1 1.7e308; step 1 9e307; state
+    ∷ record {
+      acts =
+          make (bounds minus10 n0 n10) Rate.A
+          ∷ ask (curve (fin false 762939453125 (pos 17)) n1 (n0 ∷ n1 ∷ []))
+          ∷ ask (step n1 (fin false 762939453125 (pos 17)))
+          ∷ ask (curve (fin false 762939453125 (pos 17)) n2 (n3 ∷ n4 ∷ []))
+          ∷ look
+          ∷ make (bounds minus10 n0 n10) Rate.A
+          ∷ ask (curve (fin false 156575653125701 (pos 976)) (fin false 156575653125701 (pos 976)) (n0 ∷ n1 ∷ []))
+          ∷ ask (step n1 (fin false 4258857765019067 (pos 972)))
+          ∷ ask (step n1 (fin false 4509378810020189 (pos 971)))
+          ∷ look
+          ∷ [];
+      said =
+          ok
+          ∷ ok
+          ∷ ok
+          ∷ ok
+          ∷ state n0 MaybeTime.Missing LastEvent.None (record { event = Event.Curve (fin false 762939453125 (pos 17)) n1 2 MaybeTime.Missing; numbers = (n0 ∷ n1 ∷ []) } ∷ alone (Event.Step n1 (fin false 762939453125 (pos 17))) ∷ record { event = Event.Curve (fin false 762939453125 (pos 17)) n2 2 MaybeTime.Missing; numbers = (n3 ∷ n4 ∷ []) } ∷ []) true
+          ∷ ok
+          ∷ ok
+          ∷ refused 11
+          ∷ ok
+          ∷ state n0 MaybeTime.Missing LastEvent.None (alone (Event.Step n1 (fin false 4509378810020189 (pos 971))) ∷ record { event = Event.Curve (fin false 156575653125701 (pos 976)) (fin false 156575653125701 (pos 976)) 2 MaybeTime.Missing; numbers = (n0 ∷ n1 ∷ []) } ∷ []) true
+          ∷ [];
+    }
+    -- C64 11 is given after 2 to 6, and before 7, 8 and 14
+    -- make -10 0 10 a; curve 0 4 0 1; exponential 0 1; target 1 1 -1; curve 1 1 3; lend 5; curve 1 1 3 4; curve 5 1 3 4; step 1 1
+    ∷ record {
+      acts =
+          make (bounds minus10 n0 n10) Rate.A
+          ∷ ask (curve n0 n4 (n0 ∷ n1 ∷ []))
+          ∷ ask (exponential n0 n1)
+          ∷ ask (target n1 n1 minus1)
+          ∷ ask (curve n1 n1 (n3 ∷ []))
+          ∷ lend 5
+          ∷ ask (curve n1 n1 (n3 ∷ n4 ∷ []))
+          ∷ ask (curve n5 n1 (n3 ∷ n4 ∷ []))
+          ∷ ask (step n1 n1)
+          ∷ [];
+      said =
+          ok
+          ∷ ok
+          ∷ refused 5
+          ∷ refused 4
+          ∷ refused 6
+          ∷ ok
+          ∷ refused 11
+          ∷ refused 14
+          ∷ refused 11
+          ∷ [];
+    }
+    -- C65 a target that snaps at a block's end leaves its step at a curve's start, before it
+    -- make -10 0 10 a; target 5 0 0.01; curve 4 4 0 4 8; block 0 1 4; state; step 1 4; cancel 4.5; state
+    ∷ record {
+      acts =
+          make (bounds minus10 n0 n10) Rate.A
+          ∷ ask (target n5 n0 (fin false 5764607523034235 (negsuc 58)))
+          ∷ ask (curve n4 n4 (n0 ∷ n4 ∷ n8 ∷ []))
+          ∷ block n0 n1 4 4 []
+          ∷ look
+          ∷ ask (step n1 n4)
+          ∷ ask (cancel (fin false 9 (negsuc 0)))
+          ∷ look
+          ∷ [];
+      said =
+          ok
+          ∷ ok
+          ∷ ok
+          ∷ output 1 n0 false (n0 ∷ n5 ∷ n5 ∷ n5 ∷ [])
+          ∷ state n5 (MaybeTime.At n0) (done n0 n0) (alone (Event.Step n5 n4) ∷ record { event = Event.Curve n4 n4 3 MaybeTime.Missing; numbers = (n0 ∷ n4 ∷ n8 ∷ []) } ∷ []) true
+          ∷ refused 11
+          ∷ ok
+          ∷ state n5 (MaybeTime.At n0) (done n0 n0) (alone (Event.Step n5 n4) ∷ record { event = Event.Curve n4 n4 3 MaybeTime.Missing; numbers = (n0 ∷ n4 ∷ n8 ∷ []) } ∷ []) true
+          ∷ [];
+    }
+    -- C66 at a curve's very start, in either order
+    -- make -10 0 10 a; set 5; curve 0 4 0 1; step 5 2; curve 2 4 0 1; make -10 0 10 a; curve 0 4 0 1; set 5
+    ∷ record {
+      acts =
+          make (bounds minus10 n0 n10) Rate.A
+          ∷ ask (set n5)
+          ∷ ask (curve n0 n4 (n0 ∷ n1 ∷ []))
+          ∷ ask (step n5 n2)
+          ∷ ask (curve n2 n4 (n0 ∷ n1 ∷ []))
+          ∷ make (bounds minus10 n0 n10) Rate.A
+          ∷ ask (curve n0 n4 (n0 ∷ n1 ∷ []))
+          ∷ ask (set n5)
+          ∷ [];
+      said =
+          ok
+          ∷ ok
+          ∷ refused 11
+          ∷ ok
+          ∷ refused 11
+          ∷ ok
+          ∷ ok
+          ∷ refused 11
+          ∷ [];
+    }
+    -- C67 a curve held at its start has no span, and a held ramp lies inside a curve by its hold time
+    -- make -10 0 10 a; curve 2 4 0 4 8; hold 2; step 1 2; linear 8 8; hold 7; curve 6 2 1 2; curve 7.5 1 1 2; state
+    ∷ record {
+      acts =
+          make (bounds minus10 n0 n10) Rate.A
+          ∷ ask (curve n2 n4 (n0 ∷ n4 ∷ n8 ∷ []))
+          ∷ ask (hold n2)
+          ∷ ask (step n1 n2)
+          ∷ ask (linear n8 n8)
+          ∷ ask (hold n7)
+          ∷ ask (curve n6 n2 (n1 ∷ n2 ∷ []))
+          ∷ ask (curve (fin false 15 (negsuc 0)) n1 (n1 ∷ n2 ∷ []))
+          ∷ look
+          ∷ [];
+      said =
+          ok
+          ∷ ok
+          ∷ ok
+          ∷ ok
+          ∷ ok
+          ∷ ok
+          ∷ refused 11
+          ∷ ok
+          ∷ state n0 MaybeTime.Missing LastEvent.None (record { event = Event.Curve n2 n4 3 (MaybeTime.At n2); numbers = (n0 ∷ n4 ∷ n8 ∷ []) } ∷ alone (Event.Step n1 n2) ∷ alone (Event.Linear n8 n8 (MaybeTime.At n7)) ∷ record { event = Event.Curve (fin false 15 (negsuc 0)) n1 2 MaybeTime.Missing; numbers = (n1 ∷ n2 ∷ []) } ∷ []) true
           ∷ [];
     }
     ∷ []

@@ -162,11 +162,10 @@ rust =
           ∷ [];
     }
     -- R8 a curve over two blocks of 5, then a linear ramp from its last number
-    -- make -10 0 10 a; step 2 0; curve 0 6.5 1 3 2; linear 0 9; block 0 1 5; state; block 5 1 5; state
+    -- make -10 0 10 a; curve 0 6.5 1 3 2; linear 0 9; block 0 1 5; state; block 5 1 5; state
     ∷ record {
       acts =
           make (bounds minus10 n0 n10) Rate.A
-          ∷ ask (step n2 n0)
           ∷ ask (curve n0 (fin false 13 (negsuc 0)) (n1 ∷ n3 ∷ n2 ∷ []))
           ∷ ask (linear n0 n9)
           ∷ hear n0 n1 5 []
@@ -178,9 +177,8 @@ rust =
           ok
           ∷ ok
           ∷ ok
-          ∷ ok
           ∷ sounds n0 false (n1 ∷ (fin false 3387707 (negsuc 20)) ∷ (fin false 2339131 (negsuc 19)) ∷ (fin false 5968817 (negsuc 20)) ∷ (fin false 2903749 (negsuc 19)) ∷ [])
-          ∷ seen (fin false 1290555 (negsuc 18)) (done n0 n2) (record { event = Event.Curve n0 (fin false 13 (negsuc 0)) 3 MaybeTime.Missing; numbers = (n1 ∷ n3 ∷ n2 ∷ []) } ∷ alone (Event.Linear n0 n9 MaybeTime.Missing) ∷ [])
+          ∷ seen (fin false 1290555 (negsuc 18)) LastEvent.None (record { event = Event.Curve n0 (fin false 13 (negsuc 0)) 3 MaybeTime.Missing; numbers = (n1 ∷ n3 ∷ n2 ∷ []) } ∷ alone (Event.Linear n0 n9 MaybeTime.Missing) ∷ [])
           ∷ sounds (fin false 1290555 (negsuc 18)) false ((fin false 1290555 (negsuc 18)) ∷ (fin false 4516943 (negsuc 20)) ∷ (fin false 13421773 (negsuc 22)) ∷ (fin false 3355443 (negsuc 21)) ∷ n0 ∷ [])
           ∷ seen n0 (done n9 n0) []
           ∷ [];

@@ -141,7 +141,7 @@ outputSaid a = outputAs (a .verdict) a
 unfoldable pub stateSaid : Param → List Float → Said
 stateSaid p store = state (p .intrinsic) (p .lastBlock) (p .last) (attached (p .queue) store) (allZeros (drop (lengthsOf (p .queue)) store))
 
--- each call on the parameter and the store that the one before left; `lend` cuts the store or lengthens it by zeros, so it stands only where no curve waits
+-- each call on the parameter and the store that the one before left; `lend` cuts the store or lengthens it by zeros, so behind it nothing may read what was cut
 unfoldable pub performed : List Act → Param → List Float → List Said
 performed [] p store = []
 performed (make b r ∷ acts) p store =
@@ -165,8 +165,8 @@ unfolding verdictSaid allZeros outputAs outputSaid stateSaid performed
     Numbers.isFinite Numbers.isZero Numbers.isPositive Numbers.isNegative Numbers.magnitude Numbers.isSubnormal Numbers.takenTime Numbers.laterOf Numbers.wide Numbers.wholePart Numbers.product Numbers.fused Numbers.narrowed Numbers.limit Numbers.placeFrom Numbers.periodsTo Numbers.endPlace Numbers.timeAt Numbers.run Numbers.filledAt Numbers.filled
     Kernels.rootFrom Kernels.root Kernels.tableFrom Kernels.table Kernels.fallingFrom Kernels.falling Kernels.logFrom Kernels.log
     Samples.phaseOf Samples.hasNoLength Samples.rampSample Samples.linearSample Samples.isRatio Samples.ratioOf Samples.ratioLog Samples.floorOf Samples.powerOf Samples.power Samples.factorOf Samples.exponentialBy Samples.exponentialSample Samples.decayOf Samples.decay Samples.targetSample Samples.lastNumber Samples.between Samples.curvePosition Samples.curveSample
-    Queue.holdOr Queue.filedUnder Queue.isRamp Queue.lengthOf Queue.targetEvent Queue.headOf Queue.eventsOf Queue.numbersOf Queue.packed Queue.attached Queue.lengthsOf Queue.hasNotLater Queue.placeBehind Queue.putAt Queue.inserted Queue.arrived Queue.those Queue.isBefore Queue.cancelled Queue.losesRamp Queue.returned Queue.valueAfterCancel Queue.sooner Queue.heldEvent Queue.heldAt Queue.runsAt Queue.isLater Queue.isNotLater Queue.heldIfRunning Queue.lastHeld Queue.heldBy Queue.held
-    Refusals.numberOf Refusals.lowest Refusals.allFinite Refusals.areBounds Refusals.makingRows Refusals.valueRows Refusals.exponentialRows Refusals.targetRows Refusals.curveRows Refusals.cancelRows Refusals.fitsCount Refusals.isEarlier Refusals.isTime Refusals.isPeriod Refusals.isCount Refusals.isBlock Refusals.blockRows
+    Queue.holdOr Queue.filedUnder Queue.isRamp Queue.curveEnd Queue.isInside Queue.covers Queue.lengthOf Queue.targetEvent Queue.headOf Queue.eventsOf Queue.numbersOf Queue.packed Queue.attached Queue.lengthsOf Queue.any Queue.anyCovers Queue.isFiledInside Queue.anyInside Queue.hasNotLater Queue.placeBehind Queue.putAt Queue.inserted Queue.arrived Queue.those Queue.isBefore Queue.cancelled Queue.losesRamp Queue.returned Queue.valueAfterCancel Queue.sooner Queue.heldEvent Queue.heldAt Queue.runsAt Queue.isLater Queue.isNotLater Queue.heldIfRunning Queue.lastHeld Queue.holdsRamp Queue.heldBy Queue.held
+    Refusals.numberOf Refusals.lowest Refusals.allFinite Refusals.areBounds Refusals.makingRows Refusals.isCrossed Refusals.valueRows Refusals.exponentialRows Refusals.targetRows Refusals.curveRows Refusals.cancelRows Refusals.fitsCount Refusals.isEarlier Refusals.isTime Refusals.isPeriod Refusals.isCount Refusals.isBlock Refusals.blockRows
     Walk.counted Walk.withValues Walk.withIntrinsic Walk.withLast Walk.withTurned Walk.consumed Walk.fill Walk.lastOr Walk.startOf Walk.stepTime Walk.stepFrom Walk.stepTurn Walk.valueAtEnd Walk.spanTurn Walk.linearTurn Walk.exponentialTurn Walk.endByNext Walk.endByHold Walk.snaps Walk.flushed Walk.flushedFor Walk.targetLeft Walk.targetRun Walk.fromStart Walk.targetTurn Walk.curveTurn Walk.turnOf Walk.turn Walk.ended Walk.next Walk.walked
     Mix.clamped Mix.settled Mix.mixed Mix.mixedAll Mix.firstOf Mix.spread Mix.inputs
     Block.madeAs Block.made Block.calledAs Block.scheduledAs Block.called Block.infosOf Block.restsFor Block.valuesBefore Block.renderedAs Block.rendered Block.isSilent Block.saysOne Block.outputOf Block.answerOf Block.answeredAs Block.verdictOf Block.answered

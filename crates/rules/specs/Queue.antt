@@ -1,5 +1,5 @@
 -- Document 01, "Events as they arrive": the queue and the curve store.
-use mathlib.Core.Bool.{Bool, true, false, cond, not, _||_}
+use mathlib.Core.Bool.{Bool, true, false, cond, not, _&&_, _||_}
 use mathlib.Core.List.{List, [], _∷_, _++_}
 use Prim.Native.Nat.{ℕ, zero, suc, _+_, _-_}
 use lib.ListN.{length, take, drop, replicate}
@@ -37,6 +37,22 @@ isRamp (Event.Linear v t h) = true
 isRamp (Event.Exponential v t h) = true
 isRamp (Event.Target v t c h) = false
 isRamp (Event.Curve s d n h) = false
+
+-- "the end being start plus duration or an earlier hold time" (02, C-14), the sum as rounded
+unfoldable pub curveEnd : Float → Float → MaybeTime → Float
+curveEnd s d h = holdOr h (Ieee.add binary64 s d)
+
+-- "at or after a .. start and before its end"
+unfoldable pub isInside : Float → Float → Float → Bool
+isInside start end t = Ieee.le start t && Ieee.lt t end
+
+-- whether t lies inside an event that is a curve: nothing lies inside any other
+unfoldable pub covers : Float → Event → Bool
+covers t (Event.Step v u) = false
+covers t (Event.Linear v u h) = false
+covers t (Event.Exponential v u h) = false
+covers t (Event.Target v u c h) = false
+covers t (Event.Curve s d n h) = isInside s (curveEnd s d h) t
 
 -- how many numbers of the curve store are the event's
 unfoldable pub lengthOf : Event → ℕ
@@ -85,6 +101,23 @@ attached (e ∷ es) store = record { event = e; numbers = take (lengthOf e) stor
 unfoldable pub lengthsOf : List Event → ℕ
 lengthsOf [] = 0
 lengthsOf (e ∷ es) = lengthOf e + lengthsOf es
+
+-- ---- what lies inside a curve (02, C-14): an event's time is the one that it is filed under
+
+unfoldable pub any : (Event → Bool) → List Event → Bool
+any test [] = false
+any test (e ∷ es) = test e || any test es
+
+-- "an event whose time lies at or after a waiting curve's start and before its end"
+unfoldable pub anyCovers : Float → List Event → Bool
+anyCovers t q = any (covers t) q
+
+-- "a curve whose own span, from its start up to but without its end, holds a waiting event's time"
+unfoldable pub isFiledInside : Float → Float → Event → Bool
+isFiledInside start end e = isInside start end (filedUnder e)
+
+unfoldable pub anyInside : Float → Float → List Event → Bool
+anyInside start end q = any (isFiledInside start end) q
 
 -- ---- arrival: "It goes behind all events of equal or smaller time"
 
@@ -179,10 +212,15 @@ lastHeld c [] = []
 lastHeld c (w ∷ []) = heldIfRunning c w ∷ []
 lastHeld c (w ∷ x ∷ ws) = w ∷ lastHeld c (x ∷ ws)
 
--- by the first event later than c: "if it is a ramp, it gets hold time c", and alone of the later ones it stays
+-- "if it is a ramp", but "a cancel-and-hold at or after a waiting curve's start and before its end holds that curve, as if no ramp followed" (02, C-14). A curve with c
+-- inside starts at or before c, and is the last such one: nothing is filed inside it.
+unfoldable pub holdsRamp : Float → List Waiting → Waiting → Bool
+holdsRamp c ws x = isRamp (x .event) && not (anyCovers c (eventsOf ws))
+
+-- by the events ws at or before c and the first later one: "it gets hold time c", and alone of the later ones it stays
 unfoldable pub heldBy : Float → List Waiting → List Waiting → List Waiting
 heldBy c ws [] = lastHeld c ws
-heldBy c ws (x ∷ xs) = cond (isRamp (x .event)) (ws ++ (heldAt c x ∷ [])) (lastHeld c ws)
+heldBy c ws (x ∷ xs) = cond (holdsRamp c ws x) (ws ++ (heldAt c x ∷ [])) (lastHeld c ws)
 
 -- "Then all events later than c go, but for the ramp just held."
 unfoldable pub held : Float → List Waiting → List Waiting

@@ -14,10 +14,10 @@ use Rattle.rules.specs.declared.Refusal.{Refusal}
 use Rattle.rules.specs.declared.Refusal.the-variants as Refusal
 use Rattle.rules.specs.declared.Verdict.{Verdict}
 use Rattle.rules.specs.declared.Verdict.the-variants as Verdict
-use Rattle.rules.specs.Numbers.{mostEvents, storeLength, isFinite, isZero, isPositive, isNegative}
-use Rattle.rules.specs.Queue.{lengthsOf}
+use Rattle.rules.specs.Numbers.{mostEvents, storeLength, isFinite, isZero, isPositive, isNegative, takenTime}
+use Rattle.rules.specs.Queue.{lengthsOf, curveEnd, anyCovers, anyInside}
 
--- document 01's numbers
+-- document 01's numbers, and 02's
 unfoldable pub numberOf : Refusal → ℕ
 numberOf Refusal.Bounds = 1
 numberOf Refusal.NotFinite = 2
@@ -29,13 +29,29 @@ numberOf Refusal.QueueFull = 7
 numberOf Refusal.StoreFull = 8
 numberOf Refusal.BadBlock = 9
 numberOf Refusal.OutOfOrder = 10
+numberOf Refusal.Inside = 11
 numberOf Refusal.BadStore = 14
+
+-- the order in which they are given: that of their numbers, but 11 "after 6 and before 7 and 8" (02, C-14)
+unfoldable pub rankOf : Refusal → ℕ
+rankOf Refusal.Bounds = 1
+rankOf Refusal.NotFinite = 2
+rankOf Refusal.BeforeZero = 3
+rankOf Refusal.NotAbove = 4
+rankOf Refusal.ZeroTarget = 5
+rankOf Refusal.ShortCurve = 6
+rankOf Refusal.Inside = 7
+rankOf Refusal.QueueFull = 8
+rankOf Refusal.StoreFull = 9
+rankOf Refusal.BadBlock = 10
+rankOf Refusal.OutOfOrder = 11
+rankOf Refusal.BadStore = 12
 
 -- one row of the table: a refusal, and whether it applies
 pub data Row : Type 0 where
   row : Refusal → Bool → Row
 
--- "If several apply, the lowest number is given": the first row that applies, the rows of each call standing in the order of their numbers
+-- "If several apply, the lowest number is given": the first row that applies, the rows of each call standing in the order of their ranks
 unfoldable pub lowest : List Row → Verdict
 lowest [] = Verdict.Answered
 lowest (row r true ∷ rows) = Verdict.Refused r
@@ -59,6 +75,14 @@ timeRow t = row Refusal.BeforeZero (isNegative t)
 abbrev pub fullRow : List Event → Row
 fullRow q = row Refusal.QueueFull (leb mostEvents (length q))
 
+-- 11: "an event whose time lies at or after a waiting curve's start and before its end"
+abbrev pub insideRow : List Event → Float → Row
+insideRow q t = row Refusal.Inside (anyCovers (takenTime t) q)
+
+-- 11 for a curve: "whose own span .. holds a waiting event's time, or whose start lies inside a waiting curve's span"
+unfoldable pub isCrossed : List Event → Float → Float → Bool
+isCrossed q start d = anyCovers start q || anyInside start (curveEnd start d MaybeTime.Missing) q
+
 -- 14: "the curve store lent to a call is not exactly 4,096 numbers long"
 abbrev pub storeRow : List Float → Row
 storeRow store = row Refusal.BadStore (not (eqb (length store) storeLength))
@@ -74,21 +98,21 @@ makingRows b = row Refusal.Bounds (not (areBounds b)) ∷ []
 
 -- a step or a linear ramp
 unfoldable pub valueRows : List Event → Float → Float → List Row
-valueRows q v t = finiteRow (v ∷ t ∷ []) ∷ timeRow t ∷ fullRow q ∷ []
+valueRows q v t = finiteRow (v ∷ t ∷ []) ∷ timeRow t ∷ insideRow q t ∷ fullRow q ∷ []
 
 -- 5: "exponential target equal to 0"
 unfoldable pub exponentialRows : List Event → Float → Float → List Row
-exponentialRows q v t = finiteRow (v ∷ t ∷ []) ∷ timeRow t ∷ row Refusal.ZeroTarget (isZero v) ∷ fullRow q ∷ []
+exponentialRows q v t = finiteRow (v ∷ t ∷ []) ∷ timeRow t ∷ row Refusal.ZeroTarget (isZero v) ∷ insideRow q t ∷ fullRow q ∷ []
 
 -- 4: "time constant below 0"
 unfoldable pub targetRows : List Event → Float → Float → Float → List Row
-targetRows q v t c = finiteRow (v ∷ t ∷ c ∷ []) ∷ timeRow t ∷ row Refusal.NotAbove (isNegative c) ∷ fullRow q ∷ []
+targetRows q v t c = finiteRow (v ∷ t ∷ c ∷ []) ∷ timeRow t ∷ row Refusal.NotAbove (isNegative c) ∷ insideRow q t ∷ fullRow q ∷ []
 
 -- 4: "or duration not above 0"; 6: "curve of fewer than 2 numbers"; 8: "waiting curve lengths plus the new one exceed 4,096"
 unfoldable pub curveRows : List Event → List Float → Float → Float → List Float → List Row
 curveRows q store t d xs =
-    finiteRow (t ∷ d ∷ xs) ∷ timeRow t ∷ row Refusal.NotAbove (not (isPositive d)) ∷ row Refusal.ShortCurve (ltb (length xs) 2) ∷ fullRow q
-    ∷ row Refusal.StoreFull (ltb storeLength (lengthsOf q + length xs)) ∷ storeRow store ∷ []
+    finiteRow (t ∷ d ∷ xs) ∷ timeRow t ∷ row Refusal.NotAbove (not (isPositive d)) ∷ row Refusal.ShortCurve (ltb (length xs) 2)
+    ∷ row Refusal.Inside (isCrossed q (takenTime t) d) ∷ fullRow q ∷ row Refusal.StoreFull (ltb storeLength (lengthsOf q + length xs)) ∷ storeRow store ∷ []
 
 -- cancel, and cancel-and-hold: "Cancel is never refused by 7 or 8."
 unfoldable pub cancelRows : List Float → Float → List Row

@@ -76,7 +76,7 @@ pub struct BlockInfos {
     pub rate: AutomationRate,
 }
 
-// Why a call is refused; `numberOf` in specs/Refusals.antt gives document 01's numbers.
+// Why a call is refused; `numberOf` in specs/Refusals.antt gives document 01's numbers, and 02's.
 pub enum Refusal {
     Bounds,
     NotFinite,
@@ -88,6 +88,7 @@ pub enum Refusal {
     StoreFull,
     BadBlock,
     OutOfOrder,
+    Inside,
     BadStore,
 }
 

@@ -1,6 +1,6 @@
 -- Cancel-and-hold by its events: the last one held, and what the first event later than c decides. Assumes nothing.
 use mathlib.Core.Path.{_≡_, refl, sym, ap, _∙_}
-use mathlib.Core.Bool.{Bool, true, false, cond, not}
+use mathlib.Core.Bool.{Bool, true, false, cond, not, _&&_}
 use mathlib.Core.List.{List, [], _∷_, _++_}
 use Prim.Native.Nat.{ℕ, zero, suc, _+_, _≤_, _<_}
 use native.Mathlib.Nat.{suc-ne-zero}
@@ -10,7 +10,7 @@ use lib.Seq.{take-all, take-suc, set-split, take-length, drop-length}
 use lib.Ieee.{Float}
 use Rattle.rules.specs.declared.Event.{Event}
 use Rattle.rules.specs.declared.Head.the-variants as Head
-use Rattle.rules.specs.Queue.{Waiting, isRamp, putAt, those, eventsOf, attached, heldEvent, heldAt, runsAt, isLater, isNotLater, lastHeld, heldBy, held}
+use Rattle.rules.specs.Queue.{Waiting, isRamp, putAt, those, eventsOf, attached, heldEvent, heldAt, runsAt, isLater, isNotLater, anyCovers, lastHeld, holdsRamp, heldBy, held}
 use Rattle.laws.specs.Search.{isLaterThan}
 use Rattle.laws.proofs.Events.{events-length, events-append, events-attached, events-those}
 use Rattle.laws.proofs.Ordered.{events-last-held}
@@ -73,16 +73,20 @@ module _ (c : Float) (ws : List Waiting) where
   by-none [] f = refl
   by-none (x ∷ xs) f = let z : _≡_ {A = ℕ} 0 1 = cc in absurd (omega arith)
 
-  module _ (e : Event) where
-    by-ramp : (xs : List Waiting) → firstOf (eventsOf xs) ≡ Head.Event e → isRamp e ≡ true → eventsOf (heldBy c ws xs) ≡ eventsOf ws ++ (heldEvent c e ∷ [])
-    unfolding firstOf heldBy eventsOf heldAt
-    by-ramp [] f r = let z : _≡_ {A = ℕ} 0 1 = cc in absurd (omega arith)
-    by-ramp (x ∷ xs) f r = let k : x .event ≡ e = cc in rw (ap isRamp k ∙ r) (events-append ws (heldAt c x ∷ []) ∙ ap (λ (d : Event). eventsOf ws ++ (heldEvent c d ∷ [])) k)
+  -- as code asks it: the first later event is a ramp, and c lies inside none of the others
+  abbrev ramps : Event → Bool
+  ramps e = isRamp e && not (anyCovers c (eventsOf ws))
 
-    by-other : (xs : List Waiting) → firstOf (eventsOf xs) ≡ Head.Event e → isRamp e ≡ false → heldBy c ws xs ≡ lastHeld c ws
-    unfolding firstOf heldBy eventsOf
+  module _ (e : Event) where
+    by-ramp : (xs : List Waiting) → firstOf (eventsOf xs) ≡ Head.Event e → ramps e ≡ true → eventsOf (heldBy c ws xs) ≡ eventsOf ws ++ (heldEvent c e ∷ [])
+    unfolding firstOf heldBy holdsRamp eventsOf heldAt
+    by-ramp [] f r = let z : _≡_ {A = ℕ} 0 1 = cc in absurd (omega arith)
+    by-ramp (x ∷ xs) f r = let k : x .event ≡ e = cc in rw (ap ramps k ∙ r) (events-append ws (heldAt c x ∷ []) ∙ ap (λ (d : Event). eventsOf ws ++ (heldEvent c d ∷ [])) k)
+
+    by-other : (xs : List Waiting) → firstOf (eventsOf xs) ≡ Head.Event e → ramps e ≡ false → heldBy c ws xs ≡ lastHeld c ws
+    unfolding firstOf heldBy holdsRamp eventsOf
     by-other [] f r = let z : _≡_ {A = ℕ} 0 1 = cc in absurd (omega arith)
-    by-other (x ∷ xs) f r = let k : x .event ≡ e = cc in rw (k, r)
+    by-other (x ∷ xs) f r = let k : x .event ≡ e = cc in rw (ap ramps k ∙ r)
 
 those-both : {A : Type 0} (keep test : A → Bool) → ((x : A) → keep x ≡ not (test x)) → (xs : List A)
     → length (those keep xs) + length (those test xs) ≡ length xs
@@ -128,16 +132,19 @@ module _ (c : Float) (q : List Event) where
   held-none f = last-early ∙ sym (ap eventsOf (by-none c (those (isNotLater c) ws) (those (isLater c) ws) (ap firstOf late-are ∙ f)))
 
   module _ (e : Event) (f : firstOf late ≡ Head.Event e) where
-    pub held-other : isRamp e ≡ false → eventsOf (lastHeld c (attached early [])) ≡ eventsOf (held c ws)
-    unfolding held
-    held-other r = last-early ∙ sym (ap eventsOf (by-other c (those (isNotLater c) ws) e (those (isLater c) ws) (ap firstOf late-are ∙ f) r))
+    asked : {b : Bool} → (isRamp e && not (anyCovers c early)) ≡ b → (isRamp e && not (anyCovers c (eventsOf (those (isNotLater c) ws)))) ≡ b
+    asked r = ap (λ (xs : List Event). isRamp e && not (anyCovers c xs)) early-are ∙ r
 
-    pub held-ramp : isRamp e ≡ true → putAt (length early) (heldEvent c e) early ≡ eventsOf (held c ws)
+    pub held-other : (isRamp e && not (anyCovers c early)) ≡ false → eventsOf (lastHeld c (attached early [])) ≡ eventsOf (held c ws)
+    unfolding held
+    held-other r = last-early ∙ sym (ap eventsOf (by-other c (those (isNotLater c) ws) e (those (isLater c) ws) (ap firstOf late-are ∙ f) (asked r)))
+
+    pub held-ramp : (isRamp e && not (anyCovers c early)) ≡ true → putAt (length early) (heldEvent c e) early ≡ eventsOf (held c ws)
     unfolding putAt held
     held-ramp r =
         rw (take-length early, drop-length early)
         (sym
-        (by-ramp c (those (isNotLater c) ws) e (those (isLater c) ws) (ap firstOf late-are ∙ f) r
+        (by-ramp c (those (isNotLater c) ws) e (those (isLater c) ws) (ap firstOf late-are ∙ f) (asked r)
         ∙ ap (λ (xs : List Event). xs ++ (heldEvent c e ∷ [])) early-are))
 
     -- the ramp has the room of those that go

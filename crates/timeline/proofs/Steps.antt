@@ -1,6 +1,6 @@
 -- The loops over the slots, turn by turn: the search for a place, the insertion at it, and what a cut keeps. Assumes nothing.
-use mathlib.Core.Path.{_≡_, sym, ap, _∙_}
-use mathlib.Core.Bool.{Bool, true, false, cond}
+use mathlib.Core.Path.{_≡_, refl, sym, ap, _∙_}
+use mathlib.Core.Bool.{Bool, true, false, cond, _||_}
 use mathlib.Core.List.{List, [], _∷_, _++_, map, map-append, append-nil}
 use Prim.Native.Nat.{ℕ, suc, _+_, _-_, _≤_, _<_}
 use native.Mathlib.Numerals.{add-one}
@@ -13,13 +13,12 @@ use Rattle.rules.specs.declared.Event.{Event}
 use Rattle.rules.specs.declared.Head.{Head}
 use Rattle.rules.specs.declared.Head.the-variants as Head
 use Rattle.rules.specs.Numbers.{mostEvents}
-use Rattle.rules.specs.Queue.{filedUnder, hasNotLater, placeBehind, putAt, those}
-use Rattle.laws.specs.Search.{isLaterThan}
+use Rattle.rules.specs.Queue.{filedUnder, any, hasNotLater, placeBehind, putAt, those}
 use Rattle.laws.proofs.Events.{put-length}
 use Rattle.laws.proofs.Ordered.{behind-last, behind-others}
 use Rattle.timeline.specs.declared.AudioParamEvent.{AudioParamEvent}
 use Rattle.timeline.specs.declared.AudioParamEventTimeline.{AudioParamEventTimeline}
-use Rattle.timeline.specs.Timeline.{slotOf, blankEvent, padded, waiting, Neat, firstOf, stays}
+use Rattle.timeline.specs.Timeline.{slotOf, blankEvent, padded, waiting, Neat, firstOf, isSome, stays}
 use Rattle.timeline.proofs.Lists.{overlay-more, overlay-past, map-take, map-drop, map-put, those-snoc, put-next, put-append}
 use Rattle.timeline.proofs.Laws.{nothing, slots-are, count, slot-holds, one-more, Filled}
 
@@ -156,32 +155,38 @@ module _ (q : AudioParamEventTimeline) (h : Neat q) (n i : ℕ) where
       let m : length (waiting q) ≤ i = omega arith in
       rw (take-all i (waiting q) m)
 
--- ---- the first event later than c
+-- ---- the first event that passes a test
 
-module _ (c : Float) (q : AudioParamEventTimeline) (h : Neat q) (i : ℕ) (l : i < q .len)
-    (p : firstOf (those (isLaterThan c) (waiting q)) ≡ firstOf (those (isLaterThan c) (drop i (waiting q))))
-    (u : Float) (g : u ≡ filedUnder (getD (q .slots) i (slotOf nothing) .event)) where
-  abbrev late : AudioParamEvent → Bool
-  late s = Ieee.lt c (filedUnder (s .event))
-
+module _ (test : Event → Bool) (q : AudioParamEventTimeline) (h : Neat q) (i : ℕ) (l : i < q .len)
+    (p : firstOf (those test (waiting q)) ≡ firstOf (those test (drop i (waiting q)))) where
   ahead : drop i (waiting q) ≡ getD (waiting q) i nothing ∷ drop (suc i) (waiting q)
   ahead =
       let n : length (waiting q) ≡ q .len = count q h in
       let m : i < length (waiting q) = omega arith in
       drop-cons (waiting q) i nothing m
 
-  seen : {b : Bool} → Ieee.lt c u ≡ b → isLaterThan c (getD (waiting q) i nothing) ≡ b
-  unfolding isLaterThan
-  seen f = ap late (sym (slot-holds q h i l)) ∙ ap (λ (v : Float). Ieee.lt c v) (sym g) ∙ f
+  -- as code reads it from its slot
+  seen : {b : Bool} → test (getD (q .slots) i (slotOf nothing) .event) ≡ b → test (getD (waiting q) i nothing) ≡ b
+  seen f = ap (λ (s : AudioParamEvent). test (s .event)) (sym (slot-holds q h i l)) ∙ f
 
-  pub later-here : Ieee.lt c u ≡ true → Head.Event (getD (q .slots) i (slotOf nothing) .event) ≡ firstOf (those (isLaterThan c) (waiting q))
+  pub first-here : test (getD (q .slots) i (slotOf nothing) .event) ≡ true → Head.Event (getD (q .slots) i (slotOf nothing) .event) ≡ firstOf (those test (waiting q))
   unfolding those firstOf
-  later-here f = rw (slot-holds q h i l, p, ahead, seen f)
+  first-here f = rw (slot-holds q h i l, p, ahead, seen f)
 
-  pub later-behind : Ieee.lt c u ≡ false → firstOf (those (isLaterThan c) (waiting q)) ≡ firstOf (those (isLaterThan c) (drop (i + 1) (waiting q)))
+  pub first-behind : test (getD (q .slots) i (slotOf nothing) .event) ≡ false → firstOf (those test (waiting q)) ≡ firstOf (those test (drop (i + 1) (waiting q)))
   unfolding those
-  later-behind f = rw (p, add-one, ahead, seen f)
+  first-behind f = rw (p, add-one, ahead, seen f)
 
-pub later-none : (c : Float) (es : List Event) (i : ℕ) → length es ≤ i → Head.Empty ≡ firstOf (those (isLaterThan c) (drop i es))
+pub first-none : (test : Event → Bool) (es : List Event) (i : ℕ) → length es ≤ i → Head.Empty ≡ firstOf (those test (drop i es))
 unfolding those firstOf
-later-none c es i h = rw (drop-of-length-le es h)
+first-none test es i h = rw (drop-of-length-le es h)
+
+-- whether there is one
+pub any-first : (test : Event → Bool) (es : List Event) → isSome (firstOf (those test es)) ≡ any test es
+unfolding isSome firstOf those any
+any-first test [] = refl
+any-first test (e ∷ es) = go (test e) (any-first test es)
+  where
+    go : (b : Bool) → isSome (firstOf (those test es)) ≡ any test es → isSome (firstOf (cond b (e ∷ those test es) (those test es))) ≡ (b || any test es)
+    go true k = unfold isSome firstOf in refl
+    go false k = k

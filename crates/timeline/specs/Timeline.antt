@@ -44,6 +44,11 @@ unfoldable pub firstOf : List Event → Head
 firstOf [] = Head.Empty
 firstOf (e ∷ es) = Head.Event e
 
+-- whether there is one
+unfoldable pub isSome : Head → Bool
+isSome Head.Empty = false
+isSome (Head.Event e) = true
+
 -- these events, the first of which has become another
 unfoldable pub headAs : Head → List Event → List Event
 headAs Head.Empty es = es

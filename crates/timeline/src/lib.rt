@@ -4,10 +4,10 @@ ghost use mathlib.Core.List.{[]};
 ghost use Prim.Native.Nat.{_≤_, _<_, _^_};
 ghost use lib.ListN.{take, drop, set};
 ghost use Rattle.rules.specs.Numbers.{mostEvents};
-ghost use Rattle.rules.specs.Queue.{holdOr, filedUnder, isRamp, lengthOf, lengthsOf, placeBehind, putAt, arrived, those, heldEvent, runsAt, lastHeld, held, eventsOf, attached};
+ghost use Rattle.rules.specs.Queue.{holdOr, filedUnder, isRamp, curveEnd, isInside, isFiledInside, anyCovers, anyInside, lengthOf, lengthsOf, placeBehind, putAt, arrived, those, heldEvent, runsAt, lastHeld, held, eventsOf, attached};
 ghost use Rattle.rules.specs.Queue as rule;
 ghost use Rattle.laws.specs.Search.{isLaterThan};
-ghost use Rattle.timeline.specs.Timeline.{blankEvent, slotOf, made, waiting, Neat, firstOf, headAs, beginning, stays};
+ghost use Rattle.timeline.specs.Timeline.{blankEvent, slotOf, made, waiting, Neat, firstOf, isSome, headAs, beginning, stays};
 use rules::Event;
 use rules::Head;
 use rules::MaybeTime;
@@ -58,6 +58,48 @@ pub fn is_ramp(e: Event) -> bool
         Event::Exponential { .. } => true,
         Event::Target { .. } => false,
         Event::Curve { .. } => false,
+    }
+}
+
+// Where a curve ends: at its hold time, else at start + duration.
+pub fn curve_end(start: f64, duration: f64, hold: MaybeTime) -> f64
+    ensures { λ r. ⌜ r ≡ curveEnd start duration hold ⌝ }
+{
+    hold_or(hold, start + duration)
+}
+
+// At the start or later, and before the end.
+fn is_inside(start: f64, end: f64, time: f64) -> bool
+    ensures { λ r. ⌜ r ≡ isInside start end time ⌝ }
+{
+    (start <= time) & (time < end)
+}
+
+// Whether the time lies inside the event, which is a curve.
+fn covers(e: Event, time: f64) -> bool
+    ensures { λ r. ⌜ r ≡ rule.covers time e ⌝ }
+{
+    match e {
+        Event::Step { .. } => false,
+        Event::Linear { .. } => false,
+        Event::Exponential { .. } => false,
+        Event::Target { .. } => false,
+        Event::Curve {
+            start,
+            duration,
+            hold,
+            ..
+        } => is_inside(start, curve_end(start, duration, hold), time),
+    }
+}
+
+// Whether there is an event.
+fn is_some(head: Head) -> bool
+    ensures { λ r. ⌜ r ≡ isSome head ⌝ }
+{
+    match head {
+        Head::Empty => false,
+        Head::Event(_) => true,
     }
 }
 
@@ -228,6 +270,58 @@ impl AudioParamEventTimeline {
         0
     }
 
+    // The first curve inside which the time lies.
+    pub fn covering(self, time: f64) -> Head
+        requires { ⌜ Neat self ⌝ }
+        ensures { λ r. ⌜ r ≡ firstOf (those (rule.covers time) (waiting self)) ⌝ }
+    {
+        let n = self.len;
+        let mut i = 0usize;
+        while i < n {
+            let s = self.slots[i];
+            let e = s.event;
+            if covers(e, time) {
+                return Head::Event(e);
+            }
+            i += 1;
+        }
+        Head::Empty
+    }
+
+    // The first event that is filed at the start or later, and before the end.
+    pub fn filed_inside(self, start: f64, end: f64) -> Head
+        requires { ⌜ Neat self ⌝ }
+        ensures { λ r. ⌜ r ≡ firstOf (those (isFiledInside start end) (waiting self)) ⌝ }
+    {
+        let n = self.len;
+        let mut i = 0usize;
+        while i < n {
+            let s = self.slots[i];
+            let e = s.event;
+            if is_inside(start, end, filed_under(e)) {
+                return Head::Event(e);
+            }
+            i += 1;
+        }
+        Head::Empty
+    }
+
+    // Whether the time lies inside a waiting curve.
+    pub fn any_covers(self, time: f64) -> bool
+        requires { ⌜ Neat self ⌝ }
+        ensures { λ r. ⌜ r ≡ anyCovers time (waiting self) ⌝ }
+    {
+        is_some(self.covering(time))
+    }
+
+    // Whether an event is filed at the start or later, and before the end.
+    pub fn any_inside(self, start: f64, end: f64) -> bool
+        requires { ⌜ Neat self ⌝ }
+        ensures { λ r. ⌜ r ≡ anyInside start end (waiting self) ⌝ }
+    {
+        is_some(self.filed_inside(start, end))
+    }
+
     // The queue with one event more, at a place.
     pub fn put_at(self, place: usize, e: Event) -> Self
         requires { ⌜ Neat self × (self .len < mostEvents) × (place ≤ self .len) ⌝ }
@@ -380,7 +474,8 @@ impl AudioParamEventTimeline {
         }
     }
 
-    // Cancel-and-hold at c. A ramp that is the first event later than c is held, and stays; otherwise the last of the others is held where it runs.
+    // Cancel-and-hold at c. A ramp that is the first event later than c is held, and stays, where c is inside no curve; otherwise the last of the others is held where
+    // it runs.
     pub fn hold(self, c: f64) -> Self
         requires { ⌜ Neat self ⌝ }
         ensures { λ r. ⌜ r ≡ made (eventsOf (held c (attached (waiting self) []))) ⌝ }
@@ -389,7 +484,8 @@ impl AudioParamEventTimeline {
         let Head::Event(e) = self.first_later(c) else {
             return kept.hold_last(c);
         };
-        if is_ramp(e) {
+        let ramp = is_ramp(e) & !kept.any_covers(c);
+        if ramp {
             let end = kept.len;
             kept.put_at(end, held_event(e, c))
         } else {

@@ -37,6 +37,8 @@ pub enum Error {
     BadBlock = 9,
     /// a block before the last answered one
     OutOfOrder = 10,
+    /// inside a waiting curve, or a curve with a waiting event's time inside; given before 7 and 8
+    Inside = 11,
     /// the curve store has not 4,096 numbers
     BadStore = 14,
     /// the state fails its test; that of an `AudioParam`, which calls left, never does
@@ -44,7 +46,7 @@ pub enum Error {
 }
 
 impl Error {
-    pub const ALL: [Error; 12] = [
+    pub const ALL: [Error; 13] = [
         Error::Bounds,
         Error::NotFinite,
         Error::BeforeZero,
@@ -55,6 +57,7 @@ impl Error {
         Error::StoreFull,
         Error::BadBlock,
         Error::OutOfOrder,
+        Error::Inside,
         Error::BadStore,
         Error::BadState,
     ];

@@ -1,7 +1,7 @@
 //! The exported functions as they are: ../crackledray.h has the words of each. A slice is a pointer and a length.
 
 /// What crackledray_version() gives where the archive is this one's: major, minor and patch, 8 bits each.
-pub const VERSION: u32 = 0x00_0400;
+pub const VERSION: u32 = 0x00_0500;
 pub const STATE: usize = 395;
 pub const STORE: usize = 4096;
 

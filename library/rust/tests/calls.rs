@@ -96,9 +96,14 @@ fn refusals() {
     assert_eq!(p.process(0.0, 1.0, 2, &[0.0], &mut output), Err(Error::BadBlock));
     p.process(4.0, 1.0, 4, &[], &mut output).unwrap();
     assert_eq!(p.process(3.0, 1.0, 4, &[], &mut output), Err(Error::OutOfOrder));
-    for i in 0..64 {
+    p.set_value_curve_at_time(&[1.0, 2.0], 10.0, 5.0).unwrap();
+    assert_eq!(p.set_value_at_time(1.0, 10.0), Err(Error::Inside));
+    p.set_value_at_time(1.0, 15.0).unwrap();
+    assert_eq!(p.set_value_curve_at_time(&[1.0, 2.0], 9.0, 2.0), Err(Error::Inside));
+    for i in 0..62 {
         p.set_value_at_time(1.0, 100.0 + i as f64).unwrap();
     }
+    assert_eq!(p.set_value_at_time(1.0, 14.0), Err(Error::Inside));
     assert_eq!(p.set_value(0.0), Err(Error::QueueFull));
     assert_eq!(p.waiting(), 64);
 }

@@ -181,7 +181,11 @@ fn good_by_hand() -> Vec<Named> {
         ("a held target", waiting(&[held(target(5.0, 3.0, 1.0), 9.0)])),
         ("a held curve", waiting(&[held(curve(2, 3.0, 1.0), 3.5)])),
         ("two at one time", waiting(&[step(5.0, 3.0), linear(6.0, 3.0)])),
-        ("a full store", waiting(&[curve(2048, 3.0, 1.0), curve(2048, 3.0, 1.0)])),
+        ("a full store", waiting(&[curve(2048, 3.0, 1.0), curve(2048, 4.0, 1.0)])),
+        ("a step at a curve's end", waiting(&[curve(2, 3.0, 1.0), step(5.0, 4.0)])),
+        ("a step at a curve's hold time", waiting(&[held(curve(2, 3.0, 2.0), 4.0), step(5.0, 4.0)])),
+        ("a curve held at its start", waiting(&[held(curve(2, 3.0, 2.0), 3.0), step(5.0, 3.0)])),
+        ("a step that a target left at a curve's start", played(waiting(&[step(5.0, 3.0), curve(2, 3.0, 1.0)]))),
         ("64 events", waiting(&[step(5.0, 3.0); 64])),
         ("a step with a hold time, which is not read", waiting(&[held(step(5.0, 3.0), f64::NAN)])),
         ("a ramp with a fourth number, which is not read", waiting(&[[1, single(5.0), 3.0f64.to_bits(), 77, 0, 0]])),
@@ -247,6 +251,8 @@ fn bad_others() -> Vec<[u64; 6]> {
         curve(u64::MAX, 3.0, 1.0),
         held(linear(5.0, 3.0), 3.5),
         held(exponential(5.0, 3.0), 3.5),
+        held(curve(2, 3.0, 1.0), 2.5),
+        held(curve(2, 3.0, 1.0), 4.5),
     ]
 }
 
@@ -254,7 +260,11 @@ fn bad_queues() -> Vec<Named> {
     vec![
         ("a step at infinity before the first block", waiting(&[step(5.0, INFINITY)])),
         ("two out of order", waiting(&[step(5.0, 3.0), step(5.0, 2.0)])),
-        ("curves of 4,097", waiting(&[curve(2048, 3.0, 1.0), curve(2049, 3.0, 1.0)])),
+        ("a step inside a curve", waiting(&[curve(2, 3.0, 1.0), step(5.0, 3.5)])),
+        ("a step at a curve's start, behind it", waiting(&[curve(2, 3.0, 1.0), step(5.0, 3.0)])),
+        ("a curve inside a curve", waiting(&[curve(2, 3.0, 2.0), curve(2, 4.0, 2.0)])),
+        ("a step before a hold", waiting(&[held(curve(2, 3.0, 2.0), 4.0), step(5.0, 3.5)])),
+        ("curves of 4,097", waiting(&[curve(2048, 3.0, 1.0), curve(2049, 4.0, 1.0)])),
         ("good, then bad", waiting(&[step(5.0, 3.0), step(f32::NAN, 4.0)])),
     ]
 }

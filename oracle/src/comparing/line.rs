@@ -31,7 +31,7 @@ pub fn compared<'a>(call: &Call, claims: &'a Claims, ours: &str, rust: &str) -> 
     let a: Vec<&str> = ours.split(' ').collect();
     let b: Vec<&str> = rust.split(' ').collect();
     match (call, a[0], b[0]) {
-        (_, "refused", "panic") => both.word("answer", &["refused"], ours, rust),
+        (_, "refused", "panic") => both.word("answer", &["refused", "curve-inside"], ours, rust),
         (Call::Block(block), "block", "block") if a.len() == b.len() && a.len() >= 5 => {
             both.block(block, &a, &b);
         }
@@ -119,7 +119,7 @@ impl Compared<'_> {
             self.distances.push(Distance { near, share: distance / limit });
         }
         let near_enough = distance <= limit + if input { sum } else { 0. };
-        let names = if near_enough { &[names, &[name]].concat() } else { names };
+        let names = if near_enough { &[&[name], names].concat() } else { names };
         self.word(field, names, ours, rust);
     }
 }

@@ -156,15 +156,24 @@ impl<'a> Plan<'a> {
     }
 
     /// Plays the call on the reference; false where the family does not take it.
+    /// What a side refuses by curve-inside is mostly left out: too many of the events
+    /// near a curve would be refused, and too many comparisons end there.
     fn take(&mut self, call: Call) -> bool {
         let mut after = self.reference.clone();
         after.answer(&call);
-        let taken = self.wish.family.takes(&after.claims);
+        let inside = after.claims.has("curve-inside");
+        let taken = self.wish.family.takes(&after.claims) && !(inside && self.draw.percent(80));
         if taken {
             self.reference = after;
             self.calls.push(call);
         }
         taken
+    }
+
+    /// The same in a wild session, whatever it claims.
+    fn put(&mut self, call: Call) {
+        self.reference.answer(&call);
+        self.calls.push(call);
     }
 
     /// The list's count for the first block and one in ten of the others, which
@@ -198,16 +207,23 @@ impl<'a> Plan<'a> {
         if self.wild() && self.draw.percent(6) {
             self.holds();
         }
+        if self.wild() && self.draw.percent(5) {
+            self.in_curve();
+        }
     }
 
-    /// Often a step where a target or curve starts: then it waits for its start
-    /// as the second, and a target does not arrive at an empty queue.
+    /// Often a step where a target starts, or just before a curve (at its start it
+    /// would be inside): then that one waits for its start as the second, and a
+    /// target does not arrive at an empty queue.
     fn lead_in(&mut self, call: &Call) {
-        if let Call::Target(_, t, _) | Call::Curve(t, _, _) = call {
-            if *t >= 0. && t.is_finite() && self.draw.percent(60) {
-                let step = Call::Step(self.value(), *t);
-                self.take(step);
-            }
+        let at = match call {
+            Call::Target(_, t, _) => *t,
+            Call::Curve(t, _, _) => t.next_down(),
+            _ => return,
+        };
+        if at >= 0. && at.is_finite() && self.draw.percent(60) {
+            let step = Call::Step(self.value(), at);
+            self.take(step);
         }
     }
 
@@ -230,6 +246,32 @@ impl<'a> Plan<'a> {
         }
     }
 
+    /// A curve, mostly a ramp at its end or behind it, then holds and events within.
+    fn in_curve(&mut self) {
+        let (start, length) = (self.time(), self.length().max(self.period));
+        let end = start + length;
+        let numbers = (0..2 + self.draw.below(4)).map(|_| self.value()).collect();
+        self.take(Call::Curve(start, length, numbers));
+        let later = end + self.length();
+        if self.draw.percent(80) {
+            let ramp = self.draw.pick(&[Call::Linear, Call::Exponential]);
+            let call = ramp(self.value(), self.draw.pick(&[end, later]));
+            self.take(call);
+        }
+        for _ in 0..=self.draw.below(3) {
+            let within = self.draw.fraction().mul_add(length, start);
+            let time = self.draw.pick(&[within, within, start, end, end.next_down()]);
+            let (value, numbers) = (self.value(), vec![self.value(), self.value()]);
+            let call = match self.draw.below(6) {
+                0 => Call::Step(value, time),
+                1 => Call::Target(value, time, length),
+                2 => Call::Curve(time, length, numbers),
+                _ => Call::Hold(time),
+            };
+            self.put(call);
+        }
+    }
+
     fn remember(&mut self, call: &Call) {
         match call {
             Call::Step(_, t) | Call::Linear(_, t) | Call::Exponential(_, t) => self.seen.push(*t),
@@ -239,19 +281,20 @@ impl<'a> Plan<'a> {
         }
     }
 
-    /// More events or curve numbers than 01 lets wait.
+    /// More events or curve numbers than 01 lets wait, and then events inside a curve:
+    /// 11 comes before 7 and 8.
     fn crowd(&mut self) {
-        if self.draw.percent(50) {
-            for _ in 0..66 {
-                let call = Call::Step(self.value(), self.time());
-                self.take(call);
-            }
-        } else {
-            let call = Call::Curve(self.time(), self.period, vec![1.; 4090]);
-            self.take(call);
-            let call = Call::Curve(self.time(), self.period, vec![2.; 7]);
+        let (start, length, many) = (self.time(), self.period, self.draw.percent(50));
+        self.take(Call::Curve(start, length, vec![1.; if many { 2 } else { 4090 }]));
+        for _ in 0..if many { 66 } else { 0 } {
+            let call = Call::Step(self.value(), self.time());
             self.take(call);
         }
+        let call = Call::Curve(self.time(), length, vec![2.; 7]);
+        self.take(call);
+        let value = self.value();
+        self.put(Call::Step(value, start));
+        self.put(Call::Curve(start, length, vec![3.; 7]));
     }
 
     fn event(&mut self) -> Call {

@@ -3,7 +3,7 @@
 use crate::session::Session;
 use crate::verdict::{Limit, Tally, Verdict};
 use reference::claims::Reach;
-use std::collections::BTreeMap;
+use std::collections::{BTreeMap, BTreeSet};
 use std::fmt;
 
 /// The names that mean: within 01's limits.
@@ -42,10 +42,10 @@ impl Summary {
         for name in &verdict.names {
             self.by_name.entry(name).or_default().0 += 1;
         }
-        for reach in [Reach::Part, Reach::Close, Reach::Ends] {
-            for name in session.claimed(reach) {
-                self.by_name.entry(name).or_default().1 += 1;
-            }
+        let reaches = [Reach::Part, Reach::Close, Reach::Ends];
+        let claimed: BTreeSet<_> = reaches.iter().flat_map(|r| session.claimed(*r)).collect();
+        for name in claimed {
+            self.by_name.entry(name).or_default().1 += 1;
         }
     }
 

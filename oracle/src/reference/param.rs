@@ -3,7 +3,7 @@
 use crate::claims::{Claims, Reach};
 use crate::near::{Near, Value};
 use crate::numbers::mixed;
-use crate::queue::{cancel, claim_arrival, hold, insert, Event, Kind};
+use crate::queue::{cancel, claim_arrival, hold, insert, inside, rust_inside, Event, Kind};
 use crate::session::{curve_numbers, hex32, hex64, list32, Block, Call};
 use crate::walk::{Facts, Walk};
 
@@ -25,7 +25,8 @@ pub struct Reference {
     pub claims: Claims,
 }
 
-/// The lowest number among the rows that apply.
+/// The number of the first row that applies: "the lowest number is given", but for
+/// C-14's 11, "given after 6 and before 7 and 8".
 fn refusal(rows: &[(u8, bool)]) -> Option<u8> {
     rows.iter().find(|(_, applies)| *applies).map(|(number, _)| *number)
 }
@@ -106,73 +107,108 @@ impl Reference {
         number
     }
 
+    /// The same of an event. Where 11 is given the Rust panics too, or takes it.
+    fn refuse_event(&mut self, number: Option<u8>, event: &Event) -> Option<u8> {
+        if number != Some(11) {
+            return self.refuse(number);
+        }
+        let reach = if rust_inside(&self.queue, event) { Reach::Part } else { Reach::Ends };
+        self.claims.note(reach, "curve-inside", true);
+        number
+    }
+
     fn full(&self) -> bool {
         self.queue.len() >= 64
     }
 
-    fn schedule(&mut self, kind: Kind, value: f32, time: f64) {
-        self.claims.note(Reach::Ends, "minus-zero-time", is_minus_zero(time));
-        let event = Event { kind, value, time: plus_zero(time), hold: None };
+    fn inside(&self, event: &Event) -> bool {
+        inside(&self.queue, event)
+    }
+
+    fn schedule(&mut self, event: &Event) {
+        self.claims.note(Reach::Ends, "minus-zero-time", is_minus_zero(event.time));
+        let event = Event { time: plus_zero(event.time), ..event.clone() };
         claim_arrival(&self.queue, &event, self.last.is_none(), &mut self.claims);
         insert(&mut self.queue, event);
     }
 
+    /// A step at 0; inside where a curve from 0 waits.
     fn set(&mut self, v: f32) -> Option<u8> {
-        let refused = refusal(&[(2, !v.is_finite()), (7, self.full())]);
+        let event = Event::new(Kind::Step, v, 0.);
+        let rows = [(2, !v.is_finite()), (11, self.inside(&event)), (7, self.full())];
+        let refused = refusal(&rows);
         if refused.is_none() {
             let Value { value, near } = self.intrinsic;
             let changes = v.to_bits() != value.to_bits() || near != Near::Same;
             self.claims.note(Reach::Ends, "set-now", changes);
-            self.schedule(Kind::Step, v, 0.);
+            self.schedule(&event);
         }
-        self.refuse(refused)
+        self.refuse_event(refused, &event)
     }
 
     fn simple(&mut self, kind: Kind, v: f32, t: f64) -> Option<u8> {
         let zero = kind == Kind::Exponential && v == 0.;
         let finite = v.is_finite() && t.is_finite();
-        let refused = refusal(&[(2, !finite), (3, t < 0.), (5, zero), (7, self.full())]);
+        let event = Event::new(kind, v, t);
+        let refused = refusal(&[
+            (2, !finite),
+            (3, t < 0.),
+            (5, zero),
+            (11, self.inside(&event)),
+            (7, self.full()),
+        ]);
         if refused.is_none() {
-            self.schedule(kind, v, t);
+            self.schedule(&event);
         }
-        self.refuse(refused)
+        self.refuse_event(refused, &event)
     }
 
     fn target(&mut self, v: f32, t: f64, constant: f64) -> Option<u8> {
         let bad = !v.is_finite() || not_finite(&[t, constant]);
-        let refused = refusal(&[(2, bad), (3, t < 0.), (4, constant < 0.), (7, self.full())]);
+        let kind = if constant == 0. { Kind::Step } else { Kind::Target { constant } };
+        let event = Event::new(kind, v, t);
+        let refused = refusal(&[
+            (2, bad),
+            (3, t < 0.),
+            (4, constant < 0.),
+            (11, self.inside(&event)),
+            (7, self.full()),
+        ]);
         if refused.is_none() {
-            let kind = if constant == 0. { Kind::Step } else { Kind::Target { constant } };
-            self.schedule(kind, v, t);
+            self.schedule(&event);
         }
-        self.refuse(refused)
+        self.refuse_event(refused, &event)
     }
 
     fn curve(&mut self, t: f64, duration: f64, values: &[f32]) -> Option<u8> {
         let not_numbers = values.iter().any(|v| !v.is_finite());
         let waiting: usize = self.lengths().iter().sum();
-        let rust_panics =
-            values.len() < 2 || not_finite(&[t, duration]) || t < 0. || duration <= 0.;
+        let event = Event::new(Kind::Curve { duration, numbers: values.to_vec() }, 0., t);
+        let rust_panics = values.len() < 2
+            || not_finite(&[t, duration])
+            || t < 0.
+            || duration <= 0.
+            || rust_inside(&self.queue, &event);
         let refused = refusal(&[
             (2, not_finite(&[t, duration]) || not_numbers),
             (3, t < 0.),
             (4, duration <= 0.),
             (6, values.len() < 2),
+            (11, self.inside(&event)),
             (7, self.full()),
             (8, waiting + values.len() > STORE),
             (14, self.lent != STORE),
         ]);
         if refused.is_none() {
             self.read_store();
-            let numbers = values.to_vec();
-            self.schedule(Kind::Curve { duration, numbers }, 0., t);
+            self.schedule(&event);
             self.pack_store();
         }
         if refused == Some(2) && !rust_panics {
             self.claims.note(Reach::Ends, "curve-numbers", true);
             return refused;
         }
-        self.refuse(refused)
+        self.refuse_event(refused, &event)
     }
 
     fn cancel(&mut self, c: f64) -> Option<u8> {

@@ -1,5 +1,6 @@
 //! The waiting events: arriving, cancel, cancel-and-hold (01, "Events as they
-//! arrive"; 02, C-15), with the claims of what param.rs does differently there.
+//! arrive"; 02, C-14 and C-15), with the claims of what param.rs does differently
+//! there.
 
 use crate::claims::{Claims, Reach};
 
@@ -33,6 +34,10 @@ pub struct Event {
 }
 
 impl Event {
+    pub fn new(kind: Kind, value: f32, time: f64) -> Self {
+        Self { kind, value, time, hold: None }
+    }
+
     pub fn is_ramp(&self) -> bool {
         matches!(self.kind, Kind::Linear | Kind::Exponential)
     }
@@ -49,12 +54,23 @@ impl Event {
         self.time
     }
 
-    /// Start and end, if it is a curve.
-    fn span(&self) -> Option<(f64, f64)> {
+    /// Start and start plus duration, if it is a curve.
+    fn whole(&self) -> Option<(f64, f64)> {
         match &self.kind {
             Kind::Curve { duration, .. } => Some((self.time, self.time + duration)),
             _ => None,
         }
+    }
+
+    /// The same up to its end, "the end being start plus duration or an earlier hold
+    /// time" (02, C-14). As rounded: it may be the start, or infinite.
+    fn span(&self) -> Option<(f64, f64)> {
+        self.whole().map(|(start, end)| (start, self.hold.unwrap_or(end)))
+    }
+
+    /// Whether a time lies in its span, "from its start up to but without its end".
+    fn spans(&self, time: f64) -> bool {
+        self.span().is_some_and(|(start, end)| start <= time && time < end)
     }
 }
 
@@ -70,14 +86,28 @@ pub fn insert(queue: &mut Vec<Event>, event: Event) {
     queue.insert(place(queue, event.filed(), Event::filed), event);
 }
 
-/// What the Rust's intake does otherwise. (Where a held ramp is inside a new curve
-/// by its own time alone, it panics too; that curve's place is another anyway.)
+/// "Refuse an event whose time lies at or after a waiting curve's start and before
+/// its end .. Refuse a curve whose own span .. holds a waiting event's time, or whose
+/// start lies inside a waiting curve's span" (02, C-14).
+pub fn inside(queue: &[Event], event: &Event) -> bool {
+    queue.iter().any(|e| e.spans(event.time) || event.spans(e.filed()))
+}
+
+/// The same in param.rs, where it panics: between start and start plus duration, held
+/// or not, by the events' own times; of a new curve its own span alone.
+pub fn rust_inside(queue: &[Event], event: &Event) -> bool {
+    let between = |t: f64, (start, end): (f64, f64)| start < t && t < end;
+    queue.iter().any(|e| match event.whole() {
+        Some(mine) => between(e.own(), mine),
+        None => e.whole().is_some_and(|theirs| between(event.time, theirs)),
+    })
+}
+
+/// What the Rust's intake does otherwise with an event that is taken: it panics behind
+/// a curve's hold. (Where a held ramp is inside a new curve by its own time alone, it
+/// panics too; that curve's place is another anyway.)
 pub fn claim_arrival(queue: &[Event], event: &Event, no_last: bool, claims: &mut Claims) {
-    let inside = |t: f64, (start, end): (f64, f64)| start < t && t < end;
-    let mine = |t: f64| event.span().is_some_and(|span| inside(t, span));
-    let in_mine = |e: &Event| mine(e.own()) && mine(e.filed());
-    let in_theirs = |e: &Event| e.span().is_some_and(|span| inside(event.time, span));
-    let clash = queue.iter().any(|e| in_mine(e) || (event.span().is_none() && in_theirs(e)));
+    let clash = event.whole().is_none() && rust_inside(queue, event);
     claims.note(Reach::Ends, "curve-inside", clash);
     let place = |filing: Filing| place(queue, event.time, filing);
     let elsewhere = place(Event::filed) != place(Event::own);
@@ -98,14 +128,18 @@ pub fn cancel(queue: &mut Vec<Event>, c: f64, claims: &mut Claims) -> bool {
     ramp_went
 }
 
-/// The event that a hold at c is for, by 01.
+/// The event that a hold at c is for, by 01. But "at or after a waiting curve's start
+/// and before its end" it "holds that curve, as if no ramp followed" (02, C-14).
 fn held_place(queue: &[Event], c: f64, filing: Filing) -> Option<usize> {
+    if let Some(running) = queue.iter().position(|e| e.spans(c)) {
+        return Some(running);
+    }
     let later = place(queue, c, filing);
     if queue.get(later).is_some_and(Event::is_ramp) {
         return Some(later);
     }
     let before = later.checked_sub(1)?;
-    let held = match (&queue[before].kind, queue[before].span()) {
+    let held = match (&queue[before].kind, queue[before].whole()) {
         (Kind::Target { .. }, _) => true,
         (_, Some((_, end))) => c < end,
         _ => false,
@@ -134,7 +168,7 @@ fn rust_held_place(queue: &[Event], c: f64) -> Option<usize> {
         return queue[i].is_ramp().then_some(i);
     }
     let before = queue.iter().rposition(|e| e.own() <= c)?;
-    let held = match (&queue[before].kind, queue[before].span()) {
+    let held = match (&queue[before].kind, queue[before].whole()) {
         (Kind::Target { .. }, _) => true,
         (_, Some((_, end))) => c <= end,
         _ => false,
@@ -165,6 +199,10 @@ fn claim_hold(queue: &[Event], c: f64, claims: &mut Claims) {
     if ours != held_place(queue, c, Event::own) {
         return claims.note(Reach::Ends, "held-ramp", true);
     }
+    let in_curve = |i: usize| queue[i].spans(c);
+    let ramp = |i: usize| queue[i].is_ramp();
+    let instead = ours.is_some_and(in_curve) && theirs.is_some_and(ramp);
+    claims.note(Reach::Ends, "hold-in-curve", instead);
     let largest = ours.is_some_and(|i| queue[i].is_ramp() && queue[i].time == f64::MAX);
     claims.note(Reach::Ends, "hold-largest-time", largest);
     let shadowed = ours.is_some() && theirs.is_none() && !largest;

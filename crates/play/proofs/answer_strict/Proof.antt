@@ -4,15 +4,19 @@ use Prim.Native.Nat.{_-_}
 use native.Mathlib.Nat.{le-of-lt}
 use native.Mathlib.Omega.{arith}
 use lib.Seq.{length-take-le}
-use Rattle.play.proofs.Turns.{long, for-a-person, room-for, nearby, room-left}
+use Rattle.play.proofs.Turns.{long, for-a-person, within, room-for, nearby, room-left}
 use borrow.Author.Needs.{needs}
 use Rattle.play.proofs.answer_strict.Statement.{statement}
 use Rattle.play.proofs.answer_strict.Tie as tie
 use Rattle.play.proofs.answer_strict.Reads as reads
 use Rattle.play.proofs.answer_strict.Lts as lts
 use Rattle.desk.proofs.answer_line.Reads as answer-line-reads
+use Rattle.play.proofs.clash_in.Reads as clash-in-reads
 use Rattle.play.proofs.put_told.Reads as put-told-reads
 use Rattle.text.proofs.write.put_byte.Reads as put-byte-reads
+
+clash-in-requires : tie.Need-clash-in-requires
+clash-in-requires c κs = search needs
 
 answer-line-requires : tie.Need-answer-line-requires
 answer-line-requires c κs = search needs
@@ -22,19 +26,20 @@ sub-end c =
     omega (arith, long _ (c .before .before .before .before .before .before .before .before .answer-line .ensures))
 
 slice-reshare-prefix-put-told : tie.Need-slice-reshare-prefix-put-told
-slice-reshare-prefix-put-told c = search needs
+slice-reshare-prefix-put-told c =
+    within _ _ _ (c .before .before .before .before .before .before .before .before .before .answer-line .ensures .room) (c .before .before .before .before .before .before .before .before .before .before .before .before .before .before .before .before .before .before .before .before .before .before .pre .3) (c .before .before .before .before .before .before .before .before .before .answer-line .kept .1 .1 .1 .1 .0)
 
 slice-aggregate-put-told : tie.Need-slice-aggregate-put-told
 slice-aggregate-put-told c =
-    sym (length-take-le _ _ (search needs))
+    sym (length-take-le _ _ (within _ _ _ (c .before .before .before .before .before .before .before .before .before .before .answer-line .ensures .room) (c .before .before .before .before .before .before .before .before .before .before .before .before .before .before .before .before .before .before .before .before .before .before .before .pre .3) (c .before .before .before .before .before .before .before .before .before .before .answer-line .kept .1 .1 .1 .1 .0)))
 
 put-told-requires : tie.Need-put-told-requires
 put-told-requires c κs =
-    room-for _ _ _ _ (length-take-le _ _ (search needs)) (c .before .before .before .before .before .before .before .before .before .before .answer-line .ensures .room) (c .before .before .before .before .before .before .before .before .before .before .before .before .before .before .before .before .before .before .before .pre .4)
+    room-for _ _ _ _ (length-take-le _ _ (within _ _ _ (c .before .before .before .before .before .before .before .before .before .before .answer-line .ensures .room) (c .before .before .before .before .before .before .before .before .before .before .before .before .before .before .before .before .before .before .before .before .before .before .before .pre .3) (c .before .before .before .before .before .before .before .before .before .before .answer-line .kept .1 .1 .1 .1 .0))) (c .before .before .before .before .before .before .before .before .before .before .answer-line .ensures .room) (c .before .before .before .before .before .before .before .before .before .before .before .before .before .before .before .before .before .before .before .before .before .before .before .pre .4)
 
 put-byte-requires : tie.Need-put-byte-requires
 put-byte-requires c κs =
-    room-left _ _ _ _ (nearby _ _ _ _ (length-take-le (c .before .before .before .before .before .before .before .before .before .before .before .before .before .before .answer-line .result .next - 1) (c .before .before .before .before .before .before .before .before .before .before .before .before .before .before .answer-line .last .1 .1 .1 .1 .0) (omega (arith, c .before .before .before .before .before .before .before .before .before .before .before .before .before .before .answer-line .ensures .room, c .before .before .before .before .before .before .before .before .before .before .before .before .before .before .before .before .before .before .before .before .before .before .before .pre .3, c .before .before .before .before .before .before .before .before .before .before .before .before .before .before .answer-line .kept .1 .1 .1 .1 .0))) (c .before .before .before .before .before .before .before .before .before .before .before .before .before .before .answer-line .ensures .room) (c .before .before .before .put-told .ensures .1)) (c .before .before .before .before .before .before .before .before .before .before .before .before .before .before .before .before .before .before .before .before .before .before .before .pre .4) (search needs)
+    room-left _ _ _ _ (nearby _ _ _ _ (length-take-le (c .before .before .before .before .before .before .before .before .before .before .before .before .before .before .answer-line .result .next - 1) (c .before .before .before .before .before .before .before .before .before .before .before .before .before .before .answer-line .last .1 .1 .1 .1 .0) (within _ _ _ (c .before .before .before .before .before .before .before .before .before .before .before .before .before .before .answer-line .ensures .room) (c .before .before .before .before .before .before .before .before .before .before .before .before .before .before .before .before .before .before .before .before .before .before .before .before .before .before .before .pre .3) (c .before .before .before .before .before .before .before .before .before .before .before .before .before .before .answer-line .kept .1 .1 .1 .1 .0))) (c .before .before .before .before .before .before .before .before .before .before .before .before .before .before .answer-line .ensures .room) (c .before .before .before .put-told .ensures .1)) (c .before .before .before .before .before .before .before .before .before .before .before .before .before .before .before .before .before .before .before .before .before .before .before .before .before .before .before .pre .4) (search needs)
 
 same-length : tie.Need-same-length
 same-length c = search needs
@@ -52,13 +57,14 @@ returns : tie.Need-returns
 returns c =
     let a = c .before .before .before .before .before .before .before .before .before .before .before .before .before .before .before .before .before .answer-line .ensures in
     let t = c .before .before .before .before .before .before .put-told .ensures in
-    let near = nearby _ _ _ _ (length-take-le (c .before .before .before .before .before .before .before .before .before .before .before .before .before .before .before .before .before .answer-line .result .next - 1) (c .before .before .before .before .before .before .before .before .before .before .before .before .before .before .before .before .before .answer-line .last .1 .1 .1 .1 .0) (omega (arith, c .before .before .before .before .before .before .before .before .before .before .before .before .before .before .before .before .before .answer-line .ensures .room, c .before .before .before .before .before .before .before .before .before .before .before .before .before .before .before .before .before .before .before .before .before .before .before .before .before .before .pre .3, c .before .before .before .before .before .before .before .before .before .before .before .before .before .before .before .before .before .answer-line .kept .1 .1 .1 .1 .0))) (a .room) (t .1) in
-    for-a-person _ a _ (t .0) (le-of-lt (room-left _ _ _ _ near (c .before .before .before .before .before .before .before .before .before .before .before .before .before .before .before .before .before .before .before .before .before .before .before .before .before .before .pre .4) refl)) (c .before .before .put-byte .ensures) (omega (arith, near, c .before .before .put-byte .ensures .place))
+    let near = nearby _ _ _ _ (length-take-le (c .before .before .before .before .before .before .before .before .before .before .before .before .before .before .before .before .before .answer-line .result .next - 1) (c .before .before .before .before .before .before .before .before .before .before .before .before .before .before .before .before .before .answer-line .last .1 .1 .1 .1 .0) (within _ _ _ (c .before .before .before .before .before .before .before .before .before .before .before .before .before .before .before .before .before .answer-line .ensures .room) (c .before .before .before .before .before .before .before .before .before .before .before .before .before .before .before .before .before .before .before .before .before .before .before .before .before .before .before .before .before .before .pre .3) (c .before .before .before .before .before .before .before .before .before .before .before .before .before .before .before .before .before .answer-line .kept .1 .1 .1 .1 .0))) (a .room) (t .1) in
+    for-a-person _ a _ (c .before .before .before .before .before .before .before .before .before .before .before .before .before .before .before .before .before .before .before .before .before .before .before .clash-in .ensures) (t .0) (le-of-lt (room-left _ _ _ _ near (c .before .before .before .before .before .before .before .before .before .before .before .before .before .before .before .before .before .before .before .before .before .before .before .before .before .before .before .before .before .before .pre .4) refl)) (c .before .before .put-byte .ensures) (omega (arith, near, c .before .before .put-byte .ensures .place))
 
 pub answer-strict-spec : {M : Type 1} → statement M
 answer-strict-spec =
     tie.close
     (tie.spec
+    clash-in-requires
     answer-line-requires
     sub-end
     slice-reshare-prefix-put-told

@@ -1,4 +1,4 @@
--- `curve` meets its contract: a row for each refusal, in the order of their numbers. Assumes nothing.
+-- `curve` meets its contract: a row for each refusal, in the order of their ranks. Assumes nothing.
 use borrow.Author.Needs.{needs}
 use denote.Ref.{now}
 use Rattle.rules.specs.Refusals.{curveRows}
@@ -42,10 +42,14 @@ row-requires-6 c κs = search needs
 row-requires-7 : tie.Need-row-requires-7
 row-requires-7 c κs = search needs
 
+row-requires-8 : tie.Need-row-requires-8
+row-requires-8 c κs = search needs
+
 returns : tie.Need-returns
 unfolding said curveRows
-returns c q store full crowded lent =
-    let sixth = c .before in
+returns c q store crossed full crowded lent =
+    let seventh = c .before in
+    let sixth = seventh .before in
     let fifth = sixth .before in
     let fourth = fifth .before in
     let third = fourth .before in
@@ -59,8 +63,8 @@ returns c q store full crowded lent =
     let known = time .before in
     let start = known .before in
     let finite = more-finite _ _ (time .is-finite64 .ensures) (more-finite _ _ (duration .is-finite642 .ensures) (all .all-finite .ensures)) in
-    rw (c .row7 .ensures, sixth .row6 .ensures, fifth .row5 .ensures, fourth .row4 .ensures, third .row3 .ensures, second .row2 .ensures, first .row .ensures)
-    (rw (finite, negative .is-negative64 .ensures, positive .is-positive64 .ensures, full, crowded, lent)
+    rw (c .row8 .ensures, seventh .row7 .ensures, sixth .row6 .ensures, fifth .row5 .ensures, fourth .row4 .ensures, third .row3 .ensures, second .row2 .ensures, first .row .ensures)
+    (rw (finite, negative .is-negative64 .ensures, positive .is-positive64 .ensures, crossed, full, crowded, lent)
     (said-lowest (curveRows q store (start .args .time) (start .args .duration) (now (start .args .values)))))
 
 pub curve-spec : {M : Type 1} → statement M
@@ -79,4 +83,5 @@ curve-spec =
     row-requires-5
     row-requires-6
     row-requires-7
+    row-requires-8
     returns)

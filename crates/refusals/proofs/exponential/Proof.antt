@@ -1,4 +1,4 @@
--- `exponential` meets its contract: a row for each refusal, in the order of their numbers. Assumes nothing.
+-- `exponential` meets its contract: a row for each refusal, in the order of their ranks. Assumes nothing.
 use borrow.Author.Needs.{needs}
 use Rattle.rules.specs.Refusals.{exponentialRows}
 use Rattle.refusals.proofs.Rows.{said, said-lowest, one-finite, more-finite}
@@ -29,10 +29,14 @@ row-requires-3 c κs = search needs
 row-requires-4 : tie.Need-row-requires-4
 row-requires-4 c κs = search needs
 
+row-requires-5 : tie.Need-row-requires-5
+row-requires-5 c κs = search needs
+
 returns : tie.Need-returns
 unfolding said exponentialRows
-returns c q full =
-    let third = c .before in
+returns c q inside full =
+    let fourth = c .before in
+    let third = fourth .before in
     let zero = third .before in
     let second = zero .before in
     let negative = second .before in
@@ -41,7 +45,7 @@ returns c q full =
     let value = time .before in
     let start = value .before in
     let finite = more-finite _ _ (value .is-finite32 .ensures) (one-finite _ (time .is-finite64 .ensures)) in
-    rw (c .row4 .ensures, third .row3 .ensures, second .row2 .ensures, first .row .ensures, finite, negative .is-negative64 .ensures, zero .is-zero32 .ensures, full)
+    rw (c .row5 .ensures, fourth .row4 .ensures, third .row3 .ensures, second .row2 .ensures, first .row .ensures, finite, negative .is-negative64 .ensures, zero .is-zero32 .ensures, inside, full)
     (said-lowest (exponentialRows q (start .args .value) (start .args .time)))
 
 pub exponential-spec : {M : Type 1} → statement M
@@ -56,4 +60,5 @@ exponential-spec =
     is-zero32-requires
     row-requires-3
     row-requires-4
+    row-requires-5
     returns)

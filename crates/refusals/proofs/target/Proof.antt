@@ -1,4 +1,4 @@
--- `target` meets its contract: a row for each refusal, in the order of their numbers. Assumes nothing.
+-- `target` meets its contract: a row for each refusal, in the order of their ranks. Assumes nothing.
 use borrow.Author.Needs.{needs}
 use Rattle.rules.specs.Refusals.{targetRows}
 use Rattle.refusals.proofs.Rows.{said, said-lowest, one-finite, more-finite}
@@ -32,10 +32,14 @@ row-requires-3 c κs = search needs
 row-requires-4 : tie.Need-row-requires-4
 row-requires-4 c κs = search needs
 
+row-requires-5 : tie.Need-row-requires-5
+row-requires-5 c κs = search needs
+
 returns : tie.Need-returns
 unfolding said targetRows
-returns c q full =
-    let third = c .before in
+returns c q inside full =
+    let fourth = c .before in
+    let third = fourth .before in
     let below = third .before in
     let second = below .before in
     let negative = second .before in
@@ -45,7 +49,7 @@ returns c q full =
     let value = time .before in
     let start = value .before in
     let finite = more-finite _ _ (value .is-finite32 .ensures) (more-finite _ _ (time .is-finite64 .ensures) (one-finite _ (constant .is-finite642 .ensures))) in
-    rw (c .row4 .ensures, third .row3 .ensures, second .row2 .ensures, first .row .ensures, finite, negative .is-negative64 .ensures, below .is-negative642 .ensures, full)
+    rw (c .row5 .ensures, fourth .row4 .ensures, third .row3 .ensures, second .row2 .ensures, first .row .ensures, finite, negative .is-negative64 .ensures, below .is-negative642 .ensures, inside, full)
     (said-lowest (targetRows q (start .args .value) (start .args .time) (start .args .constant)))
 
 pub target-spec : {M : Type 1} → statement M
@@ -61,4 +65,5 @@ target-spec =
     is-negative64-requires-2
     row-requires-3
     row-requires-4
+    row-requires-5
     returns)

@@ -1,4 +1,4 @@
--- `value` meets its contract: a row for each refusal, in the order of their numbers. Assumes nothing.
+-- `value` meets its contract: a row for each refusal, in the order of their ranks. Assumes nothing.
 use borrow.Author.Needs.{needs}
 use Rattle.rules.specs.Refusals.{valueRows}
 use Rattle.refusals.proofs.Rows.{said, said-lowest, one-finite, more-finite}
@@ -23,17 +23,21 @@ row-requires-2 c κs = search needs
 row-requires-3 : tie.Need-row-requires-3
 row-requires-3 c κs = search needs
 
+row-requires-4 : tie.Need-row-requires-4
+row-requires-4 c κs = search needs
+
 returns : tie.Need-returns
 unfolding said valueRows
-returns c q full =
-    let second = c .before in
+returns c q inside full =
+    let third = c .before in
+    let second = third .before in
     let negative = second .before in
     let first = negative .before in
     let time = first .before in
     let value = time .before in
     let start = value .before in
     let finite = more-finite _ _ (value .is-finite32 .ensures) (one-finite _ (time .is-finite64 .ensures)) in
-    rw (c .row3 .ensures, second .row2 .ensures, first .row .ensures, finite, negative .is-negative64 .ensures, full)
+    rw (c .row4 .ensures, third .row3 .ensures, second .row2 .ensures, first .row .ensures, finite, negative .is-negative64 .ensures, inside, full)
     (said-lowest (valueRows q (start .args .value) (start .args .time)))
 
 pub value-spec : {M : Type 1} → statement M
@@ -46,4 +50,5 @@ value-spec =
     is-negative64-requires
     row-requires-2
     row-requires-3
+    row-requires-4
     returns)

@@ -77,6 +77,12 @@ slice-aggregate-put-word-11 c = search needs
 put-word-requires-11 : tie.Need-put-word-requires-11
 put-word-requires-11 c κs = search needs
 
+slice-aggregate-put-word-12 : tie.Need-slice-aggregate-put-word-12
+slice-aggregate-put-word-12 c = search needs
+
+put-word-requires-12 : tie.Need-put-word-requires-12
+put-word-requires-12 c κs = search needs
+
 same-length : tie.Need-same-length
 same-length c = search needs
 
@@ -165,10 +171,18 @@ unfolding table meaningIn
 returns-11 c =
     (put-same (sym (ap (meaningIn table) (c .before .before .before .before .before .match .keys11))) (c .before .before .put-word11 .ensures), omega (arith, c .before .before .put-word11 .ensures .place))
 
+same-length-12 : tie.Need-same-length-12
+same-length-12 c = search needs
+
 returns-12 : tie.Need-returns-12
+unfolding table meaningIn
 returns-12 c =
+    (put-same (sym (ap (meaningIn table) (c .before .before .before .before .before .match .keys12))) (c .before .before .put-word12 .ensures), omega (arith, c .before .before .put-word12 .ensures .place))
+
+returns-13 : tie.Need-returns-13
+returns-13 c =
     let r = c .match .rest in
-    (put-same (sym (no-meaning _ (r .0 .0 .0 .0 .0 .0 .0 .0 .0 .0 .1) (r .0 .0 .0 .0 .0 .0 .0 .0 .0 .1) (r .0 .0 .0 .0 .0 .0 .0 .0 .1) (r .0 .0 .0 .0 .0 .0 .0 .1) (r .0 .0 .0 .0 .0 .0 .1) (r .0 .0 .0 .0 .0 .1) (r .0 .0 .0 .0 .1) (r .0 .0 .0 .1) (r .0 .0 .1) (r .0 .1) (r .1))) (put-nothing _ _), omega arith)
+    (put-same (sym (no-meaning _ (r .0 .0 .0 .0 .0 .0 .0 .0 .0 .0 .0 .1) (r .0 .0 .0 .0 .0 .0 .0 .0 .0 .0 .1) (r .0 .0 .0 .0 .0 .0 .0 .0 .0 .1) (r .0 .0 .0 .0 .0 .0 .0 .0 .1) (r .0 .0 .0 .0 .0 .0 .0 .1) (r .0 .0 .0 .0 .0 .0 .1) (r .0 .0 .0 .0 .0 .1) (r .0 .0 .0 .0 .1) (r .0 .0 .0 .1) (r .0 .0 .1) (r .0 .1) (r .1))) (put-nothing _ _), omega arith)
 
 pub put-meaning-spec : {M : Type 1} → statement M
 put-meaning-spec =
@@ -196,6 +210,8 @@ put-meaning-spec =
     put-word-requires-10
     slice-aggregate-put-word-11
     put-word-requires-11
+    slice-aggregate-put-word-12
+    put-word-requires-12
     same-length
     returns
     same-length-2
@@ -218,4 +234,6 @@ put-meaning-spec =
     returns-10
     same-length-11
     returns-11
-    returns-12)
+    same-length-12
+    returns-12
+    returns-13)

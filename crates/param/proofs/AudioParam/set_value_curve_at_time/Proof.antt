@@ -34,14 +34,21 @@ numbers c = now (c .args .values)
 abbrev Said : tie.Start → Verdict → Type 0
 Said c v = v ≡ lowest (curveRows (queue c) (lent c) (c .args .start-time) (c .args .duration) (numbers c))
 
-verdict : (c : tie.After-curve) → Said (c .before .before .before .before .before .before) (c .curve .result)
+verdict : (c : tie.After-curve) → Said (c .before .before .before .before .before .before .before .before) (c .curve .result)
 verdict c =
-    let start = c .before .before .before .before .before .before in
+    let start = c .before .before .before .before .before .before .before .before in
     let room = crowded (queue start) (numbers start) (start .pre .sound .waiting .room) (c .before .lengths .ensures) in
-    c .curve .ensures (queue start) (lent start) (c .before .before .is-full .ensures) room refl
+    let crossed = rw (c .before .before .before .before .taken-time .ensures) at (c .before .before .before .is-crossed .ensures) in
+    c .curve .ensures (queue start) (lent start) crossed (c .before .before .is-full .ensures) room refl
 
-fine : (c : tie.After-enum-told) → Said (c .before .before .before .before .before .before .before .before) Verdict.Answered
+fine : (c : tie.After-enum-told) → Said (c .before .before .before .before .before .before .before .before .before .before) Verdict.Answered
 fine c = sym (c .enum-told .given .1) ∙ verdict (c .before .before)
+
+taken-time-requires : tie.Need-taken-time-requires
+taken-time-requires c κs = search needs
+
+is-crossed-requires : tie.Need-is-crossed-requires
+is-crossed-requires c κs = search needs
 
 is-full-requires : tie.Need-is-full-requires
 is-full-requires c κs = search needs
@@ -58,13 +65,10 @@ curve-requires c κs = search needs
 enum-told : tie.Need-enum-told
 enum-told c = search needs
 
-taken-time-requires : tie.Need-taken-time-requires
-taken-time-requires c κs = search needs
-
 insert-requires : tie.Need-insert-requires
 insert-requires c κs =
-    let start = c .before .before .before .before .before .before .before .before .before .before in
-    let given = curve-answered (queue start) (lent start) _ _ (numbers start) (sym (fine (c .before .before))) in
+    let start = c .before .before .before .before .before .before .before .before .before .before .before in
+    let given = curve-answered (queue start) (lent start) _ _ (numbers start) (sym (fine (c .before))) in
     (start .pre .neat, omega (arith, given .scheduled .few, counted (start .args .self) (start .pre)), omega (arith, given .room, given .lent))
 
 answered-requires : tie.Need-answered-requires
@@ -79,22 +83,22 @@ same-length c = search needs
 returns : tie.Need-returns
 unfolding called
 returns c =
-    let start = c .before .before .before .before .before .before .before .before .before .before .before .before .before .before in
-    let given = sym (fine (c .before .before .before .before .before .before)) in
+    let start = c .before .before .before .before .before .before .before .before .before .before .before .before .before .before .before in
+    let given = sym (fine (c .before .before .before .before .before)) in
     leaves
     (start .pre)
     (inserted (curveOf (takenTime (start .args .start-time)) (start .args .duration) (numbers start)) (attached (queue start) (lent start)))
     (start .args .self .intrinsic)
     (rw given)
     (curve-answered (queue start) (lent start) _ _ (numbers start) given .lent)
-    (rw (c .before .before .before .before .before .taken-time .ensures) at (c .before .before .before .insert .ensures))
+    (rw (c .before .before .before .before .before .before .before .before .before .before .before .taken-time .ensures) at (c .before .before .before .insert .ensures))
     (c .answered .ensures)
 
 returns-2 : tie.Need-returns-2
 unfolding called
 returns-2 c =
     keeps
-    (c .before .before .before .before .before .before .before .before .pre)
+    (c .before .before .before .before .before .before .before .before .before .before .pre)
     (refused-called _ _ _ _ _ _ (sym (verdict (c .before .before)) ∙ c .enum-told2 .given .1))
     (rw (c .enum-told2 .given .1))
 
@@ -102,12 +106,13 @@ pub set-value-curve-at-time-spec : {M : Type 1} → statement M
 set-value-curve-at-time-spec =
     tie.close
     (tie.spec
+    taken-time-requires
+    is-crossed-requires
     is-full-requires
     lengths-requires
     sub-crowded
     curve-requires
     enum-told
-    taken-time-requires
     insert-requires
     answered-requires
     enum-told-2

@@ -39,11 +39,11 @@ next : (c : tie.In-loop Inv-loop μ-loop)
 next c = slot-next (c .before .before .before .before .args .t1) (c .before .loop .i) (full (c .before .before .before .before)) (omega arith) (omega arith)
 
 fitted : (c : tie.Else1 Inv-loop μ-loop)
-    → (Ieee.le (c .before .before .before .before .before .before .before .loop .before) (c .before .before .filed-under .result) && (c .before .before .before .is-clear .result && c .before .is-due .result && leb (c .before .before .before .before .length-of .result) (storeLength - c .before .before .before .before .before .before .before .loop .used))) ≡ true
+    → (Ieee.le (c .before .before .before .before .before .before .before .before .loop .before) (c .before .before .before .filed-under .result) && (c .before .before .before .before .is-clear .result && c .before .is-due .result && leb (c .before .before .before .before .before .length-of .result) (storeLength - c .before .before .before .before .before .before .before .before .loop .used))) ≡ true
 fitted c = not-false _ (c .if1 .left)
 
-room : (c : tie.Else1 Inv-loop μ-loop) → c .before .before .before .before .length-of .result ≤ storeLength - c .before .before .before .before .before .before .before .loop .used
-room c = leb-true _ _ (both (c .before .before .before .is-clear .result && c .before .is-due .result) _ (both (Ieee.le _ _) _ (fitted c) .1) .1)
+room : (c : tie.Else1 Inv-loop μ-loop) → c .before .before .before .before .before .length-of .result ≤ storeLength - c .before .before .before .before .before .before .before .before .loop .used
+room c = leb-true _ _ (both (c .before .before .before .before .is-clear .result && c .before .is-due .result) _ (both (Ieee.le _ _) _ (fitted c) .1) .1)
 
 new-requires : tie.Need-new-requires Inv-loop μ-loop
 new-requires c κs = search needs
@@ -71,25 +71,28 @@ is-clear-requires c κs = search needs
 filed-under-requires : tie.Need-filed-under-requires Inv-loop μ-loop
 filed-under-requires c κs = search needs
 
+reach-of-requires : tie.Need-reach-of-requires Inv-loop μ-loop
+reach-of-requires c κs = search needs
+
 is-due-requires : tie.Need-is-due-requires Inv-loop μ-loop
 is-due-requires c κs = search needs
 
 sub-fits : tie.Need-sub-fits Inv-loop μ-loop
-sub-fits c = omega (arith, c .before .before .before .before .before .before .loop .inv .1 .many, c .before .before .before .before .before .before .loop .inv .1 .sound .room)
+sub-fits c = omega (arith, c .before .before .before .before .before .before .before .loop .inv .1 .many, c .before .before .before .before .before .before .before .loop .inv .1 .sound .room)
 
 returns : tie.Need-returns Inv-loop μ-loop
 returns c =
     record {
       sound =
           takes-not
-          (c .before .before .before .before .before .before .before .loop .inv .1)
+          (c .before .before .before .before .before .before .before .before .loop .inv .1)
           _
-          (next (c .before .before .before .before .before .before))
+          (next (c .before .before .before .before .before .before .before))
           (omega arith)
-          (c .before .before .filed-under .ensures)
-          (c .before .before .before .is-clear .ensures)
+          (c .before .before .before .filed-under .ensures)
+          (c .before .before .before .before .is-clear .ensures)
           (c .before .is-due .ensures)
-          (c .before .before .before .before .length-of .ensures)
+          (c .before .before .before .before .before .length-of .ensures)
           (not-true _ (c .if1 .taken));
       queue = λ h. never h;
     }
@@ -101,7 +104,7 @@ array-set-from-slots : tie.Need-array-set-from-slots Inv-loop μ-loop
 array-set-from-slots c = search needs
 
 add-used : tie.Need-add-used Inv-loop μ-loop
-add-used c = omega (arith, c .before .before .before .before .before .before .before .loop .inv .1 .many, c .before .before .before .before .before .before .before .loop .inv .1 .sound .room, room c)
+add-used c = omega (arith, c .before .before .before .before .before .before .before .before .loop .inv .1 .many, c .before .before .before .before .before .before .before .before .loop .inv .1 .sound .room, room c)
 
 add-i : tie.Need-add-i Inv-loop μ-loop
 add-i c = search needs
@@ -111,7 +114,7 @@ loop-less c = search needs
 
 loop-again : tie.Need-loop-again Inv-loop μ-loop
 loop-again c =
-    (omega arith, takes-more (c .before .before .before .before .before .before .before .loop .inv .1) _ (next (c .before .before .before .before .before .before)) (omega arith) (c .before .before .filed-under .ensures) (c .before .before .before .is-clear .ensures) (c .before .is-due .ensures) (c .before .before .before .before .length-of .ensures) (fitted c) refl)
+    (omega arith, takes-more (c .before .before .before .before .before .before .before .before .loop .inv .1) _ (next (c .before .before .before .before .before .before .before)) (omega arith) (c .before .before .before .filed-under .ensures) (c .before .before .before .before .is-clear .ensures) (c .before .is-due .ensures) (c .before .before .before .before .before .length-of .ensures) (fitted c) (c .before .before .reach-of .ensures) refl)
 
 returns-2 : tie.Need-returns-2 Inv-loop μ-loop
 returns-2 c =
@@ -136,6 +139,7 @@ take-spec =
     length-of-requires
     is-clear-requires
     filed-under-requires
+    reach-of-requires
     is-due-requires
     sub-fits
     returns

@@ -52,14 +52,14 @@ is-taken-requires c κs = search needs
 enum-known-e-5 : tie.Need-enum-known-e-5
 enum-known-e-5 c = search needs
 
+is-curve-hold-requires : tie.Need-is-curve-hold-requires
+is-curve-hold-requires c κs = search needs
+
 is-taken-requires-2 : tie.Need-is-taken-requires-2
 is-taken-requires-2 c κs = search needs
 
 is-period-requires-2 : tie.Need-is-period-requires-2
 is-period-requires-2 c κs = search needs
-
-is-taken-if-any-requires-2 : tie.Need-is-taken-if-any-requires-2
-is-taken-if-any-requires-2 c κs = search needs
 
 returns : tie.Need-returns
 unfolding isClear
@@ -79,7 +79,7 @@ returns-4 c = rw (c .before .before .before .before .before .e4 .given .1, c .be
 
 returns-5 : tie.Need-returns-5
 unfolding isClear
-returns-5 c = rw (c .before .before .before .before .e5 .given .1, c .before .before .is-taken2 .ensures, c .before .is-period2 .ensures, c .is-taken-if-any2 .ensures)
+returns-5 c = rw (c .before .before .before .before .e5 .given .1, c .before .before .is-curve-hold .ensures, c .before .is-taken2 .ensures, c .is-period2 .ensures)
 
 pub is-clear-spec : {M : Type 1} → statement M
 is-clear-spec =
@@ -101,9 +101,9 @@ is-clear-spec =
     is-finite32-requires-4
     is-taken-requires
     enum-known-e-5
+    is-curve-hold-requires
     is-taken-requires-2
     is-period-requires-2
-    is-taken-if-any-requires-2
     returns
     returns-2
     returns-3

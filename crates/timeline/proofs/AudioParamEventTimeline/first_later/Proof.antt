@@ -1,13 +1,17 @@
 -- `first_later` meets its contract: none of the first i is later than c. Assumes nothing.
-use mathlib.Core.Path.{_≡_, refl, sym, _∙_}
+use mathlib.Core.Path.{_≡_, refl, sym, ap, _∙_}
+use mathlib.Core.Bool.{Bool}
 use Prim.Native.Nat.{_-_, _≤_}
 use native.Mathlib.Omega.{arith}
 use lib.ListN.{length, drop}
-use Rattle.rules.specs.Queue.{those}
+use lib.Ieee as Ieee
+use lib.Ieee.{Float}
+use Rattle.rules.specs.declared.Event.{Event}
+use Rattle.rules.specs.Queue.{filedUnder, those}
 use Rattle.laws.specs.Search.{isLaterThan}
 use Rattle.timeline.specs.Timeline.{waiting, firstOf}
 use Rattle.timeline.proofs.Laws.{count}
-use Rattle.timeline.proofs.Steps.{later-here, later-behind, later-none}
+use Rattle.timeline.proofs.Steps.{first-here, first-behind, first-none}
 use Rattle.timeline.proofs.AudioParamEventTimeline.first_later.Statement.{statement}
 use Rattle.timeline.proofs.AudioParamEventTimeline.first_later.Tie as tie
 
@@ -29,12 +33,17 @@ element-copy-out-s c = omega arith
 filed-under-requires : tie.Need-filed-under-requires Inv-loop μ-loop
 filed-under-requires c κs = tt
 
+-- as the loop asks it
+later : (c : Float) (e : Event) (u : Float) {b : Bool} → u ≡ filedUnder e → Ieee.lt c u ≡ b → isLaterThan c e ≡ b
+unfolding isLaterThan
+later c e u g f = ap (λ (v : Float). Ieee.lt c v) (sym g) ∙ f
+
 returns : tie.Need-returns Inv-loop μ-loop
 returns c =
     let start = c .before .before .before .before .before in
     let l = c .before .before .before .before .loop in
-    later-here (start .args .c) (start .args .t1) (start .pre) (l .i) (c .before .before .before .loop-test .taken) (l .inv .1)
-    (c .before .filed-under .result) (c .before .filed-under .ensures) (c .if1 .taken)
+    first-here (isLaterThan (start .args .c)) (start .args .t1) (start .pre) (l .i) (c .before .before .before .loop-test .taken) (l .inv .1)
+    (later (start .args .c) _ (c .before .filed-under .result) (c .before .filed-under .ensures) (c .if1 .taken))
 
 add-i : tie.Need-add-i Inv-loop μ-loop
 add-i c = omega arith
@@ -47,8 +56,8 @@ loop-again c =
     let start = c .before .before .before .before .before in
     let l = c .before .before .before .before .loop in (
       omega arith,
-      later-behind (start .args .c) (start .args .t1) (start .pre) (l .i) (c .before .before .before .loop-test .taken) (l .inv .1)
-          (c .before .filed-under .result) (c .before .filed-under .ensures) (c .if1 .left),
+      first-behind (isLaterThan (start .args .c)) (start .args .t1) (start .pre) (l .i) (c .before .before .before .loop-test .taken) (l .inv .1)
+          (later (start .args .c) _ (c .before .filed-under .result) (c .before .filed-under .ensures) (c .if1 .left)),
     )
 
 returns-2 : tie.Need-returns-2 Inv-loop μ-loop
@@ -57,7 +66,7 @@ returns-2 c =
     let l = c .before .loop in
     let q = start .args .t1 in
     let n : length (waiting q) ≡ q .len = count q (start .pre) in
-    later-none (start .args .c) (waiting q) (l .i) (omega arith) ∙ sym (l .inv .1)
+    first-none (isLaterThan (start .args .c)) (waiting q) (l .i) (omega arith) ∙ sym (l .inv .1)
 
 pub first-later-spec : {M : Type 1} → statement M
 first-later-spec =

@@ -1,13 +1,13 @@
 -- `hold` meets its contract, by what the first event later than c is. Assumes nothing.
 use mathlib.Core.Path.{_≡_, sym, ap, _∙_}
-use mathlib.Core.Bool.{true}
+use mathlib.Core.Bool.{Bool, true, not, _&&_}
 use mathlib.Core.List.{List, []}
 use Prim.Native.Nat.{ℕ, _≤_, _<_}
 use native.Mathlib.Omega.{arith}
 use lib.ListN.{length}
 use lib.Ieee.{Float}
 use Rattle.rules.specs.declared.Event.{Event}
-use Rattle.rules.specs.Queue.{putAt, those, eventsOf, attached, heldEvent, lastHeld}
+use Rattle.rules.specs.Queue.{isRamp, anyCovers, putAt, those, eventsOf, attached, heldEvent, lastHeld}
 use Rattle.timeline.specs.declared.AudioParamEventTimeline.{AudioParamEventTimeline}
 use Rattle.timeline.specs.Timeline.{Neat, made, waiting, stays}
 use Rattle.timeline.proofs.Lists.{those-length}
@@ -35,6 +35,11 @@ module _ (c : Float) (q : AudioParamEventTimeline) where
       → putAt n x (waiting k) ≡ putAt (length early) (heldEvent c e) early
   put-end k e n m x d f = rw (m, f, waits-of k early e)
 
+  -- whether a ramp is held, as code asks it
+  ramps : (k : AudioParamEventTimeline) → k ≡ made early → (e : Event) {r o b : Bool} → r ≡ isRamp e → o ≡ anyCovers c (waiting k) → (r && not o) ≡ b
+      → (isRamp e && not (anyCovers c early)) ≡ b
+  ramps k e d f g h = sym (rw (f, g, waits-of k early e)) ∙ h
+
 retain-requires : tie.Need-retain-requires
 retain-requires c κs = search needs
 
@@ -61,12 +66,17 @@ returns c =
 is-ramp-requires : tie.Need-is-ramp-requires
 is-ramp-requires c κs = search needs
 
+any-covers-requires : tie.Need-any-covers-requires
+any-covers-requires c κs =
+    let r = c .before .before .before .before .before in
+    cut-neat (r .before .args .c) (r .before .args .self) (r .before .pre) (r .retain .result) (r .retain .ensures)
+
 held-event-requires : tie.Need-held-event-requires
 held-event-requires c κs = search needs
 
 put-at-requires : tie.Need-put-at-requires
 put-at-requires c κs =
-    let i = c .before .before in
+    let i = c .before .before .before in
     let r = i .before .before .before .before .before in
     let a = r .before .args in
     let k = r .retain .result in
@@ -80,11 +90,12 @@ put-at-requires c κs =
     (h, omega arith, omega arith)
 
 hold-last-requires-2 : tie.Need-hold-last-requires-2
-hold-last-requires-2 c κs = let r = c .before .before .before .before .before .before in cut-neat (r .before .args .c) (r .before .args .self) (r .before .pre) (r .retain .result) (r .retain .ensures)
+hold-last-requires-2 c κs = let r = c .before .before .before .before .before .before .before in cut-neat (r .before .args .c) (r .before .args .self) (r .before .pre) (r .retain .result) (r .retain .ensures)
 
 returns-2 : tie.Need-returns-2
 returns-2 c =
-    let i = c .before .before .before in
+    let o = c .before .before .before in
+    let i = o .before in
     let r = i .before .before .before .before .before in
     let a = r .before .args in
     let k = r .retain .result in
@@ -94,11 +105,12 @@ returns-2 c =
     ∙ ap made (put-end (a .c) (a .self) k (r .retain .ensures) (k .len) m (c .before .held-event .result) e (c .before .held-event .ensures))
     ∙ ap made
     (held-ramp (a .c) (waiting (a .self)) e (sym (i .before .before .before .before .first-later .ensures) ∙ i .before .before .e .given .1)
-    (sym (i .is-ramp .ensures) ∙ c .before .before .if1 .taken))
+    (ramps (a .c) (a .self) k (r .retain .ensures) e (i .is-ramp .ensures) (o .any-covers .ensures) (c .before .before .if1 .taken)))
 
 returns-3 : tie.Need-returns-3
 returns-3 c =
-    let i = c .before .before in
+    let o = c .before .before in
+    let i = o .before in
     let r = i .before .before .before .before .before in
     let a = r .before .args in
     let e = i .before .before .e .given .0 .0 in
@@ -106,7 +118,7 @@ returns-3 c =
     ∙ last-of (a .c) (a .self) (r .retain .result) (r .retain .ensures)
     ∙ ap made
     (held-other (a .c) (waiting (a .self)) e (sym (i .before .before .before .before .first-later .ensures) ∙ i .before .before .e .given .1)
-    (sym (i .is-ramp .ensures) ∙ c .before .if1 .left))
+    (ramps (a .c) (a .self) (r .retain .result) (r .retain .ensures) e (i .is-ramp .ensures) (o .any-covers .ensures) (c .before .if1 .left)))
 
 pub hold-spec : {M : Type 1} → statement M
 hold-spec =
@@ -119,6 +131,7 @@ hold-spec =
     hold-last-requires
     returns
     is-ramp-requires
+    any-covers-requires
     held-event-requires
     put-at-requires
     hold-last-requires-2
