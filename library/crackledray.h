@@ -1,17 +1,18 @@
 /* One audio parameter, proved: its scheduling calls and its block renderer.
  *
- * The caller owns all memory: a state of 395 numbers and a curve store of 4,096 floats, both for one parameter. Neither is
- * allocated, kept or freed here; a state can be copied, stored and compared like any array of numbers.
+ * The caller owns all memory: a state of 398 numbers and a curve store of 4,096 floats, both for one parameter. Neither is
+ * allocated, kept or freed here; a state can be copied, stored and compared like any array of numbers. Its first number is the
+ * version of its layout: one that was stored under another version gets 100, and so does an array of zeros.
  *
  * Every function but crackledray_version answers 0, or why it is refused: a number of document 01, or 100 (enum
  * crackledray_answer). Where a call is refused nothing changes; the exceptions are crackledray_make's state and crackledray_block's
  * steps, current and one, as their comments say. No number that is passed is out of bounds for a function: each is answered or
  * refused.
  *
- * 100: the state has not 395 numbers, or they fail the test that is made of them at every call (README.md beside this file, "The
- * state", lists it: the rate word is 0 or 1, at most 64 events wait, in order of time, values are finite, times are not below 0, ..).
- * The test is the parameter's invariant. Every state that these calls leave passes it; a state that passes it need not have been
- * left by calls, and is answered as what stands in it.
+ * 100: the state has not 398 numbers, or they fail the test that is made of them at every call (README.md beside this file, "The
+ * state", lists it: the version is 2, the rate word is 0 or 1, at most 64 events wait, in order of time, values are finite, times
+ * are not below 0, the last block's end is not before its time, ..). The test is the parameter's invariant. Every state that these
+ * calls leave passes it; a state that passes it need not have been left by calls, and is answered as what stands in it.
  *
  * For firmware:
  * - There is no allocation and no data that is written to but the caller's: constants alone. From outside the archive wants memcpy
@@ -47,16 +48,17 @@ extern "C" {
 #endif
 
 /* Major, minor and patch, 8 bits each. */
-#define CRACKLEDRAY_VERSION 0x000500u
+#define CRACKLEDRAY_VERSION 0x000600u
 
 /* The same number, of the archive: not this one where header and archive do not belong together. */
 uint32_t crackledray_version(void);
 
 enum {
-    CRACKLEDRAY_STATE = 395,  /* numbers of a state */
-    CRACKLEDRAY_STORE = 4096, /* floats of a curve store, and of all waiting curves */
-    CRACKLEDRAY_EVENTS = 64,  /* events that can wait */
-    CRACKLEDRAY_COUNT = 128   /* samples of a block, at most */
+    CRACKLEDRAY_STATE = 398,       /* numbers of a state */
+    CRACKLEDRAY_STATE_VERSION = 2, /* the first of them: which layout it has */
+    CRACKLEDRAY_STORE = 4096,      /* floats of a curve store, and of all waiting curves */
+    CRACKLEDRAY_EVENTS = 64,       /* events that can wait */
+    CRACKLEDRAY_COUNT = 128        /* samples of a block, at most */
 };
 
 /* Bytes of stack that a call takes at most in the x86-64 archive, its return address counted, memcpy's and memset's own not.
@@ -87,8 +89,8 @@ enum crackledray_answer {
 };
 
 /* Makes a parameter; K-rate where k_rate, else A-rate. The state may hold anything before. Refused by 1 the state IS written: it is
- * that of an A-rate parameter with all numbers 0, which other calls accept. Refused by 100 it stays as it is. The curve store of a
- * new parameter may hold anything. */
+ * that of an A-rate parameter with all numbers 0 (the version is 2), which other calls accept. Refused by 100 it stays as it is.
+ * The curve store of a new parameter may hold anything. */
 uint32_t crackledray_make(uint64_t *state, size_t state_length, float min, float default_value, float max, bool k_rate);
 
 /* An immediate set: a step at time 0. */
@@ -108,11 +110,14 @@ uint32_t crackledray_target(uint64_t *state, size_t state_length, float value, d
 uint32_t crackledray_curve(uint64_t *state, size_t state_length, const float *values, size_t values_length, double time,
                            double duration, float *store, size_t store_length);
 
-/* Removes every event at the time or later. */
+/* Removes every event at the time or later, and every curve that ends then or later (at start + duration, or at its hold time). If
+ * the first event is among them, and is a ramp, or a curve that had started by the end of the last answered block, the value
+ * returns to that of the last finished event, where there is one. */
 uint32_t crackledray_cancel(uint64_t *state, size_t state_length, double time, float *store, size_t store_length);
 
-/* Removes every event later than the time, and holds what leads there at its level at the time: a ramp, if the first of those events is one
- * (it stays, also where a curve runs), else the target or curve that runs. */
+/* Removes every event later than the time, and holds what leads there at its level at the time: the curve that runs then, else a
+ * ramp, if the first of those events is one (it stays), else the target that runs. A curve that starts later than the time goes, and
+ * the value returns, as by a cancel. */
 uint32_t crackledray_hold(uint64_t *state, size_t state_length, double time, float *store, size_t store_length);
 
 /* One block: count samples (1 to 128) from the time on, a sample period apart, into the first places of the output; the other

@@ -2,7 +2,7 @@
 typedef unsigned long size_t;
 typedef unsigned long word;
 
-enum { STATE = 395, STORE = 4096, COUNT = 128, SIZES = 3 };
+enum { STATE = 398, STORE = 4096, COUNT = 128, SIZES = 3 };
 
 /* the exported calls, as in library/crackledray.h, and the loops of speed_c and speed_a */
 unsigned crackledray_make(word *state, size_t states, float min, float start, float max, _Bool k_rate);

@@ -15,8 +15,8 @@ const WAYS: [&str; 5] = ["rust", "native", "value", "tick", "exported"];
 const READY: usize = 16;
 /// How many blocks of a long session lie between two of these parameters.
 const BETWEEN: usize = 1000;
-/// Words of 64 bits in a parameter (`AudioParam`, 3,144 bytes).
-const PARAMETER: usize = 393;
+/// Words of 64 bits in a parameter (`AudioParam`, 3,160 bytes).
+const PARAMETER: usize = 395;
 
 /// Blocks in a loop of the port's own: `by_value` and `speed_tick`.
 type Loop = unsafe extern "C" fn(

@@ -75,10 +75,20 @@ lastText (Last.Done e) = double 32 (e .time) ++ single 58 (e .value)
 unfoldable pub boundsText : Bounds → List ℕ
 boundsText b = single 32 (b .min) ++ (single 32 (b .default) ++ single 32 (b .max))
 
+-- the end of the last answered block, where there is one
+unfoldable pub endText : MaybeTime → List ℕ
+endText MaybeTime.Missing = []
+endText (MaybeTime.At t) = double 58 t
+
+-- "BLOCK is `TIME:END` of the last answered block, or `-`"
+unfoldable pub spanText : MaybeTime → MaybeTime → List ℕ
+spanText block end = (32 ∷ timeText block) ++ endText end
+
 -- `state RATE MIN DEFAULT MAX INTRINSIC BLOCK LAST COUNT`
-unfoldable pub stateText : AutomationRate → Bounds → Float → MaybeTime → LastEvent → ℕ → List ℕ
-stateText rate b v block last n =
-    (115 ∷ 116 ∷ 97 ∷ 116 ∷ 101 ∷ []) ++ (rateText rate ++ (boundsText b ++ (single 32 v ++ ((32 ∷ timeText block) ++ (lastText last ++ count 32 n)))))
+unfoldable pub stateText : AutomationRate → Bounds → Float → MaybeTime → MaybeTime → LastEvent → ℕ → List ℕ
+stateText rate b v block end last n =
+    (115 ∷ 116 ∷ 97 ∷ 116 ∷ 101 ∷ [])
+    ++ (rateText rate ++ (boundsText b ++ (single 32 v ++ (spanText block end ++ (lastText last ++ count 32 n)))))
 
 -- ---- a waiting event, behind a space and its word
 

@@ -7,7 +7,7 @@ ghost use lib.Ieee.{binary32, binary64};
 ghost use Rattle.text.specs.Digits.{decimalOf};
 ghost use Rattle.text.specs.Floats.{floatText};
 ghost use Rattle.text.specs.Put.{Put};
-ghost use Rattle.answers.specs.Answers.{timeText, lastText, rateText, eventText, listText, verdictText, blockText, restText, zerosText, boundsText, stateText, stepText, rampText, targetText, curveText, areMarks, areZeros};
+ghost use Rattle.answers.specs.Answers.{timeText, lastText, rateText, eventText, listText, verdictText, blockText, restText, zerosText, boundsText, endText, spanText, stateText, stepText, rampText, targetText, curveText, areMarks, areZeros};
 use refusals::number_of;
 use rules::AutomationRate;
 use rules::Bounds;
@@ -172,6 +172,28 @@ fn put_bounds(out: &mut [u8], at: usize, bounds: Bounds) -> usize
     put_single_behind(out, next, b' ', bounds.max)
 }
 
+// The last block's end, where there is one, behind its time.
+fn put_end(out: &mut [u8], at: usize, end: MaybeTime) -> usize
+    requires { ⌜ at + 17 ≤ length (now out) ⌝ }
+    ensures { λ r. ⌜ Put (now (out .entry)) at (endText end) (now (out .exit)) r ⌝ }
+    ensures { λ r. ⌜ r ≤ at + 17 ⌝ }
+{
+    match end {
+        MaybeTime::Missing => at,
+        MaybeTime::At(t) => put_double_behind(out, at, b':', t),
+    }
+}
+
+// The time of the last block and its end.
+fn put_span(out: &mut [u8], at: usize, block: MaybeTime, end: MaybeTime) -> usize
+    requires { ⌜ at + 34 ≤ length (now out) ⌝ }
+    ensures { λ r. ⌜ Put (now (out .entry)) at (spanText block end) (now (out .exit)) r ⌝ }
+    ensures { λ r. ⌜ r ≤ at + 34 ⌝ }
+{
+    let next = put_time_behind(out, at, b' ', block);
+    put_end(out, next, end)
+}
+
 // `state`, and what it says before the waiting events.
 pub fn put_state(
     out: &mut [u8],
@@ -180,18 +202,19 @@ pub fn put_state(
     bounds: Bounds,
     intrinsic: f32,
     block: MaybeTime,
+    end: MaybeTime,
     last: LastEvent,
     count: u64,
 ) -> usize
-    requires { ⌜ at + 107 ≤ length (now out) ⌝ }
-    ensures { λ r. ⌜ Put (now (out .entry)) at (stateText rate bounds intrinsic block last count) (now (out .exit)) r ⌝ }
-    ensures { λ r. ⌜ r ≤ at + 107 ⌝ }
+    requires { ⌜ at + 124 ≤ length (now out) ⌝ }
+    ensures { λ r. ⌜ Put (now (out .entry)) at (stateText rate bounds intrinsic block end last count) (now (out .exit)) r ⌝ }
+    ensures { λ r. ⌜ r ≤ at + 124 ⌝ }
 {
     let next = put_word(out, at, b"state");
     let next = put_rate(out, next, rate);
     let next = put_bounds(out, next, bounds);
     let next = put_single_behind(out, next, b' ', intrinsic);
-    let next = put_time_behind(out, next, b' ', block);
+    let next = put_span(out, next, block, end);
     let next = put_last(out, next, last);
     put_count_behind(out, next, b' ', count)
 }

@@ -23,7 +23,7 @@ use Rattle.param.specs.declared.AudioParam.{AudioParam}
 use Rattle.param.specs.declared.Outcome.{Outcome}
 use Rattle.param.specs.Param.{paramOf, structOf, SoundParam, Makes, unmade, partsOf, isWhole, Restores}
 use Rattle.param.proofs.Calls.{whole}
-use Rattle.coding.specs.Coding.{stateLength, isRate, rateWord, paramIn, isState, stateOf, Queues, Decodes, Encodes}
+use Rattle.coding.specs.Coding.{stateLength, stateVersion, isRate, rateWord, paramIn, isState, stateOf, Queues, Decodes, Encodes}
 
 -- ---- refused
 
@@ -39,17 +39,23 @@ module _ (s : List ℕ) where
   unfolding isState
   decodes-none h e f = record { gives = rw (ne-eqb (length s) stateLength h) e; sound = f }
 
+  -- another version
+  pub decodes-other : {r : Outcome} → length s ≡ stateLength → (getD s 0 0 ≡ stateVersion → ⊥) → r ≡ unmade → SoundParam (r .param) → Decodes s r
+  unfolding isState
+  decodes-other long h e f = record { gives = rw (eq-eqb (length s) stateLength long, ne-eqb (getD s 0 0) stateVersion h) e; sound = f }
+
   -- a rate that is none
-  pub decodes-no-rate : {r : Outcome} → length s ≡ stateLength → 1 < getD s 3 0 → r ≡ unmade → SoundParam (r .param) → Decodes s r
+  pub decodes-no-rate : {r : Outcome} → length s ≡ stateLength → getD s 0 0 ≡ stateVersion → 1 < getD s 4 0 → r ≡ unmade → SoundParam (r .param) → Decodes s r
   unfolding isState isRate
-  decodes-no-rate long h e f = record { gives = rw (eq-eqb (length s) stateLength long, lt-leb (getD s 3 0) 1 h) e; sound = f }
+  decodes-no-rate long v h e f =
+      record { gives = rw (eq-eqb (length s) stateLength long, eq-eqb (getD s 0 0) stateVersion v, lt-leb (getD s 4 0) 1 h) e; sound = f }
 
   -- ---- accepted where the parts are
 
-  module _ (q : AudioParamEventTimeline) (long : length s ≡ stateLength) (rated : getD s 3 0 ≤ 1) (h : Queues s q) where
+  module _ (q : AudioParamEventTimeline) (long : length s ≡ stateLength) (known : getD s 0 0 ≡ stateVersion) (rated : getD s 4 0 ≤ 1) (h : Queues s q) where
     abbrev parts : AudioParam
     parts =
-        partsOf (paramIn s .bounds) (paramIn s .rate) (paramIn s .intrinsic) q (paramIn s .lastBlock) (paramIn s .last)
+        partsOf (paramIn s .bounds) (paramIn s .rate) (paramIn s .intrinsic) q (paramIn s .lastBlock) (paramIn s .lastEnd) (paramIn s .last)
 
     read : leb (q .len) mostEvents ≡ true → paramOf parts ≡ paramIn s
     read t = ap (λ (es : List Event). withQueue es (paramIn s)) (h .events (leb-true (q .len) mostEvents t))
@@ -58,7 +64,7 @@ module _ (s : List ℕ) where
     unfolding isWhole isState isRate
     accepted =
         go (leb (q .len) mostEvents) refl
-        ∙ rw (eq-eqb (length s) stateLength long, le-leb (getD s 3 0) 1 rated) (ap (λ (n : ℕ). leb n mostEvents && isSound (paramIn s)) (h .many))
+        ∙ rw (eq-eqb (length s) stateLength long, eq-eqb (getD s 0 0) stateVersion known, le-leb (getD s 4 0) 1 rated) (ap (λ (n : ℕ). leb n mostEvents && isSound (paramIn s)) (h .many))
       where
         go : (b : Bool) → leb (q .len) mostEvents ≡ b → (b && isSound (paramOf parts)) ≡ (b && isSound (paramIn s))
         go true e = ap isSound (read e)
@@ -80,14 +86,19 @@ pub accepted-sound : (s : List ℕ) → isState s ≡ true → Sound (paramIn s)
 unfolding isState
 accepted-sound s h =
     let a = both (eqb (length s) stateLength) _ h in
-    let b = both (isRate (getD s 3 0)) _ (a .1) in
-    tested (paramIn s) (both (leb (getD s 10 0) mostEvents) _ (b .1) .1)
+    let v = both (eqb (getD s 0 0) stateVersion) _ (a .1) in
+    let b = both (isRate (getD s 4 0)) _ (v .1) in
+    tested (paramIn s) (both (leb (getD s 13 0) mostEvents) _ (b .1) .1)
 
-count-in : (p : Param) (s : List ℕ) → getD (stateOf p s) 10 0 ≡ length (p .queue)
+count-in : (p : Param) (s : List ℕ) → getD (stateOf p s) 13 0 ≡ length (p .queue)
 unfolding stateOf
 count-in p s = refl
 
-rate-in : (p : Param) (s : List ℕ) → isRate (getD (stateOf p s) 3 0) ≡ true
+version-in : (p : Param) (s : List ℕ) → getD (stateOf p s) 0 0 ≡ stateVersion
+unfolding stateOf
+version-in p s = refl
+
+rate-in : (p : Param) (s : List ℕ) → isRate (getD (stateOf p s) 4 0) ≡ true
 unfolding stateOf
 rate-in p s = go (p .rate)
   where
@@ -99,12 +110,15 @@ pub encoded-accepted : {p : AudioParam} {s after : List ℕ} → SoundParam p �
 unfolding isState
 encoded-accepted {p} {s} {after} f long e =
     let few : length (paramOf p .queue) ≤ mostEvents = f .sound .waiting .few in
-    let many : getD after 10 0 ≡ length (paramOf p .queue) = ap (λ (l : List ℕ). getD l 10 0) (e .is) ∙ count-in (paramOf p) s in
+    let many : getD after 13 0 ≡ length (paramOf p .queue) = ap (λ (l : List ℕ). getD l 13 0) (e .is) ∙ count-in (paramOf p) s in
+    let version : getD after 0 0 ≡ stateVersion = ap (λ (l : List ℕ). getD l 0 0) (e .is) ∙ version-in (paramOf p) s in
     and
     (eq-eqb (length after) stateLength long)
     (and
-    (ap (λ (l : List ℕ). isRate (getD l 3 0)) (e .is) ∙ rate-in (paramOf p) s)
-    (and (le-leb (getD after 10 0) mostEvents (omega arith)) (rw (e .back) (passes-test (paramOf p) (f .sound)))))
+    (eq-eqb (getD after 0 0) stateVersion version)
+    (and
+    (ap (λ (l : List ℕ). isRate (getD l 4 0)) (e .is) ∙ rate-in (paramOf p) s)
+    (and (le-leb (getD after 13 0) mostEvents (omega arith)) (rw (e .back) (passes-test (paramOf p) (f .sound))))))
 
 pub decoded-encoded : {p : AudioParam} {s after : List ℕ} {r : Outcome} → SoundParam p → length after ≡ stateLength → Encodes p s after → Decodes after r
     → r ≡ record { verdict = Verdict.Answered; param = p }

@@ -27,15 +27,19 @@ use Rattle.param.specs.Param.{paramOf, structOf, unmade, SoundParam}
 
 -- ---- the layout
 
--- the parameter's own numbers, then six for each waiting event, at most 64
+-- the layout's version, the parameter's own numbers, then six for each waiting event, at most 64
 abbrev pub headWords : ℕ
-headWords = 11
+headWords = 14
 
 abbrev pub eventWords : ℕ
 eventWords = 6
 
 abbrev pub stateLength : ℕ
-stateLength = 395
+stateLength = 398
+
+-- The first number of every state. The first layout, of 395 numbers, had none; the second has the last block's end (02, C-12).
+abbrev pub stateVersion : ℕ
+stateVersion = 2
 
 -- where the numbers of the i-th event begin
 abbrev pub placeOf : ℕ → ℕ
@@ -86,17 +90,20 @@ eventsIn s (suc n) = eventsIn s n ++ (eventAt s (placeOf n) ∷ [])
 abbrev pub paramIn : List ℕ → Param
 paramIn s =
     record {
-      bounds = record { min = singleIn (getD s 0 0); default = singleIn (getD s 1 0); max = singleIn (getD s 2 0) };
-      rate = rateIn (getD s 3 0);
-      intrinsic = singleIn (getD s 4 0);
-      queue = eventsIn s (getD s 10 0);
-      lastBlock = timeIn (getD s 5 0) (getD s 6 0);
-      last = lastIn (getD s 7 0) (getD s 8 0) (getD s 9 0);
+      bounds = record { min = singleIn (getD s 1 0); default = singleIn (getD s 2 0); max = singleIn (getD s 3 0) };
+      rate = rateIn (getD s 4 0);
+      intrinsic = singleIn (getD s 5 0);
+      queue = eventsIn s (getD s 13 0);
+      lastBlock = timeIn (getD s 6 0) (getD s 7 0);
+      lastEnd = timeIn (getD s 8 0) (getD s 9 0);
+      last = lastIn (getD s 10 0) (getD s 11 0) (getD s 12 0);
     }
 
--- whether a state is one of a parameter: its rate is known, and what it has passes the tests of the invariant
+-- whether a state is one of a parameter: it is of this version, its rate is known, and what it has passes the tests of the invariant
 unfoldable pub isState : List ℕ → Bool
-isState s = eqb (length s) stateLength && (isRate (getD s 3 0) && (leb (getD s 10 0) mostEvents && isSound (paramIn s)))
+isState s =
+    eqb (length s) stateLength
+    && (eqb (getD s 0 0) stateVersion && (isRate (getD s 4 0) && (leb (getD s 13 0) mostEvents && isSound (paramIn s))))
 
 -- ---- what is written
 
@@ -140,8 +147,8 @@ wordsFor (e ∷ q) = wordsOf e ++ wordsFor q
 
 abbrev pub headOf : Param → List ℕ
 headOf p =
-    toBits binary32 (p .bounds .min) ∷ toBits binary32 (p .bounds .default) ∷ toBits binary32 (p .bounds .max) ∷ rateWord (p .rate)
-    ∷ toBits binary32 (p .intrinsic) ∷ flagOf (p .lastBlock) ∷ bitsOf (p .lastBlock)
+    stateVersion ∷ toBits binary32 (p .bounds .min) ∷ toBits binary32 (p .bounds .default) ∷ toBits binary32 (p .bounds .max) ∷ rateWord (p .rate)
+    ∷ toBits binary32 (p .intrinsic) ∷ flagOf (p .lastBlock) ∷ bitsOf (p .lastBlock) ∷ flagOf (p .lastEnd) ∷ bitsOf (p .lastEnd)
     ∷ lastFlag (p .last) ∷ lastTime (p .last) ∷ lastValue (p .last) ∷ length (p .queue) ∷ []
 
 -- the state s with a parameter written over it: the numbers behind its events stay
@@ -180,7 +187,7 @@ pub record PutsEvent (s : List ℕ) (at : ℕ) (e : Event) (after : List ℕ) : 
 
 -- the last event's three numbers
 pub record PutsLast (s : List ℕ) (l : LastEvent) (after : List ℕ) : Type 0 where
-  pub is : after ≡ sets s 7 (lastFlag l ∷ lastTime l ∷ lastValue l ∷ [])
+  pub is : after ≡ sets s 10 (lastFlag l ∷ lastTime l ∷ lastValue l ∷ [])
   pub back : lastIn (lastFlag l) (lastTime l) (lastValue l) ≡ l
 
 -- all but the events is written, and given back
@@ -191,12 +198,13 @@ pub record PutsHead (s : List ℕ) (p : Param) (after : List ℕ) : Type 0 where
   pub max : singleIn (toBits binary32 (p .bounds .max)) ≡ p .bounds .max
   pub intrinsic : singleIn (toBits binary32 (p .intrinsic)) ≡ p .intrinsic
   pub block : timeIn (flagOf (p .lastBlock)) (bitsOf (p .lastBlock)) ≡ p .lastBlock
+  pub end : timeIn (flagOf (p .lastEnd)) (bitsOf (p .lastEnd)) ≡ p .lastEnd
   pub last : lastIn (lastFlag (p .last)) (lastTime (p .last)) (lastValue (p .last)) ≡ p .last
 
 -- the events of a state, in a queue whose other slots do not count; more than 64 are not read
 pub record Queues (s : List ℕ) (q : AudioParamEventTimeline) : Type 0 where
-  pub many : q .len ≡ getD s 10 0
-  pub events : q .len ≤ mostEvents → waiting q ≡ eventsIn s (getD s 10 0)
+  pub many : q .len ≡ getD s 13 0
+  pub events : q .len ≤ mostEvents → waiting q ≡ eventsIn s (getD s 13 0)
 
 -- a state gives its parameter, or is refused as bad bounds are
 pub record Decodes (s : List ℕ) (r : Outcome) : Type 0 where

@@ -24,10 +24,13 @@ use timeline::AudioParamEventTimeline;
 mod bits; // bits.rt: floats as numbers
 mod event; // event.rt: one waiting event
 
-// How many numbers a state has: the parameter's own, then those of 64 events.
-pub const LENGTH: usize = 395;
+// How many numbers a state has: its version, the parameter's own, then those of 64 events.
+pub const LENGTH: usize = 398;
 
-const HEAD: usize = 11;
+// The first number of a state: which layout it has.
+const VERSION: u64 = 2;
+
+const HEAD: usize = 14;
 
 const EVENT: usize = 6;
 
@@ -61,7 +64,7 @@ fn queue_in(state: &[u64]) -> AudioParamEventTimeline
 {
     let empty = AudioParamEventTimeline::new();
     let mut slots = empty.slots;
-    let len = state[10] as usize;
+    let len = state[13] as usize;
     if len <= AudioParam::EVENTS {
         let mut i = 0usize;
         while i < len {
@@ -92,20 +95,24 @@ pub fn decode(state: &[u64]) -> Outcome
     if state.len() != LENGTH {
         return none();
     }
-    if 1 < state[3] {
+    if state[0] != VERSION {
+        return none();
+    }
+    if 1 < state[4] {
         return none();
     }
     let bounds = Bounds {
-        min: single_in(state[0]),
-        default: single_in(state[1]),
-        max: single_in(state[2]),
+        min: single_in(state[1]),
+        default: single_in(state[2]),
+        max: single_in(state[3]),
     };
-    let rate = rate_in(state[3]);
-    let intrinsic = single_in(state[4]);
-    let block = time_in(state[5], state[6]);
-    let last = last_in(state[7], state[8], state[9]);
+    let rate = rate_in(state[4]);
+    let intrinsic = single_in(state[5]);
+    let block = time_in(state[6], state[7]);
+    let end = time_in(state[8], state[9]);
+    let last = last_in(state[10], state[11], state[12]);
     let timeline = queue_in(state);
-    AudioParam::from_parts(bounds, rate, intrinsic, timeline, block, last)
+    AudioParam::from_parts(bounds, rate, intrinsic, timeline, block, end, last)
 }
 
 fn rate_word(rate: AutomationRate) -> u64
@@ -123,14 +130,14 @@ fn put_last(state: &mut [u64], last: LastEvent)
 {
     match last {
         LastEvent::None => {
-            state[7] = 0;
-            state[8] = 0;
-            state[9] = 0;
+            state[10] = 0;
+            state[11] = 0;
+            state[12] = 0;
         }
         LastEvent::Done(l) => {
-            state[7] = 1;
-            state[8] = double_bits(l.time);
-            state[9] = single_bits(l.value);
+            state[10] = 1;
+            state[11] = double_bits(l.time);
+            state[12] = single_bits(l.value);
         }
     }
 }
@@ -142,15 +149,19 @@ fn put_head(state: &mut [u64], p: AudioParam)
 {
     let bounds = p.bounds();
     let block = p.last_block_time();
-    state[0] = single_bits(bounds.min);
-    state[1] = single_bits(bounds.default);
-    state[2] = single_bits(bounds.max);
-    state[3] = rate_word(p.automation_rate());
-    state[4] = single_bits(p.intrinsic_value());
-    state[5] = flag_of(block);
-    state[6] = time_bits(block);
+    let end = p.last_block_end();
+    state[0] = VERSION;
+    state[1] = single_bits(bounds.min);
+    state[2] = single_bits(bounds.default);
+    state[3] = single_bits(bounds.max);
+    state[4] = rate_word(p.automation_rate());
+    state[5] = single_bits(p.intrinsic_value());
+    state[6] = flag_of(block);
+    state[7] = time_bits(block);
+    state[8] = flag_of(end);
+    state[9] = time_bits(end);
     put_last(state, p.last_event());
-    state[10] = p.len() as u64;
+    state[13] = p.len() as u64;
 }
 
 // Writes a parameter over a state: the numbers behind its events stay.

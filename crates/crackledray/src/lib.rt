@@ -14,7 +14,7 @@ use rules::AutomationRate;
 use rules::Bounds;
 use rules::Verdict;
 
-const VERSION: u32 = 0x00_0500;
+const VERSION: u32 = 0x00_0600;
 
 const BAD_STATE: u32 = 100;
 

@@ -95,8 +95,8 @@ all-width q few room = omega arith
 
 -- ---- the state, as its parts were asked for
 
-pub state-line : (p : Param) (s : List Float) {rate : AutomationRate} {b : Bounds} {v : Float} {block : MaybeTime} {last : LastEvent} {n from : ℕ} {zeros : Bool}
-    → rate ≡ p .rate → b ≡ p .bounds → v ≡ p .intrinsic → block ≡ p .lastBlock → last ≡ p .last → n ≡ length (p .queue) → from ≡ lengthsOf (take n (p .queue)) → zeros ≡ areZeros (drop from (take 4096 s))
-    → stateText rate b v block last n ++ (queueText (p .queue) s ++ zerosText zeros) ≡ stateLine p s
+pub state-line : (p : Param) (s : List Float) {rate : AutomationRate} {b : Bounds} {v : Float} {block end : MaybeTime} {last : LastEvent} {n from : ℕ} {zeros : Bool}
+    → rate ≡ p .rate → b ≡ p .bounds → v ≡ p .intrinsic → block ≡ p .lastBlock → end ≡ p .lastEnd → last ≡ p .last → n ≡ length (p .queue) → from ≡ lengthsOf (take n (p .queue)) → zeros ≡ areZeros (drop from (take 4096 s))
+    → stateText rate b v block end last n ++ (queueText (p .queue) s ++ zerosText zeros) ≡ stateLine p s
 unfolding stateLine
-state-line p s e₁ e₂ e₃ e₄ e₅ e₆ e₇ e₈ = rw (e₈, e₇, e₆, e₁, e₂, e₃, e₄, e₅, take-length (p .queue))
+state-line p s e₁ e₂ e₃ e₄ e₅ e₆ e₇ e₈ e₉ = rw (e₉, e₈, e₇, e₁, e₂, e₃, e₄, e₅, e₆, take-length (p .queue))

@@ -112,7 +112,7 @@ queueText (e ∷ es) s = waitingText e s ++ queueText es (drop (lengthOf e) s)
 -- "`zeros` where every number of the first 4096 behind the curves is +0"
 unfoldable pub stateLine : Param → List Float → List ℕ
 stateLine p s =
-    stateText (p .rate) (p .bounds) (p .intrinsic) (p .lastBlock) (p .last) (length (p .queue))
+    stateText (p .rate) (p .bounds) (p .intrinsic) (p .lastBlock) (p .lastEnd) (p .last) (length (p .queue))
     ++ (queueText (p .queue) s ++ zerosText (areZeros (drop (lengthsOf (p .queue)) (take storeLength s))))
 
 unfoldable pub stating : Table → Turn

@@ -339,6 +339,7 @@ fn state(desk: Desk, store: &[f32], out: &mut [u8], at: usize) -> Answered
         p.bounds(),
         p.intrinsic_value(),
         p.last_block_time(),
+        p.last_block_end(),
         p.last_event(),
         n as u64,
     );

@@ -10,7 +10,7 @@ use lib.Ieee.{Float}
 use Rattle.rules.specs.declared.Event.{Event}
 use Rattle.rules.specs.Queue.{Waiting, filedUnder, isRamp, covers, anyCovers, eventsOf, putAt, arrived, cancelled, heldEvent, held}
 use Rattle.laws.specs.Sound.{isNumber, isTaken, isClear, all, areClear, reachOf, inOrder, SoundQueue}
-use Rattle.laws.specs.Search.{firstNotBefore}
+use Rattle.laws.specs.Search.{firstGoing}
 use Rattle.laws.specs.Apart.{isApart, areApart}
 use Rattle.laws.proofs.Tests.{both, and}
 use Rattle.laws.proofs.Order.{le-not-lt}
@@ -48,7 +48,7 @@ arrived-apart e q f h = apart-put _ e q f h
 -- ---- a cancel, and a hold
 
 pub cancelled-apart : (c : Float) (ws : List Waiting) → inOrder (eventsOf ws) ≡ true → areApart (eventsOf ws) ≡ true → areApart (eventsOf (cancelled c ws)) ≡ true
-cancelled-apart c ws o h = rw (cancelled-is c ws o, events-take) (apart-take (firstNotBefore c (eventsOf ws)) (eventsOf ws) h)
+cancelled-apart c ws o h = rw (cancelled-is c ws o, events-take) (apart-take (firstGoing c (eventsOf ws)) (eventsOf ws) h)
 
 -- what reaches no further has nothing more inside
 like-covers : (t : Float) (e d : Event) → isNumber t ≡ true → isClear e ≡ true → Like e d → covers t e ≡ false → covers t d ≡ false

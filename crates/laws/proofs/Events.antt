@@ -11,7 +11,7 @@ use Rattle.rules.specs.declared.MaybeTime.{MaybeTime}
 use Rattle.rules.specs.declared.MaybeTime.the-variants as MaybeTime
 use Rattle.rules.specs.declared.Event.{Event}
 use Rattle.rules.specs.declared.Event.the-variants as Event
-use Rattle.rules.specs.Queue.{Waiting, alone, holdOr, filedUnder, lengthOf, lengthsOf, eventsOf, attached, putAt, inserted, arrived, those, isBefore, cancelled, sooner, heldEvent, heldAt, isRamp, runsAt, heldIfRunning, lastHeld, isLater, isNotLater, anyCovers, holdsRamp, heldBy, held}
+use Rattle.rules.specs.Queue.{Waiting, alone, holdOr, filedUnder, lengthOf, lengthsOf, eventsOf, attached, putAt, inserted, arrived, those, goesAt, isBefore, cancelled, sooner, heldEvent, heldAt, isRamp, runsAt, heldIfRunning, lastHeld, isLater, isNotLater, anyCovers, holdsRamp, heldBy, held}
 use Rattle.laws.specs.Search.{placeOf}
 use Rattle.laws.proofs.Tests.{never, both}
 use Rattle.laws.proofs.Order.{lt-le, le-not-lt}
@@ -102,9 +102,9 @@ unfolding eventsOf placeOf
 place-events test [] = refl
 place-events test (w ∷ ws) = ap (λ (n : ℕ). cond (test (w .event)) 0 (suc n)) (place-events test ws)
 
-pub events-cancelled : (c : Float) (ws : List Waiting) → eventsOf (cancelled c ws) ≡ those (λ e. Ieee.lt (filedUnder e) c) (eventsOf ws)
+pub events-cancelled : (c : Float) (ws : List Waiting) → eventsOf (cancelled c ws) ≡ those (λ e. not (goesAt c e)) (eventsOf ws)
 unfolding cancelled isBefore
-events-cancelled c ws = events-those (λ e. Ieee.lt (filedUnder e) c) ws
+events-cancelled c ws = events-those (λ e. not (goesAt c e)) ws
 
 -- ---- a hold: what is no ramp keeps the time that it is filed under, a later ramp is filed under c; every event keeps its numbers
 

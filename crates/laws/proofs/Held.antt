@@ -1,4 +1,4 @@
--- What a hold leaves is in order, equal times as before (02, C-15); inside a curve it holds that curve (C-14). Assumes nothing.
+-- What a hold leaves is in order, equal times as before (02, C-15); inside a curve it holds that curve (C-14); from the head it takes no ramp (C-12). Assumes nothing.
 use mathlib.Core.Path.{_≡_, refl, ap, _∙_}
 use mathlib.Core.Bool.{Bool, true, false, cond, _&&_, _||_}
 use mathlib.Core.List.{List, [], _∷_, _++_}
@@ -72,15 +72,15 @@ module _ (c : Float) where
       rw (early-late c ws o) at (held-by-as-before (those (isNotLater c) ws) (those (isLater c) ws) (those-pass (isLater c) ws))
 
 pub when-a-hold-moves-a-time : (p : Param) (store : List Float) (c : Float) → Sound p → StillInOrder (takenTime c) (p .queue) (called p store (hold c) .param .queue)
-when-a-hold-moves-a-time p store c s = record { ordered = called-sound p store s (hold c) .waiting .ordered; equal = unfold called in go _ }
+when-a-hold-moves-a-time p store c s = record { ordered = called-sound p store s (hold c) .waiting .ordered; equal = unfold called in go _ _ }
   where
     waits-as-before : AsBefore (takenTime c) (p .queue) (eventsOf (held (takenTime c) (attached (p .queue) store)))
     waits-as-before =
         rw (events-attached (p .queue) store) at (held-as-before (takenTime c) (attached (p .queue) store) (rw (events-attached (p .queue) store) (s .waiting .ordered)))
 
-    go : (v : Verdict) → AsBefore (takenTime c) (p .queue) (calledAs v p store (held (takenTime c) (attached (p .queue) store)) (p .intrinsic) .param .queue)
-    go Verdict.Answered = unfold calledAs in waits-as-before
-    go (Verdict.Refused r) = unfold calledAs in all-same (takenTime c) (p .queue)
+    go : (v : Verdict) (i : Float) → AsBefore (takenTime c) (p .queue) (calledAs v p store (held (takenTime c) (attached (p .queue) store)) i .param .queue)
+    go Verdict.Answered i = unfold calledAs in waits-as-before
+    go (Verdict.Refused r) i = unfold calledAs in all-same (takenTime c) (p .queue)
 
 -- ---- inside a curve (02, C-14)
 
@@ -161,7 +161,7 @@ pub inside-a-curve-it-is-held : (p : Param) (store : List Float) (c : Float) →
     → (before : List Event) (e : Event) (behind : List Event) → p .queue ≡ before ++ (e ∷ behind) → covers (takenTime c) e ≡ true
     → called p store (hold c) .param .queue ≡ before ++ (heldEvent (takenTime c) e ∷ [])
 unfolding called
-inside-a-curve-it-is-held p store c s answered before e behind split h = go _ answered
+inside-a-curve-it-is-held p store c s answered before e behind split h = go _ _ answered
   where
     ws : List Waiting
     ws = attached (p .queue) store
@@ -175,7 +175,14 @@ inside-a-curve-it-is-held p store c s answered before e behind split h = go _ an
     stays =
         holds-it (takenTime c) ws before e behind (events-attached (p .queue) store ∙ split) (rw (events-attached (p .queue) store) (s .waiting .ordered)) clear h
 
-    go : (v : Verdict) → calledAs v p store (held (takenTime c) ws) (p .intrinsic) .verdict ≡ Verdict.Answered
-        → calledAs v p store (held (takenTime c) ws) (p .intrinsic) .param .queue ≡ before ++ (heldEvent (takenTime c) e ∷ [])
-    go Verdict.Answered a = unfold calledAs in stays
-    go (Verdict.Refused r) a = unfold calledAs in let z : _≡_ {A = ℕ} 0 1 = cc in absurd (omega arith)
+    go : (v : Verdict) (i : Float) → calledAs v p store (held (takenTime c) ws) i .verdict ≡ Verdict.Answered
+        → calledAs v p store (held (takenTime c) ws) i .param .queue ≡ before ++ (heldEvent (takenTime c) e ∷ [])
+    go Verdict.Answered i a = unfold calledAs in stays
+    go (Verdict.Refused r) i a = unfold calledAs in let z : _≡_ {A = ℕ} 0 1 = cc in absurd (omega arith)
+
+-- ---- from the head a hold takes no ramp: it holds it, and all else goes. So of a head that goes it asks for a curve alone (02, C-12).
+
+pub head-ramp-held : (c : Float) (w : Waiting) (ws : List Waiting) → inOrder (eventsOf (w ∷ ws)) ≡ true → isRamp (w .event) ≡ true → isLater c w ≡ true
+    → held c (w ∷ ws) ≡ heldAt c w ∷ []
+unfolding isLater isLaterThan firstLater placeOf eventsOf heldBy holdsRamp anyCovers any
+head-ramp-held c w ws o r l = held-is c (w ∷ ws) o ∙ rw (l, r)

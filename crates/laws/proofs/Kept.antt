@@ -24,10 +24,11 @@ use Rattle.rules.specs.Numbers.{mostEvents, storeLength, mostCount, plusZero, i
 use Rattle.rules.specs.Queue.{Waiting, holdOr, filedUnder, covers, isFiledInside, anyInside, lengthOf, lengthsOf, eventsOf, attached, inserted, arrived, targetEvent}
 use Rattle.rules.specs.Refusals.{row, lowest, allFinite, areBounds, isPeriod, makingRows}
 use Rattle.rules.specs.Block.{Param, madeAs, made, calledAs, scheduledAs, Command, set, step, linear, exponential, target, curve, cancel, hold, called, Call, infosOf, answerOf, answeredAs, verdictOf, answered}
-use Rattle.laws.specs.Sound.{isFromZero, isTaken, isTakenIfAny, isHeldBy, isHeldFrom, isSpan, isClear, isDue, all, areDue, SoundQueue, isLastClear, hasPlayed, Sound}
+use Rattle.laws.specs.Sound.{isFromZero, isTaken, isTakenIfAny, isHeldBy, isHeldFrom, isSpan, isClear, isDue, all, areDue, SoundQueue, isLastClear, hasPlayed, isEndOf, areBlockTimes, Sound}
 use Rattle.laws.specs.Apart.{isApart, areApart}
 use Rattle.laws.proofs.Tests.{and}
-use Rattle.laws.proofs.Results.{fused-from-zero, wide-from-zero, taken-parts, taken-number, time-taken, above-zero}
+use Rattle.laws.proofs.Order.{le-not-lt}
+use Rattle.laws.proofs.Results.{fused-from-zero, fused-from, wide-from-zero, taken-parts, taken-number, time-taken, above-zero}
 use Rattle.laws.proofs.Clear.{all-put, finite-due, all-due, CurveParts, curve-whole}
 use Rattle.laws.proofs.Reach.{none-in, free}
 use Rattle.laws.proofs.Rows.{Scheduled, Curved, value-answered, exponential-answered, target-answered, curve-answered, cancel-answered, block-answered}
@@ -48,10 +49,19 @@ module _ (r : AutomationRate) (c : Call) (h : isFinite (c .time) ≡ true) (z : 
   unfolding infosOf
   next-from-zero p q = fused-from-zero binary64 (wide (c .count)) (c .period) (takenTime (c .time)) (wide-from-zero (c .count)) p q (time-taken (c .time) h z)
 
+  next-ends : isFinite (c .period) ≡ true → isPositive (c .period) ≡ true → areBlockTimes (MaybeTime.At (infosOf r c .time)) (MaybeTime.At (infosOf r c .next)) ≡ true
+  unfolding areBlockTimes isEndOf
+  next-ends p q =
+      and
+      block-taken
+      (and
+      (next-from-zero p q)
+      (unfold infosOf in ap not (le-not-lt _ _ (fused-from binary64 (wide (c .count)) (c .period) (takenTime (c .time)) (wide-from-zero (c .count)) p q (time-taken (c .time) h z)))))
+
 -- ---- making
 
 made-as-sound : (b : Bounds) (r : AutomationRate) (t : Bool) → areBounds b ≡ t → Sound (madeAs (lowest (row Refusal.Bounds (not t) ∷ [])) b r)
-unfolding madeAs lowest areBounds isLastClear isTakenIfAny all
+unfolding madeAs lowest areBounds isLastClear areBlockTimes all
 made-as-sound b r true e = record { waiting = empty-sound; due = refl; bounded = e; last = refl; block = refl }
 made-as-sound b r false e =
     record { waiting = empty-sound; due = refl; bounded = unfold allFinite isFinite Ieee.le Ieee.lt Ieee.eq in refl; last = refl; block = refl }
@@ -233,7 +243,7 @@ module _ (p : Param) (store : List Float) (s : Sound p) where
   -- ---- a block
 
   played-as : (v : Verdict) (c : Call) → verdictOf p store c ≡ v → Sound (answeredAs v p store c .param)
-  unfolding answeredAs answerOf verdictOf isTakenIfAny hasPlayed
+  unfolding answeredAs answerOf verdictOf hasPlayed
   played-as Verdict.Answered c e =
       let g = block-answered mostCount (p .lastBlock) store (c .time) (c .period) (c .count) (c .input) (c .output) e in
       let f : BlockInfos = infosOf (p .rate) c in
@@ -244,7 +254,7 @@ module _ (p : Param) (store : List Float) (s : Sound p) where
         due = all-due _;
         bounded = s .bounded;
         last = rendered-last f (taken-number (f .time) now) (p .intrinsic) (p .last) waits (waits-sound .clear) (s .last);
-        block = now;
+        block = next-ends (p .rate) c (g .time) (g .from-zero) (g .period-finite) (g .period-positive);
       }
   played-as (Verdict.Refused r) c e = s
 

@@ -16,6 +16,7 @@ pub mod Leaves
 pub mod Apart
 pub mod Kept
 pub mod Held
+pub mod Cancelled
 pub mod Shapes
 pub mod Places
 pub mod Within

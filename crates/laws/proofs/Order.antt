@@ -153,6 +153,13 @@ finite-number (inf s) p = never p
 finite-number (fin s m e) p = refl
 
 -- -infinity is at or before every number, +infinity at or after
+pub top : (x : Float) → isNumber x ≡ true → Ieee.le x (inf false) ≡ true
+unfolding Ieee.le Ieee.lt Ieee.eq isNumber Ieee.isNan
+top nan p = never p
+top (inf true) p = refl
+top (inf false) p = refl
+top (fin s m e) p = refl
+
 pub bottom : (x : Float) → isNumber x ≡ true → Ieee.le (inf true) x ≡ true
 unfolding Ieee.le Ieee.lt Ieee.eq isNumber Ieee.isNan
 bottom nan p = never p

@@ -10,14 +10,14 @@ use borrow.Author.Tests.{not-true}
 use lib.Ieee as Ieee
 use lib.Ieee.{Float}
 use Rattle.rules.specs.declared.Event.{Event}
-use Rattle.rules.specs.Queue.{Waiting, alone, filedUnder, covers, eventsOf, hasNotLater, placeBehind, putAt, arrived, those, isBefore, cancelled, heldEvent, heldAt, isRamp, runsAt, heldIfRunning, lastHeld, isLater, isNotLater, heldBy, held}
+use Rattle.rules.specs.Queue.{Waiting, alone, filedUnder, covers, eventsOf, hasNotLater, placeBehind, putAt, arrived, those, lastsTo, goesAt, isBefore, cancelled, heldEvent, heldAt, isRamp, runsAt, heldIfRunning, lastHeld, isLater, isNotLater, heldBy, held}
 use Rattle.laws.specs.Sound.{isNumber, isClear, all, areClear, reachOf, goesBefore, inOrder}
 use Rattle.laws.specs.Apart.{isApart}
-use Rattle.laws.specs.Search.{placeOf, isLaterThan, isNotBefore, firstLater, firstNotBefore}
+use Rattle.laws.specs.Search.{placeOf, isLaterThan, firstLater, firstGoing}
 use Rattle.laws.proofs.Tests.{clash, both, and}
-use Rattle.laws.proofs.Order.{le-le, lt-le, not-lt, lt-not-le, le-lt, lt-le-lt}
+use Rattle.laws.proofs.Order.{le-le, lt-le, not-lt, le-not-lt, lt-not-le, le-lt, lt-le-lt}
 use Rattle.laws.proofs.Clear.{all-parts, all-take, clear-number}
-use Rattle.laws.proofs.Reach.{filed-before, uncovered, apart-parts}
+use Rattle.laws.proofs.Reach.{filed-before, lasts-up-to, uncovered, apart-parts}
 use Rattle.laws.proofs.Events.{events-one, events-take, events-drop, events-append, events-get, events-those, place-events, alones, events-alones}
 
 -- ---- in order, and from a time on
@@ -31,17 +31,20 @@ pub order-parts : (e : Event) (q : List Event) → inOrder (e ∷ q) ≡ true �
 unfolding inOrder
 order-parts e q o = both (goesBefore (reachOf e) q) (inOrder q) o
 
--- so the first event's time is at or before all of theirs
-pub order-from : (e : Event) (q : List Event) → inOrder (e ∷ q) ≡ true → AllFrom (filedUnder e) q
-order-from e [] o = tt
-order-from e (d ∷ q) o =
+from-weaker : (s u : Float) (q : List Event) → ((t : Float) → Ieee.le s t ≡ true → Ieee.le u t ≡ true) → AllFrom s q → AllFrom u q
+from-weaker s u [] w f = tt
+from-weaker s u (e ∷ q) w f = (w (filedUnder e) (f .0), from-weaker s u q w (f .1))
+
+-- so the first event reaches no further than any of theirs, and its time is at or before them
+order-reach : (e : Event) (q : List Event) → inOrder (e ∷ q) ≡ true → AllFrom (reachOf e) q
+order-reach e [] o = tt
+order-reach e (d ∷ q) o =
     let a = order-parts e (d ∷ q) o in
-    let l : Ieee.le (filedUnder e) (filedUnder d) ≡ true = filed-before e (filedUnder d) (unfold goesBefore in a .0) in
-    (l, earlier (filedUnder e) (filedUnder d) q l (order-from d q (a .1)))
-  where
-    earlier : (s t : Float) (q : List Event) → Ieee.le s t ≡ true → AllFrom t q → AllFrom s q
-    earlier s t [] h f = tt
-    earlier s t (e ∷ q) h f = (le-le s t (filedUnder e) h (f .0), earlier s t q h (f .1))
+    let l : Ieee.le (reachOf e) (filedUnder d) ≡ true = unfold goesBefore in a .0 in
+    (l, from-weaker (reachOf d) (reachOf e) q (λ t h. le-le (reachOf e) (filedUnder d) t l (filed-before d t h)) (order-reach d q (a .1)))
+
+pub order-from : (e : Event) (q : List Event) → inOrder (e ∷ q) ≡ true → AllFrom (filedUnder e) q
+order-from e q o = from-weaker (reachOf e) (filedUnder e) q (filed-before e) (order-reach e q o)
 
 pub order-drop : (n : ℕ) (q : List Event) → inOrder q ≡ true → inOrder (drop n q) ≡ true
 order-drop zero q o = o
@@ -219,10 +222,10 @@ module _ {A : Type 0} (keep test : A → Bool) (opposite : (x : A) → keep x �
       go true e k = those-none xs (h .0 e)
       go false e k = ap (λ l. x ∷ l) k
 
--- a test that a later event passes where an earlier does
+-- a test that an event passes where one passes that reaches no further than it
 module _ (test : Waiting → Bool)
-    (up : (w v : Waiting) → Ieee.le (filedUnder (w .event)) (filedUnder (v .event)) ≡ true → test w ≡ true → test v ≡ true) where
-  all-up : (w : Waiting) (ws : List Waiting) → AllFrom (filedUnder (w .event)) (eventsOf ws) → test w ≡ true → AllPass test ws
+    (up : (w v : Waiting) → Ieee.le (reachOf (w .event)) (filedUnder (v .event)) ≡ true → test w ≡ true → test v ≡ true) where
+  all-up : (w : Waiting) (ws : List Waiting) → AllFrom (reachOf (w .event)) (eventsOf ws) → test w ≡ true → AllPass test ws
   unfolding eventsOf
   all-up w [] f h = tt
   all-up w (v ∷ ws) f h = (up w v (f .0) h, all-up w ws (f .1) h)
@@ -230,26 +233,23 @@ module _ (test : Waiting → Bool)
   order-cut : (ws : List Waiting) → inOrder (eventsOf ws) ≡ true → Cut test ws
   unfolding eventsOf
   order-cut [] o = tt
-  order-cut (w ∷ ws) o = (λ h. all-up w ws (order-from (w .event) (eventsOf ws) o) h, order-cut ws (order-parts (w .event) (eventsOf ws) o .1))
+  order-cut (w ∷ ws) o = (λ h. all-up w ws (order-reach (w .event) (eventsOf ws) o) h, order-cut ws (order-parts (w .event) (eventsOf ws) o .1))
 
 -- ---- cancel, and hold
 
-module _ (c : Float) where
-  not-before : (w v : Waiting) → Ieee.le (filedUnder (w .event)) (filedUnder (v .event)) ≡ true → isNotBefore c (w .event) ≡ true → isNotBefore c (v .event) ≡ true
-  unfolding isNotBefore
-  not-before w v l h = go (Ieee.lt (filedUnder (v .event)) c) refl
-    where
-      go : (b : Bool) → Ieee.lt (filedUnder (v .event)) c ≡ b → not b ≡ true
-      go true e = clash (le-lt (filedUnder (w .event)) (filedUnder (v .event)) c l e) (not-true (Ieee.lt (filedUnder (w .event)) c) h)
-      go false e = refl
+-- where a cancel takes an event, it takes those behind it
+goes-on : (c : Float) (e d : Event) → Ieee.le (reachOf e) (filedUnder d) ≡ true → goesAt c e ≡ true → goesAt c d ≡ true
+unfolding goesAt
+goes-on c e d r h = go (Ieee.lt (filedUnder d) c) refl
+  where
+    lasts : Ieee.lt (filedUnder e) c ≡ true → lastsTo c e ≡ true
+    lasts l = rw l at h
 
-  opposite : (w : Waiting) → isBefore c w ≡ not (isNotBefore c (w .event))
-  unfolding isBefore isNotBefore
-  opposite w = go (Ieee.lt (filedUnder (w .event)) c)
-    where
-      go : (b : Bool) → b ≡ not (not b)
-      go true = refl
-      go false = refl
+    go : (b : Bool) → Ieee.lt (filedUnder d) c ≡ b → (not b || lastsTo c d) ≡ true
+    go true k =
+        let l : Ieee.lt (filedUnder e) c ≡ true = le-lt (filedUnder e) (filedUnder d) c (filed-before e (filedUnder d) r) k in
+        clash k (le-not-lt c (filedUnder d) (lasts-up-to c e (filedUnder d) l (lasts l) r))
+    go false k = refl
 
 -- what is not later than c is at or before it
 all-up-to : (c : Float) (ws : List Waiting) → isNumber c ≡ true → areClear (eventsOf ws) ≡ true → AllPass (isNotLater c) ws → AllUpTo c (eventsOf ws)
@@ -262,7 +262,7 @@ all-up-to c (w ∷ ws) n k h =
 module _ (c : Float) (ws : List Waiting) (o : inOrder (eventsOf ws) ≡ true) where
   later-cut : Cut (isLater c) ws
   unfolding isLater
-  later-cut = order-cut (isLater c) (λ w v l h. lt-le-lt c (filedUnder (w .event)) (filedUnder (v .event)) h l) ws o
+  later-cut = order-cut (isLater c) (λ w v l h. lt-le-lt c (filedUnder (w .event)) (filedUnder (v .event)) h (filed-before (w .event) (filedUnder (v .event)) l)) ws o
 
   -- the events later than c are the last ones
   pub late-is : those (isLater c) ws ≡ drop (firstLater c (eventsOf ws)) ws
@@ -283,12 +283,12 @@ module _ (c : Float) (ws : List Waiting) (o : inOrder (eventsOf ws) ≡ true) wh
       clear : areClear (eventsOf (those (isNotLater c) ws)) ≡ true
       clear = rw (early-is, events-take) (all-take isClear (firstLater c (eventsOf ws)) (eventsOf ws) k)
 
-  -- those before c are the first ones
-  pub cancelled-is : cancelled c ws ≡ take (firstNotBefore c (eventsOf ws)) ws
-  unfolding cancelled firstNotBefore
+  -- a cancel leaves the first ones
+  pub cancelled-is : cancelled c ws ≡ take (firstGoing c (eventsOf ws)) ws
+  unfolding cancelled isBefore firstGoing
   cancelled-is =
-      cut-prefix (isBefore c) (λ w. isNotBefore c (w .event)) (opposite c) ws (order-cut (λ w. isNotBefore c (w .event)) (not-before c) ws o)
-      ∙ ap (λ (k : ℕ). take k ws) (place-events (isNotBefore c) ws)
+      cut-prefix (isBefore c) (λ w. goesAt c (w .event)) (λ w. refl) ws (order-cut (λ w. goesAt c (w .event)) (λ w v. goes-on c (w .event) (v .event)) ws o)
+      ∙ ap (λ (k : ℕ). take k ws) (place-events (goesAt c) ws)
 
   pub held-is : held c ws ≡ heldBy c (take (firstLater c (eventsOf ws)) ws) (drop (firstLater c (eventsOf ws)) ws)
   unfolding held

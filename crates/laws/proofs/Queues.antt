@@ -17,7 +17,7 @@ use Rattle.rules.specs.Numbers.{mostEvents, storeLength}
 use Rattle.rules.specs.Queue.{Waiting, holdOr, filedUnder, isRamp, curveEnd, anyCovers, lengthOf, lengthsOf, eventsOf, putAt, placeBehind, arrived, those, cancelled, sooner, heldEvent, heldAt, runsAt, heldIfRunning, lastHeld, isLater, isNotLater, holdsRamp, heldBy, held}
 use Rattle.laws.specs.Sound.{isTaken, isTakenIfAny, isHeldBy, isHeldFrom, isSpan, isClear, isDue, all, areClear, areDue, reachOf, goesBefore, inOrder, SoundQueue}
 use Rattle.laws.specs.Apart.{isApart}
-use Rattle.laws.specs.Search.{isLaterThan, firstNotBefore}
+use Rattle.laws.specs.Search.{isLaterThan, firstGoing}
 use Rattle.laws.proofs.Tests.{never, both, and}
 use Rattle.laws.proofs.Results.{taken-parts, taken-number}
 use Rattle.laws.proofs.Order.{le-le, lt-le, not-lt, later-first, later-second, later-up-to}
@@ -80,12 +80,12 @@ arrived-behind e q c s =
 
 pub cancelled-sound : (c : Float) (ws : List Waiting) → SoundQueue (eventsOf ws) → SoundQueue (eventsOf (cancelled c ws))
 cancelled-sound c ws s =
-    rw (cancelled-is c ws (s .ordered), events-take) (prefix-sound (firstNotBefore c (eventsOf ws)) (eventsOf ws) s)
+    rw (cancelled-is c ws (s .ordered), events-take) (prefix-sound (firstGoing c (eventsOf ws)) (eventsOf ws) s)
 
 pub cancelled-due : (played : Bool) (c : Float) (ws : List Waiting) → inOrder (eventsOf ws) ≡ true → areDue played (eventsOf ws) ≡ true
     → areDue played (eventsOf (cancelled c ws)) ≡ true
 cancelled-due played c ws o d =
-    rw (cancelled-is c ws o, events-take) (all-take (isDue played) (firstNotBefore c (eventsOf ws)) (eventsOf ws) d)
+    rw (cancelled-is c ws o, events-take) (all-take (isDue played) (firstGoing c (eventsOf ws)) (eventsOf ws) d)
 
 -- ---- a hold: what is no ramp is held where it stands
 

@@ -5,7 +5,7 @@ use mathlib.Core.List.{List, [], _∷_}
 use Prim.Native.Nat.{ℕ, _-_, _*_, _<_}
 use native.Mathlib.Nat.{mul-pos}
 use native.Mathlib.Omega.{arith}
-use lib.Dec.{T, ltb}
+use lib.Dec.{ltb}
 use borrow.Author.Tests.{le-ltb}
 use lib.Ieee as Ieee
 use lib.Ieee.{Float, nan, inf, fin, Format, binary32, binary64, round, up, down}
@@ -27,7 +27,7 @@ use Rattle.rules.specs.Queue.{Waiting, attached, eventsOf, headOf, holdOr, file
 use Rattle.rules.specs.Walk.{Walk, Walked, Turn, stop, on, walked, next, ended, turn, turnOf, linearTurn, exponentialTurn, spanTurn, stepTurn, stepFrom, stepTime, targetTurn, targetRun, targetLeft, endByNext, endByHold, snaps, curveTurn, startOf, lastOr, counted, withLast, withIntrinsic, withValues, fill, consumed}
 use Rattle.rules.specs.Block.{Param, Call, infosOf, restsFor, walkFrom, valuesBefore, renderedAs, rendered, answerOf, answered, verdictOf}
 use Rattle.laws.specs.Sound.{isClear, areClear, Sound}
-use Rattle.laws.proofs.Tests.{never}
+use Rattle.laws.proofs.Tests.{never, told}
 use Rattle.laws.proofs.Order.{down-pos, finite-number, number-le, le-not-lt}
 use Rattle.laws.proofs.Results.{taken-parts}
 use Rattle.laws.proofs.Clear.{all-parts, linear-parts, exponential-parts}
@@ -62,11 +62,7 @@ none-rounds binary32 = refl
 none-rounds binary64 = refl
 
 rounds-to-none : (f : Format) (d : ℕ) → 0 < d → Ieee.le (round f false 0 d) plusZero ≡ true
-rounds-to-none f d h = truth _ (rw (none-rounds f) at (round-mono f 0 d 0 1 h (omega arith) (omega arith)))
-  where
-    truth : (b : Bool) → T b → b ≡ true
-    truth true h = refl
-    truth false h = absurd h
+rounds-to-none f d h = told _ (rw (none-rounds f) at (round-mono f 0 d 0 1 h (omega arith) (omega arith)))
 
 pub same-time : (f : Format) (t : Float) → isFinite t ≡ true → hasNoLength (Ieee.sub f t t) ≡ true
 unfolding hasNoLength Ieee.sub Ieee.add Ieee.neg Ieee.sum isFinite

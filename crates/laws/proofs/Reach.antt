@@ -11,12 +11,12 @@ use Rattle.rules.specs.declared.MaybeTime.the-variants as MaybeTime
 use Rattle.rules.specs.declared.Event.{Event}
 use Rattle.rules.specs.declared.Event.the-variants as Event
 use Rattle.rules.specs.Numbers.{isFinite, isPositive, laterOf}
-use Rattle.rules.specs.Queue.{holdOr, filedUnder, isRamp, curveEnd, isInside, covers, any, anyCovers}
+use Rattle.rules.specs.Queue.{holdOr, filedUnder, isRamp, curveEnd, isInside, covers, any, anyCovers, lastsTo}
 use Rattle.rules.specs.Refusals.{isPeriod}
 use Rattle.laws.specs.Sound.{isNumber, isTakenIfAny, isClear, reachOf, all}
 use Rattle.laws.specs.Apart.{isApart}
 use Rattle.laws.proofs.Tests.{never, clash, both, and, neither}
-use Rattle.laws.proofs.Order.{lt-le, not-lt, le-lt, le-not-lt, later-number, later-true, later-false, later-first}
+use Rattle.laws.proofs.Order.{le-left, le-right, le-le, lt-le, not-lt, le-lt, le-not-lt, later-number, later-true, later-false, later-first, later-second}
 use Rattle.laws.proofs.Results.{add-number, taken-parts, taken-number}
 use Rattle.laws.proofs.Clear.{all-more, CurveParts, curve-parts, clear-number}
 
@@ -45,6 +45,16 @@ filed-before (Event.Linear v u h) t l = l
 filed-before (Event.Exponential v u h) t l = l
 filed-before (Event.Target v u c h) t l = l
 filed-before (Event.Curve s d n h) t l = later-first s (curveEnd s d h) t l
+
+-- what is filed before c and lasts to it reaches as far
+pub lasts-up-to : (c : Float) (e : Event) (t : Float) → Ieee.lt (filedUnder e) c ≡ true → lastsTo c e ≡ true → Ieee.le (reachOf e) t ≡ true → Ieee.le c t ≡ true
+unfolding lastsTo reachOf filedUnder
+lasts-up-to c (Event.Step v u) t l m r = never m
+lasts-up-to c (Event.Linear v u h) t l m r = never m
+lasts-up-to c (Event.Exponential v u h) t l m r = never m
+lasts-up-to c (Event.Target v u k h) t l m r = never m
+lasts-up-to c (Event.Curve s d n h) t l m r =
+    le-le c (curveEnd s d h) t m (later-second s (curveEnd s d h) t (le-left s c (lt-le s c l)) (le-right c (curveEnd s d h) m) r)
 
 -- ---- inside
 

@@ -1,17 +1,19 @@
 -- Arithmetic that gives no NaN, and times that stay at or above +0. Assumes nothing.
-use mathlib.Core.Path.{_≡_, refl}
+use mathlib.Core.Path.{_≡_, refl, sym}
 use mathlib.Core.Bool.{Bool, true, false, cond, _&&_, Bool·beq}
 use Prim.Native.Nat.{ℕ, zero, suc, _+_, _-_, _*_, _^_, _≤_}
-use native.Mathlib.Nat.{zero-mul}
+use native.Mathlib.Nat.{zero-mul, mul-assoc, add-mul, mul-pos}
 use native.Mathlib.Omega.{arith}
 use lib.Dec.{ltb, eqb}
 use borrow.Author.Tests.{eqb-true, ltb-false}
 use lib.IntN.{ℤ}
 use lib.Ieee as Ieee
 use lib.Ieee.{Float, nan, inf, fin, Format, binary64, up, down}
+use lib.Ieee.Order.{round-mono}
 use Rattle.rules.specs.Numbers.{isFinite, isZero, isPositive, isNegative, takenTime, plusZero, product, fused, wide}
 use Rattle.laws.specs.Sound.{isNumber, isFromZero, isTaken}
-use Rattle.laws.proofs.Tests.{never, clash, both, and}
+use Rattle.laws.proofs.Tests.{never, clash, told, both, and}
+use Rattle.laws.proofs.Order.{down-pos, top}
 
 -- ---- a rounded result has the sign that it is given
 
@@ -147,6 +149,37 @@ fused-from-zero f x y z n p q r = add-from-zero f (product x y) z (product-from-
 pub wide-from-zero : (n : ℕ) → isFromZero (wide n) ≡ true
 unfolding wide Ieee.ofInt
 wide-from-zero n = round-from-zero binary64 n 1
+
+-- and at or above that time, as rounded: a block's end. ((0 + K) / G ≤ (M * G + K * E) / (E * G))
+cross : (K M E G : ℕ) → (0 * 1 * G + K * 1) * (E * G) ≤ (M * G + K * E) * (1 * G)
+cross K M E G =
+    let a : 0 * 1 * G + K * 1 ≡ K = omega (arith, zero-mul G) in
+    let b : 1 * G ≡ G = omega arith in
+    let c : K * (E * G) ≡ K * E * G = sym (mul-assoc K E G) in
+    let d : (M * G + K * E) * G ≡ M * G * G + K * E * G = add-mul (M * G) (K * E) G in
+    rw (a, b) (omega (arith, c, d))
+
+add-from : (f : Format) (x z : Float) → isFromZero x ≡ true → isTaken z ≡ true → Ieee.le (Ieee.add f plusZero z) (Ieee.add f x z) ≡ true
+unfolding Ieee.add Ieee.sum isFromZero isTaken isFinite
+add-from f nan z n r = never n
+add-from f (inf s) nan n r = never r
+add-from f (inf s) (inf u) n r = never r
+add-from f (inf true) (fin u k g) n r = never n
+add-from f (inf false) (fin true k g) n r = never r
+add-from f (inf false) (fin false k g) n r = top _ (round-number f false _ _)
+add-from f (fin s m e) nan n r = never r
+add-from f (fin s m e) (inf u) n r = never r
+add-from f (fin true m e) (fin u k g) n r = never n
+add-from f (fin false m e) (fin true k g) n r = never r
+add-from f (fin false m e) (fin false k g) n r =
+    told _
+    (round-mono f (0 * 1 * down g + k * up g * 1) (1 * down g) (m * up e * down g + k * up g * down e) (down e * down g) (mul-pos (omega arith) (down-pos g)) (mul-pos (down-pos e) (down-pos g))
+    (cross (k * up g) (m * up e) (down e) (down g)))
+
+pub fused-from : (f : Format) (x y z : Float) → isFromZero x ≡ true → isFinite y ≡ true → isPositive y ≡ true → isTaken z ≡ true
+    → Ieee.le (Ieee.add f plusZero z) (fused f x y z) ≡ true
+unfolding fused
+fused-from f x y z n p q r = add-from f (product x y) z (product-from-zero x y n p q) r
 
 -- ---- a time as it is taken
 

@@ -3,6 +3,7 @@ use mathlib.Core.Path.{_≡_, refl, sym, _∙_}
 use mathlib.Core.Bool.{Bool, true, false, not, _&&_, _||_}
 use Prim.Native.Nat.{ℕ}
 use native.Mathlib.Omega.{arith}
+use lib.Dec.{T}
 
 pub never {ℓ} : {A : Type ℓ} → false ≡ true → A
 never h = let z : _≡_ {A = ℕ} 0 1 = cc in absurd (omega arith)
@@ -10,6 +11,11 @@ never h = let z : _≡_ {A = ℕ} 0 1 = cc in absurd (omega arith)
 -- a test that both passes and fails
 pub clash {ℓ} : {A : Type ℓ} {b : Bool} → b ≡ true → b ≡ false → A
 clash h k = never (sym k ∙ h)
+
+-- a law of the kit says that a test holds
+pub told : (b : Bool) → T b → b ≡ true
+told true h = refl
+told false h = absurd h
 
 pub both : (a b : Bool) → (a && b) ≡ true → (a ≡ true) × (b ≡ true)
 both true true h = (refl, refl)

@@ -3,3 +3,4 @@ pub mod Search
 pub mod Fits
 pub mod Held
 pub mod Apart
+pub mod Spans

@@ -13,7 +13,7 @@ use Rattle.rules.specs.declared.Event.{Event}
 use Rattle.rules.specs.declared.Event.the-variants as Event
 use Rattle.rules.specs.declared.LastEvent.{LastEvent}
 use Rattle.rules.specs.declared.LastEvent.the-variants as LastEvent
-use Rattle.rules.specs.Numbers.{mostEvents, storeLength, isFinite, isZero, laterOf}
+use Rattle.rules.specs.Numbers.{mostEvents, storeLength, plusZero, isFinite, isZero, laterOf}
 use Rattle.rules.specs.Queue.{filedUnder, curveEnd, lengthsOf}
 use Rattle.rules.specs.Refusals.{areBounds, isPeriod}
 use Rattle.rules.specs.Block.{Param}
@@ -129,15 +129,27 @@ unfoldable pub hasPlayed : MaybeTime → Bool
 hasPlayed MaybeTime.Missing = false
 hasPlayed (MaybeTime.At t) = true
 
--- The last block's time is as a block's is taken, so a block that is answered is at it or later. The intrinsic value may be NaN (DECISIONS, reading 13).
+-- Whether a block at t can have this end: at or above t, +infinity too, never -0. (Of a 64-bit float 0 + t is t itself. Here floats can be of any length, so the nearest
+-- one of 64 bits is compared.)
+unfoldable pub isEndOf : Float → Float → Bool
+isEndOf t end = isFromZero end && not (Ieee.lt end (Ieee.add binary64 plusZero t))
+
+-- The last block's time and its end: both, or neither. The time is as a block's is taken, so a block that is answered is at it or later.
+unfoldable pub areBlockTimes : MaybeTime → MaybeTime → Bool
+areBlockTimes MaybeTime.Missing MaybeTime.Missing = true
+areBlockTimes MaybeTime.Missing (MaybeTime.At end) = false
+areBlockTimes (MaybeTime.At t) MaybeTime.Missing = false
+areBlockTimes (MaybeTime.At t) (MaybeTime.At end) = isTaken t && isEndOf t end
+
+-- The intrinsic value may be NaN (DECISIONS, reading 13).
 pub record Sound (p : Param) : Type 0 where
   pub waiting : SoundQueue (p .queue)
   pub due : areDue (hasPlayed (p .lastBlock)) (p .queue) ≡ true
   pub bounded : areBounds (p .bounds) ≡ true
   pub last : isLastClear (p .last) ≡ true
-  pub block : isTakenIfAny (p .lastBlock) ≡ true
+  pub block : areBlockTimes (p .lastBlock) (p .lastEnd) ≡ true
 
 unfoldable pub isSound : Param → Bool
 isSound p =
     isSoundQueue (p .queue)
-    && (areDue (hasPlayed (p .lastBlock)) (p .queue) && (areBounds (p .bounds) && (isLastClear (p .last) && isTakenIfAny (p .lastBlock))))
+    && (areDue (hasPlayed (p .lastBlock)) (p .queue) && (areBounds (p .bounds) && (isLastClear (p .last) && areBlockTimes (p .lastBlock) (p .lastEnd))))

@@ -34,7 +34,7 @@ use Rattle.param.specs.Param.{paramOf, structOf, outcomeOf, answeredWith
 
 -- a sound parameter is the one struct that stands for what it is
 pub whole : (p : AudioParam) → SoundParam p → p ≡ structOf (paramOf p)
-whole p s = ap (λ (q : AudioParamEventTimeline). partsOf (p .bounds) (p .rate) (p .intrinsic) q (p .block) (p .last)) (s .neat .clean)
+whole p s = ap (λ (q : AudioParamEventTimeline). partsOf (p .bounds) (p .rate) (p .intrinsic) q (p .block) (p .end) (p .last)) (s .neat .clean)
 
 pub struct-back : (p : Param) → paramOf (structOf p) ≡ p
 struct-back p = ap (λ (q : List Event). withQueue q p) (waits (p .queue))

@@ -18,7 +18,7 @@ use Rattle.rules.specs.Numbers.{mostEvents, storeLength, plusZero, isFinite}
 use Rattle.rules.specs.Queue.{filedUnder, lengthOf, lengthsOf}
 use Rattle.rules.specs.Refusals.{lowest, allFinite, areBounds, makingRows}
 use Rattle.rules.specs.Block.{made, madeAs}
-use Rattle.laws.specs.Sound.{isNumber, isTakenIfAny, isLastClear, reachOf, goesBefore, inOrder, isClear, isDue, all, areDue, SoundQueue, isSoundQueue, hasPlayed, Sound, isSound}
+use Rattle.laws.specs.Sound.{isNumber, isLastClear, reachOf, goesBefore, inOrder, isClear, isDue, all, areDue, SoundQueue, isSoundQueue, hasPlayed, areBlockTimes, Sound, isSound}
 use Rattle.laws.proofs.Tests.{clash, both, and}
 use Rattle.laws.proofs.Order.{bottom}
 use Rattle.laws.proofs.Events.{lengths-append}
@@ -184,7 +184,7 @@ slot-next q i n l m =
 -- ---- all the parts
 
 module _ (parts : AudioParam) (few : parts .timeline .len ≤ mostEvents) {t : Taken} {played : Bool} (k : Takes (parts .timeline) played t) (ep : played ≡ hasPlayed (parts .block))
-    {bounds last block : Bool} (eb : bounds ≡ areBounds (parts .bounds)) (el : last ≡ isLastClear (parts .last)) (et : block ≡ isTakenIfAny (parts .block)) where
+    {bounds last block : Bool} (eb : bounds ≡ areBounds (parts .bounds)) (el : last ≡ isLastClear (parts .last)) (et : block ≡ areBlockTimes (parts .block) (parts .end)) where
   whole-is : (t .sound && (bounds && (last && block))) ≡ isWhole parts
   unfolding isWhole isSound
   whole-is =
@@ -192,7 +192,7 @@ module _ (parts : AudioParam) (few : parts .timeline .len ≤ mostEvents) {t : T
       (and-assoc (isSoundQueue (waiting (parts .timeline))) _ _)
 
   pub restores-all : {r : Outcome} → (t .sound && (bounds && (last && block))) ≡ true
-      → r ≡ record { verdict = Verdict.Answered; param = partsOf (parts .bounds) (parts .rate) (parts .intrinsic) (t .queue) (parts .block) (parts .last) } → Restores parts r
+      → r ≡ record { verdict = Verdict.Answered; param = partsOf (parts .bounds) (parts .rate) (parts .intrinsic) (t .queue) (parts .block) (parts .end) (parts .last) } → Restores parts r
   restores-all h e = restores-whole (sym whole-is ∙ h) (e ∙ rw (k .queue (both (t .sound) _ h .0)))
 
   pub restores-none : {r : Outcome} → (t .sound && (bounds && (last && block))) ≡ false → r ≡ unmade → Restores parts r

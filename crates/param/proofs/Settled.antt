@@ -1,10 +1,11 @@
 -- What the contracts settle: two results that one allows for the same input are the same; a refused call changes nothing; a hold leaves a queue in order,
--- and inside a curve it holds that. Assumes nothing.
+-- and inside a curve it holds that; a cancel leaves the first events, and no curve that spans its time. Assumes nothing.
 use mathlib.Core.Path.{_≡_, refl, sym, ap, subst, _∙_}
-use mathlib.Core.Bool.{true}
+use mathlib.Core.Bool.{true, false}
 use mathlib.Core.List.{List, [], _∷_, _++_}
 use Prim.Native.Nat.{ℕ}
 use native.Mathlib.Omega.{arith}
+use lib.ListN.{take}
 use lib.Ieee.{Float}
 use borrow.Author.Tests.{le-leb}
 use Rattle.rules.specs.declared.Bounds.{Bounds}
@@ -14,11 +15,14 @@ use Rattle.rules.specs.declared.Verdict.the-variants as Verdict
 use Rattle.rules.specs.declared.Event.{Event}
 use Rattle.rules.specs.declared.Verdict.{Verdict}
 use Rattle.rules.specs.Numbers.{mostEvents, takenTime}
-use Rattle.rules.specs.Queue.{Waiting, covers, heldEvent}
+use Rattle.rules.specs.Queue.{Waiting, any, covers, heldEvent}
 use Rattle.rules.specs.Block.{Param, madeAs, Called, calledAs, scheduledAs, Command, set, step, linear, exponential, target, curve, cancel, hold, called}
 use Rattle.laws.proofs.Tests.{and}
 use Rattle.laws.proofs.Tested.{passes-test}
 use Rattle.laws.specs.Held.{StillInOrder}
+use Rattle.laws.specs.Search.{firstGoing}
+use Rattle.laws.specs.Spans.{spans}
+use Rattle.laws.proofs.Cancelled.{a-cancel-leaves-the-first as first-left, after-a-cancel-no-curve-spans-it as none-left}
 use Rattle.laws.proofs.Held.{when-a-hold-moves-a-time as held-in-order, inside-a-curve-it-is-held as held-inside}
 use Rattle.param.specs.declared.AudioParam.{AudioParam}
 use Rattle.param.specs.declared.Outcome.{Outcome}
@@ -97,3 +101,15 @@ pub inside-a-curve-it-is-held : {p : AudioParam} {store after : List Float} {c :
     → paramOf (r .param) .queue ≡ before ++ (heldEvent (takenTime c) e ∷ [])
 inside-a-curve-it-is-held {p} {store} {c = c} s a h before e behind split inside =
     ap (λ (q : Param). q .queue) (ap paramOf (a .param) ∙ struct-back _) ∙ held-inside (paramOf p) store c (s .sound) (sym (a .verdict) ∙ h) before e behind split inside
+
+-- ---- 02, C-12: "Web Audio removes a curve whose span, both ends included, holds the cancel time."
+
+module _ {p : AudioParam} {store after : List Float} {c : Float} {r : Outcome} (a : Answers p store (cancel c) r after) (h : r .verdict ≡ Verdict.Answered) where
+  queue-is : paramOf (r .param) .queue ≡ called (paramOf p) store (cancel c) .param .queue
+  queue-is = ap (λ (q : Param). q .queue) (ap paramOf (a .param) ∙ struct-back _)
+
+  pub a-cancel-leaves-the-first : SoundParam p → paramOf (r .param) .queue ≡ take (firstGoing (takenTime c) (paramOf p .queue)) (paramOf p .queue)
+  a-cancel-leaves-the-first s = queue-is ∙ first-left (paramOf p) store c (s .sound) (sym (a .verdict) ∙ h)
+
+  pub after-a-cancel-no-curve-spans-it : any (spans (takenTime c)) (paramOf (r .param) .queue) ≡ false
+  after-a-cancel-no-curve-spans-it = rw queue-is (none-left (paramOf p) store c (sym (a .verdict) ∙ h))

@@ -35,6 +35,7 @@ paramOf p =
       intrinsic = p .intrinsic;
       queue = waiting (p .timeline);
       lastBlock = p .block;
+      lastEnd = p .end;
       last = p .last;
     }
 
@@ -47,6 +48,7 @@ structOf p =
       intrinsic = p .intrinsic;
       timeline = queueOf (p .queue);
       block = p .lastBlock;
+      end = p .lastEnd;
       last = p .last;
     }
 
@@ -72,8 +74,8 @@ pub record Answers (p : AudioParam) (store : List Float) (c : Command) (r : Outc
 
 -- ---- a parameter of its parts
 
-abbrev pub partsOf : Bounds → AutomationRate → Float → AudioParamEventTimeline → MaybeTime → LastEvent → AudioParam
-partsOf b rate v q t l = record { bounds = b; rate = rate; intrinsic = v; timeline = q; block = t; last = l }
+abbrev pub partsOf : Bounds → AutomationRate → Float → AudioParamEventTimeline → MaybeTime → MaybeTime → LastEvent → AudioParam
+partsOf b rate v q t e l = record { bounds = b; rate = rate; intrinsic = v; timeline = q; block = t; end = e; last = l }
 
 -- whether parts make a parameter: slots behind the length do not count
 unfoldable pub isWhole : AudioParam → Bool
@@ -99,7 +101,7 @@ outcomeOf c = record { verdict = c .verdict; param = structOf (c .param) }
 
 -- an answered call: another queue, another intrinsic value, and else the same parameter
 abbrev pub answeredWith : AudioParam → AudioParamEventTimeline → Float → Outcome
-answeredWith p q v = record { verdict = Verdict.Answered; param = partsOf (p .bounds) (p .rate) v q (p .block) (p .last) }
+answeredWith p q v = record { verdict = Verdict.Answered; param = partsOf (p .bounds) (p .rate) v q (p .block) (p .end) (p .last) }
 
 -- one more event can wait where a call is answered
 abbrev pub HasRoom : Verdict → List Event → Type 0

@@ -41,7 +41,7 @@ abbrev pub afterwards : AudioParam → BlockInfos → AudioParamEventTimeline �
 afterwards p f q l =
     record {
       verdict = Verdict.Answered;
-      param = partsOf (p .bounds) (p .rate) (l .intrinsic) q (MaybeTime.At (f .time)) (l .last);
+      param = partsOf (p .bounds) (p .rate) (l .intrinsic) q (MaybeTime.At (f .time)) (MaybeTime.At (f .next)) (l .last);
       steps = l .steps;
       current = mixed (p .bounds) plusZero (p .intrinsic);
       one = l .one;

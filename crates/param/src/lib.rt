@@ -1,19 +1,20 @@
 // One parameter: its constructor, and the calls that schedule and cancel its events.
 ghost use mathlib.Core.Path.{_≡_};
-ghost use mathlib.Core.List.{List, []};
+ghost use mathlib.Core.Bool.{cond};
+ghost use mathlib.Core.List.{[]};
 ghost use lib.Dec.{leb};
 ghost use lib.ListN.{length, take, drop};
 ghost use Rattle.rules.specs.Numbers.{mostEvents};
-ghost use Rattle.rules.specs.Queue.{Waiting, headOf, lengthsOf, anyCovers, losesRamp, valueAfterCancel, targetEvent};
+ghost use Rattle.rules.specs.Queue.{lengthsOf, anyCovers, isBy, hasStarted, losesHead, losesCurve, returned, targetEvent};
 ghost use Rattle.rules.specs.Refusals.{isCrossed};
 ghost use Rattle.rules.specs.Block.{fresh, scheduledAs, set, step, linear, exponential, target, curve, cancel, hold};
 ghost use Rattle.timeline.specs.Timeline.{made, firstOf};
 ghost use Rattle.param.specs.Param.{paramOf, structOf, outcomeOf, SoundParam, HasRoom, unmade, answeredWith, Makes, Answers, partsOf, Restores};
 use floats::is_zero64;
 use floats::taken_time;
+use refusals::sound::are_block_times;
 use refusals::sound::has_played;
 use refusals::sound::is_last_clear;
-use refusals::sound::is_taken_if_any;
 use rules::AutomationRate;
 use rules::Bounds;
 use rules::Event;
@@ -25,6 +26,7 @@ use rules::Verdict;
 use timeline::AudioParamEventTimeline;
 use timeline::curve_end;
 use timeline::filed_under;
+use timeline::goes_at;
 use timeline::is_ramp;
 
 mod taking; // taking.rt: events that can wait, from outside
@@ -35,8 +37,9 @@ pub struct AudioParam {
     rate: AutomationRate,
     intrinsic: f32,
     timeline: AudioParamEventTimeline,
-    // the time of the last answered block
+    // the time of the last answered block, and its end
     block: MaybeTime,
+    end: MaybeTime,
     // the last finished event
     last: LastEvent,
 }
@@ -72,21 +75,54 @@ fn target_event(value: f32, time: f64, constant: f64) -> Event
     }
 }
 
-// Whether a cancel at c removes a ramp from the head.
-fn loses_ramp(c: f64, head: Head) -> bool
-    ensures { λ r. ⌜ r ≡ losesRamp c head ⌝ }
+// Whether a time is at or before the last answered block's end.
+fn is_by(end: MaybeTime, time: f64) -> bool
+    ensures { λ r. ⌜ r ≡ isBy end time ⌝ }
 {
-    match head {
-        Head::Empty => false,
-        Head::Event(e) => is_ramp(e) & !(filed_under(e) < c),
+    match end {
+        MaybeTime::Missing => false,
+        MaybeTime::At(end) => time <= end,
     }
 }
 
-// The intrinsic value after a cancel at c: the last event's, if a ramp goes from the head and there is one.
-fn value_after_cancel(c: f64, head: Head, last: LastEvent, value: f32) -> f32
-    ensures { λ r. ⌜ ((ws : List Waiting) → headOf ws ≡ head → r ≡ valueAfterCancel c ws last value) ⌝ }
+// Whether the event is a curve that had started by the last answered block's end.
+fn has_started(end: MaybeTime, e: Event) -> bool
+    ensures { λ r. ⌜ r ≡ hasStarted end e ⌝ }
 {
-    if loses_ramp(c, head) {
+    match e {
+        Event::Step { .. } => false,
+        Event::Linear { .. } => false,
+        Event::Exponential { .. } => false,
+        Event::Target { .. } => false,
+        Event::Curve { start, .. } => is_by(end, start),
+    }
+}
+
+// Whether a cancel at c takes the head, and that is a ramp, or a curve that had started.
+fn loses_head(c: f64, end: MaybeTime, head: Head) -> bool
+    ensures { λ r. ⌜ r ≡ losesHead c end head ⌝ }
+{
+    match head {
+        Head::Empty => false,
+        Head::Event(e) => goes_at(e, c) & (is_ramp(e) | has_started(end, e)),
+    }
+}
+
+// Whether a hold at c takes the head, and that is a curve that had started.
+fn loses_curve(c: f64, end: MaybeTime, head: Head) -> bool
+    ensures { λ r. ⌜ r ≡ losesCurve c end head ⌝ }
+{
+    match head {
+        Head::Empty => false,
+        Head::Event(e) => (c < filed_under(e)) & has_started(end, e),
+    }
+}
+
+// The intrinsic value, or the last event's where such a head is lost and there is one.
+fn value_after(lost: bool, last: LastEvent, value: f32) -> f32
+    ensures { λ r. ⌜ r ≡ cond lost (returned last value) value ⌝ }
+{
+    if lost {
         match last {
             LastEvent::None => value,
             LastEvent::Done(l) => l.value,
@@ -114,6 +150,7 @@ impl AudioParam {
             intrinsic: bounds.default,
             timeline: AudioParamEventTimeline::new(),
             block: MaybeTime::Missing,
+            end: MaybeTime::Missing,
             last: LastEvent::None,
         }
     }
@@ -178,6 +215,13 @@ impl AudioParam {
         ensures { λ r. ⌜ r ≡ paramOf self .lastBlock ⌝ }
     {
         self.block
+    }
+
+    // The end of the last answered block: its next block time.
+    pub fn last_block_end(self) -> MaybeTime
+        ensures { λ r. ⌜ r ≡ paramOf self .lastEnd ⌝ }
+    {
+        self.end
     }
 
     // The waiting events, for one who reads many of them.
@@ -363,8 +407,9 @@ impl AudioParam {
             Verdict::Answered => {
                 let c = taken_time(cancel_time);
                 let q = self.timeline;
+                let end = self.end;
                 let last = self.last;
-                let value = value_after_cancel(c, q.peek(), last, self.intrinsic);
+                let value = value_after(loses_head(c, end, q.peek()), last, self.intrinsic);
                 let q = curves::cancel(q, c, store);
                 self.answered(q, value)
             }
@@ -384,8 +429,11 @@ impl AudioParam {
             Verdict::Answered => {
                 let c = taken_time(cancel_time);
                 let q = self.timeline;
+                let end = self.end;
+                let last = self.last;
+                let value = value_after(loses_curve(c, end, q.peek()), last, self.intrinsic);
                 let q = curves::hold(q, c, store);
-                self.answered(q, self.intrinsic)
+                self.answered(q, value)
             }
             Verdict::Refused(_) => Outcome {
                 verdict,
@@ -401,16 +449,17 @@ impl AudioParam {
         intrinsic: f32,
         timeline: AudioParamEventTimeline,
         block: MaybeTime,
+        end: MaybeTime,
         last: LastEvent,
     ) -> Outcome
-        ensures { λ r. ⌜ Restores (partsOf bounds rate intrinsic timeline block last) r ⌝ }
+        ensures { λ r. ⌜ Restores (partsOf bounds rate intrinsic timeline block end last) r ⌝ }
     {
         if AudioParam::EVENTS < timeline.len {
             return AudioParam::refused();
         }
         let taken = taking::take(timeline, has_played(block));
         let sound = taken.sound;
-        let clear = is_last_clear(last) & is_taken_if_any(block);
+        let clear = is_last_clear(last) & are_block_times(block, end);
         if sound & (refusals::are_bounds(bounds) & clear) {
             let timeline = taken.queue;
             let param = AudioParam {
@@ -419,6 +468,7 @@ impl AudioParam {
                 intrinsic,
                 timeline,
                 block,
+                end,
                 last,
             };
             Outcome {

@@ -85,6 +85,7 @@ impl AudioParam {
             intrinsic: played.intrinsic,
             timeline,
             block: MaybeTime::At(infos.time),
+            end: MaybeTime::At(infos.next),
             last,
         };
         Processed {

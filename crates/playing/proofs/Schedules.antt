@@ -16,7 +16,7 @@ use Rattle.rules.specs.declared.AutomationRate.{AutomationRate}
 use Rattle.rules.specs.declared.Verdict.{Verdict}
 use Rattle.rules.specs.declared.Verdict.the-variants as Verdict
 use Rattle.rules.specs.Numbers.{storeLength, takenTime}
-use Rattle.rules.specs.Queue.{Waiting, lengthOf, headOf, lengthsOf, returned, losesRamp, valueAfterCancel}
+use Rattle.rules.specs.Queue.{Waiting, lengthOf, headOf, lengthsOf, losesHead, returned, valueAfterCancel, losesCurve, valueAfterHold}
 use Rattle.rules.specs.Refusals.{makingRows, lowest}
 use Rattle.rules.specs.Block.{Param, Called, Command, set, step, linear, exponential, target, curve, cancel, hold, withQueue, scheduledAs, calledAs, called, made, madeAs}
 use Rattle.laws.specs.Fits.{AllFit}
@@ -29,14 +29,11 @@ use Rattle.playing.proofs.States.{bare, SoundState, waiting-fit}
 
 -- ---- a call before the first block
 
--- with no last event a cancel leaves the intrinsic value
-value-stays : (c : Float) (ws : List Waiting) (l : LastEvent) (v : Float) → l ≡ LastEvent.None → valueAfterCancel c ws l v ≡ v
-unfolding valueAfterCancel returned
-value-stays c ws l v none = rw none (go (losesRamp c (headOf ws)))
-  where
-    go : (b : Bool) → cond b (returned LastEvent.None v) v ≡ v
-    go true = refl
-    go false = refl
+-- with no last event a cancel leaves the intrinsic value, and so does a hold
+value-stays : (b : Bool) (l : LastEvent) (v : Float) → l ≡ LastEvent.None → cond b (returned l v) v ≡ v
+unfolding returned
+value-stays true l v none = rw none
+value-stays false l v none = refl
 
 -- A call is lent the store, or is not. Where it is, the waiting events that it leaves have their numbers.
 data Shape (s : State) : Called → Type 0 where
@@ -45,7 +42,7 @@ data Shape (s : State) : Called → Type 0 where
       → Shape s (calledAs v (s .param) (s .store) ws i)
 
 asked-shape : (s : State) (c : Command) → Shape s (asked s c)
-unfolding asked called waiting lengthOf
+unfolding asked called waiting lengthOf valueAfterCancel valueAfterHold
 asked-shape s (set v) = plain _ _
 asked-shape s (step v t) = plain _ _
 asked-shape s (linear v t) = plain _ _
@@ -53,8 +50,9 @@ asked-shape s (exponential v t) = plain _ _
 asked-shape s (target v t c) = plain _ _
 asked-shape s (curve t d xs) = lent _ _ _ (λ h. fit-inserted _ (waiting s) refl (waiting-fit s h)) (λ none. refl)
 asked-shape s (cancel c) =
-    lent _ _ _ (λ h. fit-cancelled (takenTime c) (waiting s) (waiting-fit s h)) (value-stays (takenTime c) (waiting s) (s .param .last) (s .param .intrinsic))
-asked-shape s (hold c) = lent _ _ _ (λ h. fit-held (takenTime c) (waiting s) (waiting-fit s h)) (λ none. refl)
+    lent _ _ _ (λ h. fit-cancelled (takenTime c) (waiting s) (waiting-fit s h)) (value-stays (losesHead (takenTime c) (s .param .lastEnd) (headOf (waiting s))) (s .param .last) (s .param .intrinsic))
+asked-shape s (hold c) =
+    lent _ _ _ (λ h. fit-held (takenTime c) (waiting s) (waiting-fit s h)) (value-stays (losesCurve (takenTime c) (s .param .lastEnd) (headOf (waiting s))) (s .param .last) (s .param .intrinsic))
 
 never : {A : Type 0} {r : Refusal} → Verdict.Answered ≡ Verdict.Refused r → A
 never h = let z : _≡_ {A = ℕ} 0 1 = cc in absurd (omega arith)

@@ -2,7 +2,7 @@
 ghost use mathlib.Core.Path.{_≡_};
 ghost use mathlib.Core.Bool.{_||_};
 ghost use Rattle.rules.specs.Numbers.{isFinite};
-ghost use Rattle.laws.specs.Sound.{isNumber, isFromZero, isTaken, isTakenIfAny, isHeldBy, isHeldFrom, isSpan, isCurveHold, isClear, reachOf, isLastClear, hasPlayed};
+ghost use Rattle.laws.specs.Sound.{isNumber, isFromZero, isTaken, isTakenIfAny, isHeldBy, isHeldFrom, isSpan, isCurveHold, isClear, reachOf, isLastClear, hasPlayed, isEndOf, areBlockTimes};
 use crate::block::is_period;
 use floats::is_finite32;
 use floats::is_finite64;
@@ -35,7 +35,7 @@ fn is_taken(t: f64) -> bool
     is_finite64(t) & is_from_zero(t)
 }
 
-pub fn is_taken_if_any(t: MaybeTime) -> bool
+fn is_taken_if_any(t: MaybeTime) -> bool
     ensures { λ r. ⌜ r ≡ isTakenIfAny t ⌝ }
 {
     match t {
@@ -125,6 +125,29 @@ pub fn reach_of(e: Event) -> f64
             hold,
             ..
         } => later_of(start, curve_end(start, duration, hold)),
+    }
+}
+
+// A block's end is at or above its time; it may be +infinity.
+fn is_end_of(time: f64, end: f64) -> bool
+    ensures { λ r. ⌜ r ≡ isEndOf time end ⌝ }
+{
+    is_from_zero(end) & !(end < time)
+}
+
+// The last block's time, and its end: both, or neither.
+pub fn are_block_times(time: MaybeTime, end: MaybeTime) -> bool
+    ensures { λ r. ⌜ r ≡ areBlockTimes time end ⌝ }
+{
+    match time {
+        MaybeTime::Missing => match end {
+            MaybeTime::Missing => true,
+            MaybeTime::At(_) => false,
+        },
+        MaybeTime::At(t) => match end {
+            MaybeTime::Missing => false,
+            MaybeTime::At(e) => is_taken(t) & is_end_of(t, e),
+        },
     }
 }
 

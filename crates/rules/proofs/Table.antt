@@ -99,14 +99,14 @@ pub data Act : Type 0 where
   look glance intrinsic : Act
 
 -- `output` and `turned` are a block's, answered and refused: steps, current value, one-valued, the whole output, `turned` with its number first;
--- `state` has the intrinsic value, the last block's time, the last event, the waiting events with their numbers, and whether zeros stand behind these
+-- `state` has the intrinsic value, the last block's time and its end, the last event, the waiting events with their numbers, and whether zeros stand behind these
 pub data Said : Type 0 where
   ok : Said
   refused : ℕ → Said
   output : ℕ → Float → Bool → List Float → Said
   turned : ℕ → ℕ → Float → Bool → List Float → Said
   heard : List Float → ℕ → Said
-  state : Float → MaybeTime → LastEvent → List Waiting → Bool → Said
+  state : Float → MaybeTime → MaybeTime → LastEvent → List Waiting → Bool → Said
   value : Float → Said
   sounds : Float → Bool → List Float → Said
   seen : Float → LastEvent → List Waiting → Said
@@ -139,7 +139,8 @@ unfoldable pub outputSaid : Answer → Said
 outputSaid a = outputAs (a .verdict) a
 
 unfoldable pub stateSaid : Param → List Float → Said
-stateSaid p store = state (p .intrinsic) (p .lastBlock) (p .last) (attached (p .queue) store) (allZeros (drop (lengthsOf (p .queue)) store))
+stateSaid p store =
+    state (p .intrinsic) (p .lastBlock) (p .lastEnd) (p .last) (attached (p .queue) store) (allZeros (drop (lengthsOf (p .queue)) store))
 
 -- each call on the parameter and the store that the one before left; `lend` cuts the store or lengthens it by zeros, so behind it nothing may read what was cut
 unfoldable pub performed : List Act → Param → List Float → List Said
@@ -165,7 +166,7 @@ unfolding verdictSaid allZeros outputAs outputSaid stateSaid performed
     Numbers.isFinite Numbers.isZero Numbers.isPositive Numbers.isNegative Numbers.magnitude Numbers.isSubnormal Numbers.takenTime Numbers.laterOf Numbers.wide Numbers.wholePart Numbers.product Numbers.fused Numbers.narrowed Numbers.limit Numbers.placeFrom Numbers.periodsTo Numbers.endPlace Numbers.timeAt Numbers.run Numbers.filledAt Numbers.filled
     Kernels.rootFrom Kernels.root Kernels.tableFrom Kernels.table Kernels.fallingFrom Kernels.falling Kernels.logFrom Kernels.log
     Samples.phaseOf Samples.hasNoLength Samples.rampSample Samples.linearSample Samples.isRatio Samples.ratioOf Samples.ratioLog Samples.floorOf Samples.powerOf Samples.power Samples.factorOf Samples.exponentialBy Samples.exponentialSample Samples.decayOf Samples.decay Samples.targetSample Samples.lastNumber Samples.between Samples.curvePosition Samples.curveSample
-    Queue.holdOr Queue.filedUnder Queue.isRamp Queue.curveEnd Queue.isInside Queue.covers Queue.lengthOf Queue.targetEvent Queue.headOf Queue.eventsOf Queue.numbersOf Queue.packed Queue.attached Queue.lengthsOf Queue.any Queue.anyCovers Queue.isFiledInside Queue.anyInside Queue.hasNotLater Queue.placeBehind Queue.putAt Queue.inserted Queue.arrived Queue.those Queue.isBefore Queue.cancelled Queue.losesRamp Queue.returned Queue.valueAfterCancel Queue.sooner Queue.heldEvent Queue.heldAt Queue.runsAt Queue.isLater Queue.isNotLater Queue.heldIfRunning Queue.lastHeld Queue.holdsRamp Queue.heldBy Queue.held
+    Queue.holdOr Queue.filedUnder Queue.isRamp Queue.curveEnd Queue.isInside Queue.covers Queue.lengthOf Queue.targetEvent Queue.headOf Queue.eventsOf Queue.numbersOf Queue.packed Queue.attached Queue.lengthsOf Queue.any Queue.anyCovers Queue.isFiledInside Queue.anyInside Queue.hasNotLater Queue.placeBehind Queue.putAt Queue.inserted Queue.arrived Queue.those Queue.lastsTo Queue.goesAt Queue.isBefore Queue.cancelled Queue.isBy Queue.hasStarted Queue.losesHead Queue.returned Queue.valueAfterCancel Queue.sooner Queue.heldEvent Queue.heldAt Queue.runsAt Queue.isLater Queue.isNotLater Queue.heldIfRunning Queue.lastHeld Queue.holdsRamp Queue.heldBy Queue.held Queue.losesCurve Queue.valueAfterHold
     Refusals.numberOf Refusals.lowest Refusals.allFinite Refusals.areBounds Refusals.makingRows Refusals.isCrossed Refusals.valueRows Refusals.exponentialRows Refusals.targetRows Refusals.curveRows Refusals.cancelRows Refusals.fitsCount Refusals.isEarlier Refusals.isTime Refusals.isPeriod Refusals.isCount Refusals.isBlock Refusals.blockRows
     Walk.counted Walk.withValues Walk.withIntrinsic Walk.withLast Walk.withTurned Walk.consumed Walk.fill Walk.lastOr Walk.startOf Walk.stepTime Walk.stepFrom Walk.stepTurn Walk.valueAtEnd Walk.spanTurn Walk.linearTurn Walk.exponentialTurn Walk.endByNext Walk.endByHold Walk.snaps Walk.flushed Walk.flushedFor Walk.targetLeft Walk.targetRun Walk.fromStart Walk.targetTurn Walk.curveTurn Walk.turnOf Walk.turn Walk.ended Walk.next Walk.walked
     Mix.clamped Mix.settled Mix.mixed Mix.mixedAll Mix.firstOf Mix.spread Mix.inputs

@@ -20,7 +20,7 @@ use Rattle.rules.specs.declared.BlockInfos.{BlockInfos}
 use Rattle.rules.specs.declared.Verdict.{Verdict}
 use Rattle.rules.specs.declared.Verdict.the-variants as Verdict
 use Rattle.rules.specs.Numbers.{plusZero, mostCount, takenTime, wide, fused}
-use Rattle.rules.specs.Queue.{Waiting, attached, packed, eventsOf, headOf, filedUnder, isRamp, inserted, arrived, cancelled, valueAfterCancel, held, targetEvent}
+use Rattle.rules.specs.Queue.{Waiting, attached, packed, eventsOf, headOf, filedUnder, isRamp, inserted, arrived, cancelled, valueAfterCancel, held, valueAfterHold, targetEvent}
 use Rattle.rules.specs.Refusals.{lowest, makingRows, valueRows, exponentialRows, targetRows, curveRows, cancelRows, blockRows}
 use Rattle.rules.specs.Walk.{Walk, Walked, walked}
 use Rattle.rules.specs.Mix.{mixed, mixedAll, spread, inputs}
@@ -28,19 +28,28 @@ use Rattle.rules.specs.Mix.{mixed, mixedAll, spread, inputs}
 -- ---- the parameter
 
 -- "A parameter holds minimum, default, maximum, rate (A or K), the intrinsic value .., the waiting events in order, the time of the last answered block if any,
--- and the last finished event"
+-- and the last finished event"; and "the last answered block's end, which the parameter now keeps" (02, C-12)
 pub record Param : Type 0 where
   pub bounds : Bounds
   pub rate : AutomationRate
   pub intrinsic : Float
   pub queue : List Event
   pub lastBlock : MaybeTime
+  pub lastEnd : MaybeTime
   pub last : LastEvent
 
 -- "the intrinsic value (at first the default)"
 abbrev pub fresh : Bounds → AutomationRate → Param
 fresh b r =
-    record { bounds = b; rate = r; intrinsic = b .default; queue = []; lastBlock = MaybeTime.Missing; last = LastEvent.None }
+    record {
+      bounds = b;
+      rate = r;
+      intrinsic = b .default;
+      queue = [];
+      lastBlock = MaybeTime.Missing;
+      lastEnd = MaybeTime.Missing;
+      last = LastEvent.None;
+    }
 
 -- "Refusal 1 returns an empty A-rate parameter with all numbers 0."
 unfoldable pub madeAs : Verdict → Bounds → AutomationRate → Param
@@ -50,9 +59,21 @@ madeAs (Verdict.Refused why) b r = fresh (record { min = plusZero; default = plu
 unfoldable pub made : Bounds → AutomationRate → Param
 made b r = madeAs (lowest (makingRows b)) b r
 
+-- a parameter as an answered call leaves it: these events wait, and this is the intrinsic value
+abbrev pub leftWith : List Event → Float → Param → Param
+leftWith q v p =
+    record {
+      bounds = p .bounds;
+      rate = p .rate;
+      intrinsic = v;
+      queue = q;
+      lastBlock = p .lastBlock;
+      lastEnd = p .lastEnd;
+      last = p .last;
+    }
+
 abbrev pub withQueue : List Event → Param → Param
-withQueue q p =
-    record { bounds = p .bounds; rate = p .rate; intrinsic = p .intrinsic; queue = q; lastBlock = p .lastBlock; last = p .last }
+withQueue q p = leftWith q (p .intrinsic) p
 
 -- ---- scheduling and cancelling
 
@@ -65,12 +86,7 @@ pub record Called : Type 0 where
 -- a call that is lent the store: where it is answered these events wait and this is the intrinsic value; "Any other refusal returns the parameter unchanged"
 unfoldable pub calledAs : Verdict → Param → List Float → List Waiting → Float → Called
 calledAs Verdict.Answered p store ws v =
-    record {
-      verdict = Verdict.Answered;
-      param =
-          record { bounds = p .bounds; rate = p .rate; intrinsic = v; queue = eventsOf ws; lastBlock = p .lastBlock; last = p .last };
-      store = packed ws;
-    }
+    record { verdict = Verdict.Answered; param = leftWith (eventsOf ws) v p; store = packed ws }
 calledAs (Verdict.Refused r) p store ws v = record { verdict = Verdict.Refused r; param = p; store = store }
 
 -- a call that is not: the store stays as it is
@@ -103,9 +119,20 @@ called p store (curve t d xs) =
     (p .intrinsic)
 called p store (cancel c) =
     let ws = attached (p .queue) store in
-    calledAs (lowest (cancelRows store c)) p store (cancelled (takenTime c) ws) (valueAfterCancel (takenTime c) ws (p .last) (p .intrinsic))
+    calledAs
+    (lowest (cancelRows store c))
+    p
+    store
+    (cancelled (takenTime c) ws)
+    (valueAfterCancel (takenTime c) (p .lastEnd) ws (p .last) (p .intrinsic))
 called p store (hold c) =
-    calledAs (lowest (cancelRows store c)) p store (held (takenTime c) (attached (p .queue) store)) (p .intrinsic)
+    let ws = attached (p .queue) store in
+    calledAs
+    (lowest (cancelRows store c))
+    p
+    store
+    (held (takenTime c) ws)
+    (valueAfterHold (takenTime c) (p .lastEnd) ws (p .last) (p .intrinsic))
 
 -- ---- the block
 
@@ -176,7 +203,8 @@ saysOne Rate.K rests input = true
 unfoldable pub outputOf : Bounds → BlockInfos → Call → List Float → List Float
 outputOf b f c vs = mixedAll b (inputs (f .rate) (c .count) (c .input)) (spread (f .rate) (c .count) vs) ++ drop (c .count) (c .output)
 
--- The answer over the waiting events ws. "The current value reported is the intrinsic value before the block, put through the mix with silence (ours)."
+-- The answer over the waiting events ws. "The current value reported is the intrinsic value before the block, put through the mix with silence (ours)." The block's end
+-- is its next block time (reading 13 of 02).
 unfoldable pub answerOf : Param → List Waiting → Call → Walked → Answer
 answerOf p ws c done =
     let f = infosOf (p .rate) c in
@@ -189,6 +217,7 @@ answerOf p ws c done =
             intrinsic = done .walk .intrinsic;
             queue = eventsOf (done .queue);
             lastBlock = MaybeTime.At (f .time);
+            lastEnd = MaybeTime.At (f .next);
             last = done .walk .last;
           };
       store = packed (done .queue);

@@ -149,26 +149,50 @@ unfoldable pub those : {A : Type 0} → (A → Bool) → List A → List A
 those test [] = []
 those test (x ∷ xs) = let more = those test xs in cond (test x) (x ∷ more) more
 
--- not "at or after c"
-unfoldable pub isBefore : Float → Waiting → Bool
-isBefore c w = Ieee.lt (filedUnder (w .event)) c
+-- whether "the cancel time is at or before" the end of an event that is a curve: "start plus duration, or its hold time if it has one" (02, C-12)
+unfoldable pub lastsTo : Float → Event → Bool
+lastsTo c (Event.Step v t) = false
+lastsTo c (Event.Linear v t h) = false
+lastsTo c (Event.Exponential v t h) = false
+lastsTo c (Event.Target v t k h) = false
+lastsTo c (Event.Curve s d n h) = Ieee.le c (curveEnd s d h)
 
--- "Cancel at c removes every event whose time is at or after c."
+-- "Cancel at c removes every event whose time is at or after c"; "a curve also goes if" it lasts to c (02, C-12)
+unfoldable pub goesAt : Float → Event → Bool
+goesAt c e = not (Ieee.lt (filedUnder e) c) || lastsTo c e
+
+-- over by c: what a cancel leaves
+unfoldable pub isBefore : Float → Waiting → Bool
+isBefore c w = not (goesAt c (w .event))
+
 unfoldable pub cancelled : Float → List Waiting → List Waiting
 cancelled c ws = those (isBefore c) ws
 
--- whether "the head was a ramp and is removed"
-unfoldable pub losesRamp : Float → Head → Bool
-losesRamp c Head.Empty = false
-losesRamp c (Head.Event e) = cond (isRamp e) (not (Ieee.lt (filedUnder e) c)) false
+-- whether a time is "by the last answered block's end": with no block answered, none is
+unfoldable pub isBy : MaybeTime → Float → Bool
+isBy MaybeTime.Missing t = false
+isBy (MaybeTime.At end) t = Ieee.le t end
+
+-- whether an event is a curve that "had started by the last answered block's end", by the two times alone (02, C-12)
+unfoldable pub hasStarted : MaybeTime → Event → Bool
+hasStarted end (Event.Step v t) = false
+hasStarted end (Event.Linear v t h) = false
+hasStarted end (Event.Exponential v t h) = false
+hasStarted end (Event.Target v t c h) = false
+hasStarted end (Event.Curve s d n h) = isBy end s
+
+-- whether "the head was a ramp and is removed" (01), or a curve that had started (02, C-12)
+unfoldable pub losesHead : Float → MaybeTime → Head → Bool
+losesHead c end Head.Empty = false
+losesHead c end (Head.Event e) = goesAt c e && (isRamp e || hasStarted end e)
 
 -- "the intrinsic value returns to the last event's value, if there is one"
 unfoldable pub returned : LastEvent → Float → Float
 returned LastEvent.None v = v
 returned (LastEvent.Done l) v = l .value
 
-unfoldable pub valueAfterCancel : Float → List Waiting → LastEvent → Float → Float
-valueAfterCancel c ws l v = cond (losesRamp c (headOf ws)) (returned l v) v
+unfoldable pub valueAfterCancel : Float → MaybeTime → List Waiting → LastEvent → Float → Float
+valueAfterCancel c end ws l v = cond (losesHead c end (headOf ws)) (returned l v) v
 
 -- ---- cancel-and-hold at c
 
@@ -225,3 +249,11 @@ heldBy c ws (x ∷ xs) = cond (holdsRamp c ws x) (ws ++ (heldAt c x ∷ [])) (la
 -- "Then all events later than c go, but for the ramp just held."
 unfoldable pub held : Float → List Waiting → List Waiting
 held c ws = heldBy c (those (isNotLater c) ws) (those (isLater c) ws)
+
+-- "removed by any cancel": a hold takes a curve from the head where it starts later than c. A ramp it never takes from there.
+unfoldable pub losesCurve : Float → MaybeTime → Head → Bool
+losesCurve c end Head.Empty = false
+losesCurve c end (Head.Event e) = Ieee.lt c (filedUnder e) && hasStarted end e
+
+unfoldable pub valueAfterHold : Float → MaybeTime → List Waiting → LastEvent → Float → Float
+valueAfterHold c end ws l v = cond (losesCurve c end (headOf ws)) (returned l v) v

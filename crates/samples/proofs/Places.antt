@@ -3,21 +3,17 @@ use mathlib.Core.Path.{_≡_, refl, _∙_}
 use mathlib.Core.Bool.{Bool, true, false}
 use Prim.Native.Nat.{ℕ, zero, suc, _+_, _-_, _*_, _^_, _≤_, _<_}
 use native.Mathlib.Omega.{arith}
-use lib.Dec.{T, lit≤}
+use lib.Dec.{lit≤}
 use lib.IntN.{negsuc}
 use lib.Ieee.{Float, fin, binary64, round, sum, lt, le, ofInt}
 use lib.Ieee.Order.{round-mono}
 use Rattle.rules.specs.Numbers.{wide, limit, placeFrom}
-use Rattle.laws.proofs.Tests.{clash}
+use Rattle.laws.proofs.Tests.{clash, told}
 use Rattle.laws.proofs.Order.{lt-le-lt}
 use Rattle.laws.proofs.Places.{place-passed}
 use Rattle.rounding_laws.proofs.Fuse.{rescale, add-value, wide-value}
 
 -- ---- limits rise
-
-told : (b : Bool) → T b → b ≡ true
-told true t = refl
-told false t = absurd t
 
 limit-is : (n : ℕ) → n ≤ 2 ^ 53 → limit n ≡ round binary64 false (n * 2 + 1) 2
 unfolding limit sum

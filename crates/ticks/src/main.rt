@@ -165,7 +165,9 @@ fn same_param(p: AudioParam, q: AudioParam) -> bool
     let value = same_value(p.intrinsic_value(), q.intrinsic_value());
     let time = time_or_none(p.last_block_time());
     let block = same_time(time, time_or_none(q.last_block_time()));
-    made & value & block & same_last(p.last_event(), q.last_event()) & same_queue(p, q)
+    let end = time_or_none(p.last_block_end());
+    let ends = same_time(end, time_or_none(q.last_block_end()));
+    made & value & block & ends & same_last(p.last_event(), q.last_event()) & same_queue(p, q)
 }
 
 // Two answers to a block.

@@ -58,7 +58,7 @@ headAs (Head.Event e) es = set es 0 e
 abbrev pub beginning : AudioParamEvent → AudioParamEventTimeline → AudioParamEventTimeline
 beginning s q = record { slots = set (q .slots) 0 s; len = q .len }
 
--- what a cut at c leaves: the events before c, as cancel does; or all but those later than c, as cancel-and-hold does
+-- what a cut at c leaves: the events that a cancel does not take; or all but those later than c, as cancel-and-hold does
 unfoldable pub isKept : Bool → Float → Waiting → Bool
 isKept false c w = isBefore c w
 isKept true c w = isNotLater c w

@@ -4,7 +4,7 @@ ghost use mathlib.Core.List.{[]};
 ghost use Prim.Native.Nat.{_≤_, _<_, _^_};
 ghost use lib.ListN.{take, drop, set};
 ghost use Rattle.rules.specs.Numbers.{mostEvents};
-ghost use Rattle.rules.specs.Queue.{holdOr, filedUnder, isRamp, curveEnd, isInside, isFiledInside, anyCovers, anyInside, lengthOf, lengthsOf, placeBehind, putAt, arrived, those, heldEvent, runsAt, lastHeld, held, eventsOf, attached};
+ghost use Rattle.rules.specs.Queue.{holdOr, filedUnder, isRamp, curveEnd, isInside, isFiledInside, anyCovers, anyInside, lengthOf, lengthsOf, placeBehind, putAt, arrived, those, lastsTo, goesAt, heldEvent, runsAt, lastHeld, held, eventsOf, attached};
 ghost use Rattle.rules.specs.Queue as rule;
 ghost use Rattle.laws.specs.Search.{isLaterThan};
 ghost use Rattle.timeline.specs.Timeline.{blankEvent, slotOf, made, waiting, Neat, firstOf, isSome, headAs, beginning, stays};
@@ -116,12 +116,40 @@ pub fn length_of(e: Event) -> usize
     }
 }
 
-// Whether a cut at c leaves the event: it is before c or, where those at c stay, no later.
+// Whether the event is a curve that ends at c or later.
+fn lasts_to(e: Event, c: f64) -> bool
+    ensures { λ r. ⌜ r ≡ lastsTo c e ⌝ }
+{
+    match e {
+        Event::Step { .. } => false,
+        Event::Linear { .. } => false,
+        Event::Exponential { .. } => false,
+        Event::Target { .. } => false,
+        Event::Curve {
+            start,
+            duration,
+            hold,
+            ..
+        } => c <= curve_end(start, duration, hold),
+    }
+}
+
+// Whether a cancel at c takes the event: it is filed at c or later, or is a curve that lasts to c.
+pub fn goes_at(e: Event, c: f64) -> bool
+    ensures { λ r. ⌜ r ≡ goesAt c e ⌝ }
+{
+    !(filed_under(e) < c) | lasts_to(e, c)
+}
+
+// Whether a cut at c leaves the event: a cancel's does not take it or, where those at c stay, it is no later.
 pub fn is_kept(e: Event, c: f64, equal: bool) -> bool
     ensures { λ r. ⌜ r ≡ stays equal c e ⌝ }
 {
-    let t = filed_under(e);
-    if equal { !(c < t) } else { t < c }
+    if equal {
+        !(c < filed_under(e))
+    } else {
+        !goes_at(e, c)
+    }
 }
 
 // The hold time c, unless an earlier one is there.

@@ -110,8 +110,8 @@ impl Desk {
 
     fn state(&self) -> String {
         let w = &self.state;
-        let rate = if w[3] == 0 { "a" } else { "k" };
-        let bounds = list32(&[single(w[0]), single(w[1]), single(w[2])], " ");
+        let rate = if w[4] == 0 { "a" } else { "k" };
+        let bounds = list32(&[single(w[1]), single(w[2]), single(w[3])], " ");
         let time = |flag: u64, bits: u64| {
             if flag == 0 {
                 "-".to_string()
@@ -119,14 +119,19 @@ impl Desk {
                 hex64(f64::from_bits(bits))
             }
         };
-        let last = if w[7] == 0 {
+        let block = if w[6] == 0 {
             "-".to_string()
         } else {
-            format!("{}:{}", time(1, w[8]), hex32(single(w[9])))
+            format!("{}:{}", time(1, w[7]), time(w[8], w[9]))
+        };
+        let last = if w[10] == 0 {
+            "-".to_string()
+        } else {
+            format!("{}:{}", time(1, w[11]), hex32(single(w[12])))
         };
         let mut from = 0;
         let mut events = String::new();
-        for e in w[11..].chunks(6).take(w[10] as usize) {
+        for e in w[14..].chunks(6).take(w[13] as usize) {
             let (value, at, other) = (hex32(single(e[1])), time(1, e[2]), time(1, e[3]));
             let hold = time(e[4], e[5]);
             events += &match e[0] {
@@ -145,10 +150,9 @@ impl Desk {
         let zeros = self.store[from..raw::STORE].iter().all(|v| v.to_bits() == 0);
         let behind = if zeros { "zeros" } else { "dirty" };
         format!(
-            "state {rate}{bounds} {} {} {last} {}{events} {behind}",
-            hex32(single(w[4])),
-            time(w[5], w[6]),
-            w[10]
+            "state {rate}{bounds} {} {block} {last} {}{events} {behind}",
+            hex32(single(w[5])),
+            w[13]
         )
     }
 }

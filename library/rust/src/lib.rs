@@ -173,6 +173,7 @@ impl AudioParam {
         })
     }
 
+    /// Removes every event at the time or later, and every curve that ends then or later.
     pub fn cancel_scheduled_values(&mut self, cancel_time: f64) -> Result<(), Error> {
         answer(unsafe {
             raw::crackledray_cancel(
@@ -229,19 +230,19 @@ impl AudioParam {
     }
 
     pub fn min_value(&self) -> f32 {
-        f32::from_bits(self.state[0] as u32)
-    }
-
-    pub fn default_value(&self) -> f32 {
         f32::from_bits(self.state[1] as u32)
     }
 
-    pub fn max_value(&self) -> f32 {
+    pub fn default_value(&self) -> f32 {
         f32::from_bits(self.state[2] as u32)
     }
 
+    pub fn max_value(&self) -> f32 {
+        f32::from_bits(self.state[3] as u32)
+    }
+
     pub fn automation_rate(&self) -> AutomationRate {
-        match self.state[3] {
+        match self.state[4] {
             0 => AutomationRate::A,
             _ => AutomationRate::K,
         }
@@ -249,6 +250,6 @@ impl AudioParam {
 
     /// How many events wait.
     pub fn waiting(&self) -> usize {
-        self.state[10] as usize
+        self.state[13] as usize
     }
 }

@@ -1,8 +1,10 @@
 //! The exported functions as they are: ../crackledray.h has the words of each. A slice is a pointer and a length.
 
 /// What crackledray_version() gives where the archive is this one's: major, minor and patch, 8 bits each.
-pub const VERSION: u32 = 0x00_0500;
-pub const STATE: usize = 395;
+pub const VERSION: u32 = 0x00_0600;
+pub const STATE: usize = 398;
+/// The first number of a state: which layout it has.
+pub const STATE_VERSION: u64 = 2;
 pub const STORE: usize = 4096;
 
 extern "C" {

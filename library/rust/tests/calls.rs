@@ -1,4 +1,4 @@
-//! The bench sheet of document 01, every refusal and the version, through the library.
+//! The bench sheet of document 01, cancelled curves (02, C-12), every refusal, the version and the layout, through the library.
 use crackledray::{raw, version, AudioParam, AutomationRate, Block, Error};
 use AutomationRate::{A, K};
 
@@ -68,6 +68,84 @@ fn bench_sheet_k_rate_and_mix() {
     assert_eq!((output, said), ([0.5; 2], Ok(rests)));
 }
 
+/// A step to 2, and a curve from 1 to 6 of which a block has played up to 3; there it is at 4.
+fn running() -> AudioParam {
+    let mut p = with(ten(), |p| {
+        p.set_value_at_time(2.0, 0.0)?;
+        p.set_value_curve_at_time(&[0.0, 10.0], 1.0, 5.0)
+    });
+    assert_eq!(block(&mut p, 0.0, 3), (vec![2.0, 0.0, 2.0], 2));
+    p
+}
+
+#[test]
+fn a_cancel_takes_a_running_curve() {
+    for time in [0.0, 1.0, 3.0, 6.0] {
+        let mut p = with(running(), |p| p.cancel_scheduled_values(time));
+        assert_eq!(p.waiting(), 0, "cancelled at {time}");
+        assert_eq!(block(&mut p, 3.0, 4), (vec![2.0; 4], 1), "cancelled at {time}");
+    }
+}
+
+#[test]
+fn a_cancel_behind_a_curve_leaves_it() {
+    let mut p = with(running(), |p| p.cancel_scheduled_values(6.0f64.next_up()));
+    assert_eq!(block(&mut p, 3.0, 5), (vec![4.0, 6.0, 8.0, 10.0, 10.0], 2));
+}
+
+#[test]
+fn a_held_curve_ends_at_its_hold_time() {
+    let held = with(running(), |p| p.cancel_and_hold_at_time(4.0));
+    let mut left = with(held.clone(), |p| p.cancel_scheduled_values(4.0f64.next_up()));
+    assert_eq!(block(&mut left, 3.0, 4), (vec![4.0, 6.0, 6.0, 6.0], 2));
+    let mut taken = with(held, |p| p.cancel_scheduled_values(4.0));
+    assert_eq!(block(&mut taken, 3.0, 4), (vec![2.0; 4], 1));
+}
+
+/// A hold at its very start holds it there, at 0.
+#[test]
+fn a_hold_before_a_running_curve_takes_it() {
+    let mut taken = with(running(), |p| p.cancel_and_hold_at_time(1.0f64.next_down()));
+    assert_eq!(block(&mut taken, 3.0, 4), (vec![2.0; 4], 1));
+    let mut held = with(running(), |p| p.cancel_and_hold_at_time(1.0));
+    assert_eq!(block(&mut held, 3.0, 4), (vec![0.0; 4], 2));
+}
+
+/// A ramp has played up to 4, where the next block begins; then a curve goes ahead of it, and is cancelled with it.
+#[test]
+fn the_value_returns_where_the_curve_had_started() {
+    for (start, level) in [(3.0, 0.0), (4.0, 0.0), (4.0f64.next_up(), 4.0)] {
+        let mut p = with(ten(), |p| {
+            p.set_value_at_time(0.0, 0.0)?;
+            p.linear_ramp_to_value_at_time(8.0, 8.0)
+        });
+        assert_eq!(block(&mut p, 0.0, 4), (vec![0.0, 1.0, 2.0, 3.0], 2));
+        p.set_value_curve_at_time(&[5.0, 6.0], start, 1.0).unwrap();
+        p.cancel_scheduled_values(0.0).unwrap();
+        assert_eq!(block(&mut p, 4.0, 4), (vec![level; 4], 1), "a curve from {start}");
+    }
+}
+
+/// No event is finished that the value could return to.
+#[test]
+fn without_a_last_event_the_value_stays() {
+    let mut p = with(ten(), |p| p.set_value_curve_at_time(&[0.0, 10.0], 0.0, 5.0));
+    assert_eq!(block(&mut p, 0.0, 3), (vec![0.0, 2.0, 4.0], 1));
+    p.cancel_scheduled_values(3.0).unwrap();
+    assert_eq!(block(&mut p, 3.0, 4), (vec![6.0; 4], 1));
+}
+
+/// A set has gone ahead of it; the current value is the one before the block.
+#[test]
+fn behind_another_event_a_curve_leaves_the_value() {
+    let mut p = with(running(), |p| {
+        p.set_value(9.0)?;
+        p.cancel_scheduled_values(3.0)
+    });
+    assert_eq!(p.waiting(), 1);
+    assert_eq!(p.process(3.0, 1.0, 1, &[], &mut [0.0]).unwrap().current, 4.0);
+}
+
 #[test]
 fn what_a_parameter_says() {
     let mut p = AudioParam::new(-1.0, 0.5, 2.0, K).unwrap();
@@ -120,4 +198,15 @@ fn one_version_everywhere() {
     assert_eq!(named(header, "#define CRACKLEDRAY_VERSION "), format!("0x{:06x}u", raw::VERSION));
     let [_, major, minor, patch] = raw::VERSION.to_be_bytes();
     assert_eq!(named(cargo, "version ="), format!("\"{major}.{minor}.{patch}\""));
+}
+
+#[test]
+fn one_layout_everywhere() {
+    let header = include_str!("../../crackledray.h");
+    let says = |name: &str, number: u64| header.contains(&format!("    {name} = {number}, "));
+    assert!(says("CRACKLEDRAY_STATE", raw::STATE as u64));
+    assert!(says("CRACKLEDRAY_STATE_VERSION", raw::STATE_VERSION));
+    let mut state = [0; raw::STATE];
+    let n = unsafe { raw::crackledray_make(state.as_mut_ptr(), raw::STATE, 0.0, 0.0, 1.0, false) };
+    assert_eq!((n, state[0]), (0, raw::STATE_VERSION));
 }

@@ -123,15 +123,24 @@ fn with(words: &[(usize, u64)]) -> Vec<u64> {
 
 /// The good state in which these wait.
 fn waiting(events: &[[u64; 6]]) -> Vec<u64> {
-    let mut state = with(&[(10, events.len() as u64)]);
-    state[11..11 + 6 * events.len()].copy_from_slice(&events.concat());
+    let mut state = with(&[(13, events.len() as u64)]);
+    state[14..14 + 6 * events.len()].copy_from_slice(&events.concat());
     state
 }
 
-/// The same after a block at 0 was answered.
-fn played(mut state: Vec<u64>) -> Vec<u64> {
-    state[5..7].copy_from_slice(&[1, 0]);
+/// The same after a block at the time was answered, with this end.
+fn ended(mut state: Vec<u64>, time: f64, end: f64) -> Vec<u64> {
+    state[6..10].copy_from_slice(&[1, time.to_bits(), 1, end.to_bits()]);
     state
+}
+
+fn played(state: Vec<u64>) -> Vec<u64> {
+    ended(state, 0.0, 1.0)
+}
+
+/// The same as 0.5.0 had it: 395 numbers, without version and end.
+fn before(state: &[u64]) -> Vec<u64> {
+    [&state[1..8], &state[10..]].concat()
 }
 
 fn single(value: f32) -> u64 {
@@ -166,10 +175,15 @@ fn held(event: [u64; 6], time: f64) -> [u64; 6] {
 fn good_by_hand() -> Vec<Named> {
     vec![
         ("nothing waits", good()),
-        ("K-rate", with(&[(3, 1)])),
+        ("K-rate", with(&[(4, 1)])),
+        ("bounds of 0", with(&[(1, 0), (3, 0)])),
         ("a last block", played(good())),
-        ("a last event", with(&[(7, 1), (8, 1.0f64.to_bits()), (9, 0)])),
-        ("a NaN intrinsic value", with(&[(4, single(f32::NAN))])),
+        ("a last block of no length", ended(good(), 2.0, 2.0)),
+        ("a last block of no length at 0", ended(good(), 0.0, 0.0)),
+        ("a last block that ends at infinity", ended(good(), 2.0, INFINITY)),
+        ("no last block: its times are not read", with(&[(7, NAN.to_bits()), (9, NAN.to_bits())])),
+        ("a last event", with(&[(10, 1), (11, 1.0f64.to_bits()), (12, 0)])),
+        ("a NaN intrinsic value", with(&[(5, single(f32::NAN))])),
         ("a step", waiting(&[step(5.0, 3.0)])),
         ("a step at infinity", played(waiting(&[step(5.0, INFINITY)]))),
         ("a linear ramp", waiting(&[linear(5.0, 3.0)])),
@@ -193,24 +207,59 @@ fn good_by_hand() -> Vec<Named> {
 }
 
 fn bad_heads() -> Vec<Named> {
-    let block = |time: f64| with(&[(5, 1), (6, time.to_bits())]);
     vec![
         ("no numbers", vec![]),
-        ("394 numbers", good()[..394].to_vec()),
-        ("396 numbers", [good(), vec![0]].concat()),
-        ("a minimum above the default", with(&[(0, single(11.0))])),
-        ("an infinite minimum", with(&[(0, single(f32::NEG_INFINITY))])),
-        ("a maximum of NaN", with(&[(2, single(f32::NAN))])),
-        ("rate word 2", with(&[(3, 2)])),
-        ("rate word 77", with(&[(3, 77)])),
-        ("rate word 2^32", with(&[(3, 1 << 32)])),
-        ("a last block at NaN", block(NAN)),
-        ("a last block at -5", block(-5.0)),
-        ("a last block at -0", block(-0.0)),
-        ("a last block at infinity", block(INFINITY)),
-        ("a last event at NaN", with(&[(7, 1), (8, NAN.to_bits()), (9, 0)])),
-        ("65 events", with(&[(10, 65)])),
-        ("2^64 - 1 events", with(&[(10, u64::MAX)])),
+        ("397 numbers", good()[..397].to_vec()),
+        ("399 numbers", [good(), vec![0]].concat()),
+        ("a minimum above the default", with(&[(1, single(11.0))])),
+        ("an infinite minimum", with(&[(1, single(f32::NEG_INFINITY))])),
+        ("a maximum of NaN", with(&[(3, single(f32::NAN))])),
+        ("rate word 2", with(&[(4, 2)])),
+        ("rate word 77", with(&[(4, 77)])),
+        ("rate word 2^32", with(&[(4, 1 << 32)])),
+        ("a last event at NaN", with(&[(10, 1), (11, NAN.to_bits()), (12, 0)])),
+        ("65 events", with(&[(13, 65)])),
+        ("2^64 - 1 events", with(&[(13, u64::MAX)])),
+    ]
+}
+
+/// 0.5.0's of the bounds -10, 0 and 0, in a longer array, would be one of bounds of 0: there the version alone is bad. One of a
+/// minimum of 2^-148 has the version, and a maximum below its minimum.
+fn bad_versions() -> Vec<Named> {
+    let low = [vec![single(-10.0)], vec![0; 394]].concat();
+    let tiny = [vec![2, 2, 2, 1, 2], vec![0; 390]].concat();
+    vec![
+        ("version 0", with(&[(0, 0)])),
+        ("version 1", with(&[(0, 1)])),
+        ("version 3", with(&[(0, 3)])),
+        ("version 2^32 + 2", with(&[(0, (1 << 32) + 2)])),
+        ("zeros", vec![0; raw::STATE]),
+        ("0.5.0's", before(&good())),
+        ("0.5.0's, 398 numbers", [before(&good()), vec![0; 3]].concat()),
+        ("0.5.0's with a block and an event", before(&played(waiting(&[step(5.0, 3.0)])))),
+        ("0.5.0's of a maximum of 0", low.clone()),
+        ("0.5.0's of a maximum of 0, 398 numbers", [low, vec![0; 3]].concat()),
+        ("0.5.0's of a minimum of 2^-148", tiny.clone()),
+        ("0.5.0's of a minimum of 2^-148, 398 numbers", [tiny, vec![0; 3]].concat()),
+    ]
+}
+
+/// An end is that of its block. Where the time is bad, the end is one for every time.
+fn bad_blocks() -> Vec<Named> {
+    let four = 4.0f64.to_bits();
+    vec![
+        ("a last block at NaN", ended(good(), NAN, INFINITY)),
+        ("a last block at -5", ended(good(), -5.0, INFINITY)),
+        ("a last block at -0", ended(good(), -0.0, INFINITY)),
+        ("a last block at infinity", ended(good(), INFINITY, INFINITY)),
+        ("a last block without an end", with(&[(6, 1), (7, four), (9, four)])),
+        ("an end without a last block", with(&[(7, four), (8, 1), (9, four)])),
+        ("an end before its block", ended(good(), 4.0, 3.0)),
+        ("an end just before its block", ended(good(), 4.0, 4.0f64.next_down())),
+        ("an end below 0", ended(good(), 0.0, -1.0)),
+        ("an end at -0", ended(good(), 0.0, -0.0)),
+        ("an end at -infinity", ended(good(), 0.0, -INFINITY)),
+        ("an end at NaN", ended(good(), 0.0, NAN)),
     ]
 }
 
@@ -283,7 +332,7 @@ fn told(event: [u64; 6]) -> String {
 
 /// Each bad event waits alone, before and after a first block: what is bad is the event.
 fn bad_states() -> Vec<(String, Vec<u64>)> {
-    let named = [bad_heads(), bad_queues()].concat();
+    let named = [bad_heads(), bad_versions(), bad_blocks(), bad_queues()].concat();
     let mut all: Vec<_> = named.into_iter().map(|(n, s)| (n.to_string(), s)).collect();
     for event in [bad_values(), bad_times(), bad_others()].concat() {
         all.push((told(event), waiting(&[event])));
@@ -337,7 +386,8 @@ fn good_states_are_accepted() {
 #[test]
 fn a_refused_call_leaves_every_word() {
     let mut state = waiting(&[linear(5.0, 3.0)]);
-    for (place, word) in [(0, 7 << 32 | state[0]), (5, 2), (6, 0), (15, 9), (16, 0), (394, 3)] {
+    let flags = [(6, 2), (7, 0), (8, 3), (9, 0), (18, 9), (19, 0)];
+    for (place, word) in [&[(1, 7 << 32 | state[1]), (397, 3)], &flags[..]].concat() {
         state[place] = word;
     }
     for (name, call) in CALLS {
@@ -348,8 +398,8 @@ fn a_refused_call_leaves_every_word() {
     }
     let mut after = lend(&state);
     assert_eq!(CALLS[1].1(&mut after, 6.0, 4.0, 0.0), 0);
-    assert_eq!((after.state[0], after.state[5], after.state[15]), (single(-10.0), 1, 1));
-    assert_eq!(after.state[394], 3);
+    assert_eq!((after.state[1], after.state[397]), (single(-10.0), 3));
+    assert_eq!([6, 8, 18].map(|flag| after.state[flag]), [1; 3]);
 }
 
 /// A target that has arrived becomes a step at the next block's time, here 10^308 + 4 × 10^308.
@@ -358,10 +408,55 @@ fn a_block_leaves_a_step_at_infinity() {
     let mut lent = lend(&good());
     assert_eq!(CALLS[4].1(&mut lent, 5.0, 0.0, 1.0), 0);
     assert_eq!(block_call(&mut lent, 0.0, 1e308, 1e308), 0);
-    assert_eq!(lent.state[10..17], [vec![1], step(5.0, INFINITY).to_vec()].concat());
+    assert_eq!(lent.state, ended(lent.state.clone(), 1e308, INFINITY));
+    assert_eq!(lent.state[13..20], [vec![1], step(5.0, INFINITY).to_vec()].concat());
     for (name, call) in CALLS {
         assert_eq!(call(&mut lent.clone(), 6.0, 1e308, 1e308), 0, "{name}");
     }
+}
+
+/// Its time and four periods; that of the last block, also where one before it reached further.
+#[test]
+fn a_block_leaves_its_end() {
+    let mut lent = lend(&good());
+    for (time, period, end) in [(0.0, 4.0, 16.0), (4.0, 0.5, 6.0)] {
+        assert_eq!(block_call(&mut lent, 0.0, time, period), 0);
+        assert_eq!(lent.state, ended(lent.state.clone(), time, end));
+    }
+}
+
+/// The value, 5 before, where a curve from 3 to 4 is cancelled, and where a hold before it takes it. The last event's is 2.
+fn values_without_curve(mut state: Vec<u64>) -> [f32; 2] {
+    state[5] = single(5.0);
+    state[10..13].copy_from_slice(&[1, 0, single(2.0)]);
+    [(6, 3.5), (7, 2.5)].map(|(i, time)| {
+        let mut after = lend(&state);
+        assert_eq!((CALLS[i].1(&mut after, 0.0, time, 0.0), after.state[13]), (0, 0));
+        f32::from_bits(after.state[5] as u32)
+    })
+}
+
+#[test]
+fn the_end_says_whether_a_curve_had_started() {
+    let curve = || waiting(&[curve(2, 3.0, 1.0)]);
+    assert_eq!(values_without_curve(curve()), [5.0; 2]);
+    assert_eq!(values_without_curve(ended(curve(), 0.0, 3.0f64.next_down())), [5.0; 2]);
+    assert_eq!(values_without_curve(ended(curve(), 0.0, 3.0)), [2.0; 2]);
+    assert_eq!(values_without_curve(ended(curve(), 3.0, INFINITY)), [2.0; 2]);
+}
+
+/// As README.md says how a state of 0.5.0 is moved.
+fn moved(state: &[u64], end: [u64; 2]) -> Vec<u64> {
+    [&[2], &state[..7], &end, &state[7..]].concat()
+}
+
+#[test]
+fn a_state_of_0_5_can_be_moved() {
+    let mut lent = lend(&waiting(&[step(5.0, 3.0)]));
+    assert_eq!(moved(&before(&lent.state), [0, 0]), lent.state);
+    assert_eq!(block_call(&mut lent, 0.0, 0.7, 0.1), 0);
+    let end = 4f64.mul_add(0.1, 0.7);
+    assert_eq!(moved(&before(&lent.state), [1, end.to_bits()]), lent.state);
 }
 
 /// Numbers of Knuth's generator, for choices.
@@ -409,16 +504,19 @@ fn a_store_of_4095_floats_is_refused() {
 
 #[test]
 fn a_bad_length_is_not_made() {
-    let mut state = [3u64; 394];
-    let n = unsafe { raw::crackledray_make(state.as_mut_ptr(), 394, 0.0, 0.0, 1.0, false) };
-    assert_eq!((n, state), (100, [3; 394]));
+    for length in [395, 397, 399] {
+        let mut state = vec![3u64; length];
+        let n = unsafe { raw::crackledray_make(state.as_mut_ptr(), length, 0.0, 0.0, 1.0, false) };
+        assert_eq!((n, state), (100, vec![3; length]));
+    }
 }
 
-/// Refused by 1, a parameter of A-rate with all numbers 0 is written: a state that is accepted.
+/// Refused by 1, a parameter of A-rate with all numbers 0 is written behind the version: a state that is accepted.
 #[test]
 fn bad_bounds_make_a_state_of_zeros() {
     let mut state = vec![3u64; raw::STATE];
     let n = unsafe { raw::crackledray_make(state.as_mut_ptr(), raw::STATE, 1.0, 0.0, 2.0, true) };
-    assert_eq!((n, &state[..11], &state[11..]), (1, &[0; 11][..], &[3; 384][..]));
+    assert_eq!((n, state[0]), (1, raw::STATE_VERSION));
+    assert_eq!((&state[1..14], &state[14..]), (&[0; 13][..], &[3; 384][..]));
     assert_eq!(CALLS[0].1(&mut lend(&state), 5.0, 0.0, 0.0), 0);
 }

@@ -1,23 +1,43 @@
 //! The self-test: faults planted in the port's answers, before the judging.
-//! Six, one for each field that is compared, and two just beyond 01's limits.
+//! Six, one for each field that is compared, and two just beyond 01's limits; and
+//! two that the reference alone can find, where the Rust has nothing to compare.
 
 use crate::shrink::shrunk;
 use crate::sides::{Plant, Played, Sides};
 use comparing::session::Session;
-use comparing::verdict::judge;
+use comparing::verdict::{judge, Verdict};
 use comparing::{out, plain};
 use reference::near::Near;
 use reference::session::Call;
 
-const FAULTS: [(&str, Plant); 8] = [
-    ("a sample's last bit turned", sample),
-    ("the current value's last bit turned", current),
-    ("one-valued turned", one_valued),
-    ("the intrinsic value's last bit turned", intrinsic),
-    ("the last event a moment later", last_event),
-    ("a waiting event left out", waiting),
-    ("a target's sample beyond its limit", beyond_target),
-    ("an exponential's sample beyond its limit", beyond_exponential),
+/// Which comparison must find a fault.
+#[derive(Clone, Copy, PartialEq)]
+enum With {
+    Rust,
+    Reference,
+}
+
+impl With {
+    /// The call at which it finds one.
+    fn finds(self, verdict: &Verdict) -> Option<usize> {
+        match self {
+            With::Rust => verdict.otherwise.as_ref().map(|(i, _)| *i),
+            With::Reference => verdict.not_01,
+        }
+    }
+}
+
+const FAULTS: [(&str, Plant, With); 10] = [
+    ("a sample's last bit turned", sample, With::Rust),
+    ("the current value's last bit turned", current, With::Rust),
+    ("one-valued turned", one_valued, With::Rust),
+    ("the intrinsic value's last bit turned", intrinsic, With::Rust),
+    ("the last event a moment later", last_event, With::Rust),
+    ("a waiting event left out", waiting, With::Rust),
+    ("a target's sample beyond its limit", beyond_target, With::Rust),
+    ("an exponential's sample beyond its limit", beyond_exponential, With::Rust),
+    ("the last block's end a moment later", block_end, With::Reference),
+    ("behind a cancelled curve the value's last bit turned", left, With::Reference),
 ];
 
 /// The words of an answer, and the answer with one of them changed.
@@ -68,6 +88,23 @@ fn last_event(_: &Session, _: usize, answer: &str) -> Option<String> {
     changed(answer, "state", 7, later).filter(|other| other != answer)
 }
 
+fn block_end(_: &Session, _: usize, answer: &str) -> Option<String> {
+    let later = |word: &str| match word.split_once(':') {
+        Some((time, end)) => format!("{time}:{}", turned(end)),
+        None => word.to_string(),
+    };
+    changed(answer, "state", 6, later).filter(|other| other != answer)
+}
+
+/// In the parameter's print right behind a cancel or hold that the Rust answers with
+/// another value or queue, by C-12.
+fn left(session: &Session, i: usize, answer: &str) -> Option<String> {
+    let names = ["cancel-in-curve", "cancelled-curve"];
+    let before = session.claims.get(i.checked_sub(1)?)?;
+    let cancelled = names.iter().any(|name| before.has(name));
+    cancelled.then(|| changed(answer, "state", 5, turned))?
+}
+
 fn waiting(_: &Session, _: usize, answer: &str) -> Option<String> {
     let mut words: Vec<&str> = answer.split(' ').collect();
     let count: usize = words.get(8).filter(|_| words[0] == "state")?.parse().ok()?;
@@ -107,26 +144,26 @@ fn beyond_exponential(session: &Session, i: usize, answer: &str) -> Option<Strin
     beyond(session, i, answer, limit)
 }
 
-/// Plants the fault in one answer of the session (which, turns with `number`)
-/// before its comparison ends. None if there is no answer to plant it in.
-fn found(played: &Played, plant: Plant, number: usize) -> Option<bool> {
+/// Plants the fault in one answer of the session (which, turns with `number`); one that
+/// the Rust shall find, before its comparison ends. None if there is no answer for it.
+fn found(played: &Played, plant: Plant, with: With, number: usize) -> Option<bool> {
     let session = &played.session;
-    let last = session.end().map_or(session.calls.len(), |(i, _)| i);
+    let end = session.end().filter(|_| with == With::Rust);
+    let last = end.map_or(session.calls.len(), |(i, _)| i);
     let fits = |i: &usize| plant(session, *i, &played.ours[*i]).is_some();
     let lines: Vec<usize> = (0..last).filter(fits).collect();
     let line = *lines.get(number % lines.len().max(1))?;
     let mut ours = played.ours.clone();
     ours[line] = plant(session, line, &ours[line])?;
-    let verdict = judge(session, &ours, &played.rust);
-    Some(verdict.otherwise.is_some_and(|(i, _)| i == line))
+    Some(with.finds(&judge(session, &ours, &played.rust)) == Some(line))
 }
 
 /// The fault in every answer that has room for it, shrunk and printed.
-fn print_shrunk(sides: &Sides, plant: Plant, sessions: &[Session]) {
+fn print_shrunk(sides: &Sides, plant: Plant, with: With, sessions: &[Session]) {
     let faulty = Sides { fault: Some(plant), ..sides.clone() };
-    let shows = |p: &Played| p.verdict.otherwise.is_some();
+    let shows = |p: &Played| with.finds(&p.verdict).is_some();
     let Some(first) = faulty.play(sessions.to_vec()).into_iter().find(shows) else { return };
-    let Played { session, ours, rust, .. } = shrunk(&faulty, first, |v| v.otherwise.is_some());
+    let Played { session, ours, rust, .. } = shrunk(&faulty, first, |v| with.finds(v).is_some());
     let text = plain::session(&session.calls, "the port", &ours, &rust);
     text.lines().for_each(|line| out::print(&format!("    {line}\n")));
 }
@@ -136,18 +173,18 @@ fn print_shrunk(sides: &Sides, plant: Plant, sessions: &[Session]) {
 pub fn self_test(sides: &Sides, sessions: &[Session]) -> bool {
     let played = sides.play(sessions.to_vec());
     let mut all = 0;
-    for (name, plant) in FAULTS {
+    for (name, plant, with) in FAULTS {
         let tries: Vec<bool> =
-            played.iter().enumerate().filter_map(|(i, p)| found(p, plant, i)).collect();
+            played.iter().enumerate().filter_map(|(i, p)| found(p, plant, with, i)).collect();
         let hits = tries.iter().filter(|hit| **hit).count();
         let good = hits > 0 && hits == tries.len();
         all += usize::from(good);
         let word = if good { "found" } else { "NOT FOUND" };
         let planted = tries.len();
         out::print(&format!("{word}: {name} (planted in {planted} sessions, found in {hits})\n"));
-        print_shrunk(sides, plant, sessions);
+        print_shrunk(sides, plant, with, sessions);
     }
     let faults = FAULTS.len();
-    out::print(&format!("{all} of {faults} faults came out as differed otherwise\n"));
+    out::print(&format!("{all} of {faults} faults were found\n"));
     all == FAULTS.len()
 }

@@ -7,7 +7,7 @@ use reference::session::{Block, Call};
 
 /// Takes the first smaller session of each round, until none is left. All of
 /// a round are played in one go.
-pub fn shrunk(sides: &Sides, from: Played, wanted: fn(&Verdict) -> bool) -> Played {
+pub fn shrunk(sides: &Sides, from: Played, wanted: impl Fn(&Verdict) -> bool) -> Played {
     let mut best = from;
     loop {
         let title = &best.session.title;

@@ -1,6 +1,6 @@
 //! Two answers to one call, field by field: equal, different under a name that
 //! the calls claimed, or different otherwise. Fields that the Rust has not
-//! (steps, block time, store, the output's rest) are not looked at.
+//! (steps, the last block's time and end, store, the output's rest) are not looked at.
 
 use reference::claims::Claims;
 use reference::near::Near;

@@ -210,6 +210,9 @@ impl<'a> Plan<'a> {
         if self.wild() && self.draw.percent(5) {
             self.in_curve();
         }
+        if self.wild() && self.draw.percent(8) {
+            self.cancelled_curve();
+        }
     }
 
     /// Often a step where a target starts, or just before a curve (at its start it
@@ -270,6 +273,64 @@ impl<'a> Plan<'a> {
             };
             self.put(call);
         }
+    }
+
+    /// A curve that begins at the last block's end, a moment beside it, before or after;
+    /// now and then held, or with a set ahead of it; then it is cancelled. With a block
+    /// between, or without.
+    fn cancelled_curve(&mut self) {
+        if self.draw.percent(70) {
+            self.put(Call::Cancel(0.)); // so that the curve is taken, and the head
+        }
+        let plays = self.draw.percent(60);
+        let ahead = if plays { self.count as f64 } else { 0. };
+        let edge = ahead.mul_add(self.period, self.now);
+        let some = self.draw.fraction() * self.count as f64 * self.period;
+        let sides = [edge, edge.next_up(), edge.next_down(), edge - some, edge + some];
+        let start = self.draw.pick(&sides).max(0.);
+        let length = self.length() + self.period;
+        let numbers = (0..2 + self.draw.below(4)).map(|_| self.value()).collect();
+        let curve = Call::Curve(start, length, numbers);
+        self.lead_in(&curve);
+        self.put(curve);
+        if plays {
+            self.block_and_back();
+        }
+        let within = self.draw.fraction().mul_add(length, start);
+        let held = self.draw.percent(25);
+        if held {
+            self.put(Call::Hold(within));
+        }
+        if self.draw.percent(10) {
+            let set = Call::Set(self.value());
+            self.put(set);
+        }
+        self.cancel_around(start, if held { within } else { start + length });
+        self.put(Call::State);
+    }
+
+    /// A block, and now and then a short one from the same time on, which ends earlier.
+    fn block_and_back(&mut self) {
+        let (time, period) = (self.now, self.period);
+        self.block();
+        if self.draw.percent(20) {
+            self.put(Call::Block(Block { time, period, count: 1, out: 1, input: Vec::new() }));
+        }
+    }
+
+    /// A cancel at or beside the ends of a curve, or a hold before it.
+    fn cancel_around(&mut self, start: f64, end: f64) {
+        let before = self.draw.pick(&[0., start / 2., start.next_down().max(0.)]);
+        let within = self.draw.fraction().mul_add(end - start, start);
+        let ends = [start, start.next_up(), end, end.next_up(), end.next_down()];
+        let time = self.draw.pick(&ends);
+        let call = match self.draw.below(8) {
+            0..=1 => Call::Hold(before),
+            2 => Call::Cancel(before),
+            3..=4 => Call::Cancel(within),
+            _ => Call::Cancel(time),
+        };
+        self.put(call);
     }
 
     fn remember(&mut self, call: &Call) {

@@ -17,7 +17,8 @@ pub struct Reference {
     max: f32,
     intrinsic: Value,
     queue: Vec<Event>,
-    block_time: Option<f64>,
+    /// Time and end of the last answered block; its end is its next block time.
+    played: Option<(f64, f64)>,
     last: Option<(f64, Value)>,
     store: Vec<f32>,
     lent: usize,
@@ -54,7 +55,7 @@ impl Reference {
             max: 0.,
             intrinsic: Value::same(0.),
             queue: Vec::new(),
-            block_time: None,
+            played: None,
             last: None,
             store: vec![0.; 8192],
             lent: STORE,
@@ -216,10 +217,12 @@ impl Reference {
         let refused = refusal(&rows);
         if refused.is_none() {
             self.read_store();
-            if cancel(&mut self.queue, c, &mut self.claims) {
+            let gone = cancel(&mut self.queue, c, &mut self.claims);
+            if gone.as_ref().is_some_and(Event::is_ramp) {
                 self.claims.note(Reach::Ends, "no-last-event", self.last.is_none());
                 self.intrinsic = self.last.map_or(self.intrinsic, |(_, v)| v);
             }
+            self.leave_curve(gone);
             self.pack_store();
         }
         self.refuse(refused)
@@ -231,10 +234,26 @@ impl Reference {
         if refused.is_none() {
             self.claims.note(Reach::Ends, "minus-zero-time", is_minus_zero(c));
             self.read_store();
-            hold(&mut self.queue, plus_zero(c), &mut self.claims);
+            let gone = hold(&mut self.queue, plus_zero(c), &mut self.claims);
+            self.leave_curve(gone);
             self.pack_store();
         }
         self.refuse(refused)
+    }
+
+    /// "If a curve removed by any cancel was the head and had started by the last
+    /// answered block's end .. the intrinsic value returns to the last event's value, if
+    /// there is one" (02, C-12). In param.rs it stays. Where it is that value already, it
+    /// stays with us too, as near to the Rust's as it was.
+    fn leave_curve(&mut self, head: Option<Event>) {
+        let end = self.played.map(|(_, end)| end);
+        let ran = |e: &Event| e.is_curve() && end.is_some_and(|end| e.time <= end);
+        let Some((_, back)) = self.last.filter(|_| head.as_ref().is_some_and(ran)) else { return };
+        if hex32(back.value) != hex32(self.intrinsic.value) {
+            let stays = self.claims.has("cancel-in-curve");
+            self.claims.note(Reach::Ends, "cancelled-curve", !stays);
+            self.intrinsic = back;
+        }
     }
 
     fn lend(&mut self, n: usize) -> Option<u8> {
@@ -288,7 +307,7 @@ impl Reference {
         let fits = b.input.is_empty() || b.input.len() as u64 == b.count;
         let lengths = b.count < 1 || b.count > 128 || (b.out as u64) < b.count || !fits;
         let numbers = not_finite(&[time, b.period]) || time < 0. || b.period <= 0.;
-        let back = self.block_time.is_some_and(|last| time < last);
+        let back = self.played.is_some_and(|(last, _)| time < last);
         let rows = [(9, lengths || numbers), (10, back), (14, self.lent != STORE)];
         let refused = refusal(&rows)?;
         self.claims.note(Reach::Part, "refused", lengths);
@@ -316,7 +335,7 @@ impl Reference {
         let samples = self.mix(&values, &b.input, count);
         self.claims.current = near;
         self.claim_nears();
-        self.block_time = Some(time);
+        self.played = Some((time, next));
         self.pack_store();
         let current = mixed(before + 0., self.min, self.default, self.max);
         let text = list32(&samples, " ");
@@ -379,7 +398,8 @@ impl Reference {
         let zeros = seen.store[packed..STORE].iter().all(|v| v.to_bits() == 0);
         let rate = if self.a_rate { "a" } else { "k" };
         let bounds = list32(&[self.min, self.default, self.max], " ");
-        let block = self.block_time.map_or("-".to_string(), hex64);
+        let times = |(t, end): (f64, f64)| format!("{}:{}", hex64(t), hex64(end));
+        let block = self.played.map_or("-".to_string(), times);
         let pair = |(t, v): (f64, Value)| format!("{}:{}", hex64(t), hex32(v.value));
         let last = self.last.map_or("-".to_string(), pair);
         let events: String = seen.queue.iter().map(|e| format!(" {}", event(e))).collect();

@@ -1,6 +1,6 @@
 //! The waiting events: arriving, cancel, cancel-and-hold (01, "Events as they
-//! arrive"; 02, C-14 and C-15), with the claims of what param.rs does differently
-//! there.
+//! arrive"; 02, C-12, C-14 and C-15), with the claims of what param.rs does
+//! differently there.
 
 use crate::claims::{Claims, Reach};
 
@@ -42,6 +42,10 @@ impl Event {
         matches!(self.kind, Kind::Linear | Kind::Exponential)
     }
 
+    pub fn is_curve(&self) -> bool {
+        matches!(self.kind, Kind::Curve { .. })
+    }
+
     /// The time it is filed under: "A held ramp must be filed under its hold time",
     /// all else under its own. "The order of the queue is by that. Cancel, hold, ..
     /// and the target's look at the next event read this time" (02, C-15).
@@ -71,6 +75,14 @@ impl Event {
     /// Whether a time lies in its span, "from its start up to but without its end".
     fn spans(&self, time: f64) -> bool {
         self.span().is_some_and(|(start, end)| start <= time && time < end)
+    }
+
+    /// Whether a cancel at c leaves it. What is filed at or after c goes; "a curve also
+    /// goes if the cancel time is at or before start plus duration, or its hold time if
+    /// it has one" (02, C-12).
+    fn outlives(&self, c: f64) -> bool {
+        let reaches = self.span().is_some_and(|(_, end)| c <= end);
+        self.filed() < c && !reaches
     }
 }
 
@@ -117,15 +129,16 @@ pub fn claim_arrival(queue: &[Event], event: &Event, no_last: bool, claims: &mut
     claims.note(Reach::Ends, "implicit-step", first);
 }
 
-/// Removes every event at or after c; true if the head was a ramp and went.
-pub fn cancel(queue: &mut Vec<Event>, c: f64, claims: &mut Claims) -> bool {
-    let stays = |e: &Event| e.filed() < c;
-    let rust_stays = |e: &Event| e.own() < c;
-    let other = queue.iter().any(|e| stays(e) != rust_stays(e));
-    claims.note(Reach::Ends, "held-ramp", other);
-    let ramp_went = queue.first().is_some_and(|e| e.is_ramp() && !stays(e));
-    queue.retain(stays);
-    ramp_went
+/// Removes what a cancel at c does not leave; the head, if it went. param.rs goes by an
+/// event's own time alone: it leaves a curve that began before c.
+pub fn cancel(queue: &mut Vec<Event>, c: f64, claims: &mut Claims) -> Option<Event> {
+    let other = |e: &&Event| e.outlives(c) != (e.own() < c);
+    let (ramp, rest): (Vec<_>, Vec<_>) = queue.iter().filter(other).partition(|e| e.is_ramp());
+    claims.note(Reach::Ends, "held-ramp", !ramp.is_empty());
+    claims.note(Reach::Ends, "cancel-in-curve", !rest.is_empty());
+    let gone = queue.first().filter(|e| !e.outlives(c)).cloned();
+    queue.retain(|e| e.outlives(c));
+    gone
 }
 
 /// The event that a hold at c is for, by 01. But "at or after a waiting curve's start
@@ -148,17 +161,19 @@ fn held_place(queue: &[Event], c: f64, filing: Filing) -> Option<usize> {
 }
 
 /// An existing hold time only moves earlier. The ramp just held is filed under
-/// c from then on: it is not among the later events, which go.
-pub fn hold(queue: &mut Vec<Event>, c: f64, claims: &mut Claims) {
+/// c from then on: it is not among the later events, which go. The head, if it went.
+pub fn hold(queue: &mut Vec<Event>, c: f64, claims: &mut Claims) -> Option<Event> {
     let before = queue.clone();
     if let Some(i) = held_place(queue, c, Event::filed) {
         let earlier = queue[i].hold.map_or(c, |h| h.min(c));
         queue[i].hold = Some(earlier);
     }
+    let gone = queue.first().filter(|e| e.filed() > c).cloned();
     queue.retain(|e| e.filed() <= c);
     if *queue != rust_hold(&before, c) {
         claim_hold(&before, c, claims);
     }
+    gone
 }
 
 /// The event that param.rs marks: it takes no later event at the largest f64,

@@ -5,15 +5,6 @@ use Rattle.answers.specs.Answers.{stateText}
 use borrow.Author.Needs.{needs}
 use Rattle.answers.proofs.put_state.Statement.{statement}
 use Rattle.answers.proofs.put_state.Tie as tie
-use Rattle.answers.proofs.put_state.Reads as reads
-use Rattle.answers.proofs.put_state.Lts as lts
-use Rattle.answers.proofs.put_bounds.Reads as put-bounds-reads
-use Rattle.answers.proofs.put_count_behind.Reads as put-count-behind-reads
-use Rattle.answers.proofs.put_last.Reads as put-last-reads
-use Rattle.answers.proofs.put_rate.Reads as put-rate-reads
-use Rattle.answers.proofs.put_single_behind.Reads as put-single-behind-reads
-use Rattle.answers.proofs.put_time_behind.Reads as put-time-behind-reads
-use Rattle.text.proofs.write.put_word.Reads as put-word-reads
 
 slice-aggregate-put-word : tie.Need-slice-aggregate-put-word
 slice-aggregate-put-word c = search needs
@@ -30,8 +21,8 @@ put-bounds-requires c κs = search needs
 put-single-behind-requires : tie.Need-put-single-behind-requires
 put-single-behind-requires c κs = search needs
 
-put-time-behind-requires : tie.Need-put-time-behind-requires
-put-time-behind-requires c κs = search needs
+put-span-requires : tie.Need-put-span-requires
+put-span-requires c κs = search needs
 
 put-last-requires : tie.Need-put-last-requires
 put-last-requires c κs = search needs
@@ -45,7 +36,7 @@ same-length c = search needs
 returns : tie.Need-returns
 unfolding stateText
 returns c = (
-  put-then (c .before .before .before .before .before .before .before .before .before .before .before .before .before .before .before .before .before .before .before .before .before .before .before .before .before .before .put-word .ensures) (put-then (c .before .before .before .before .before .before .before .before .before .before .before .before .before .before .before .before .before .before .before .before .before .before .put-rate .ensures .0) (put-then (c .before .before .before .before .before .before .before .before .before .before .before .before .before .before .before .before .before .before .put-bounds .ensures .0) (put-then (c .before .before .before .before .before .before .before .before .before .before .before .before .before .before .put-single-behind .ensures .0) (put-then (c .before .before .before .before .before .before .before .before .before .before .put-time-behind .ensures .0) (put-then (c .before .before .before .before .before .before .put-last .ensures .0) (c .before .before .put-count-behind .ensures .0) (omega arith)) (omega arith)) (omega arith)) (omega arith)) (omega arith)) (omega arith),
+  put-then (c .before .before .before .before .before .before .before .before .before .before .before .before .before .before .before .before .before .before .before .before .before .before .before .before .before .before .put-word .ensures) (put-then (c .before .before .before .before .before .before .before .before .before .before .before .before .before .before .before .before .before .before .before .before .before .before .put-rate .ensures .0) (put-then (c .before .before .before .before .before .before .before .before .before .before .before .before .before .before .before .before .before .before .put-bounds .ensures .0) (put-then (c .before .before .before .before .before .before .before .before .before .before .before .before .before .before .put-single-behind .ensures .0) (put-then (c .before .before .before .before .before .before .before .before .before .before .put-span .ensures .0) (put-then (c .before .before .before .before .before .before .put-last .ensures .0) (c .before .before .put-count-behind .ensures .0) (omega arith)) (omega arith)) (omega arith)) (omega arith)) (omega arith)) (omega arith),
   omega arith,
 )
 
@@ -58,7 +49,7 @@ put-state-spec =
     put-rate-requires
     put-bounds-requires
     put-single-behind-requires
-    put-time-behind-requires
+    put-span-requires
     put-last-requires
     put-count-behind-requires
     same-length

@@ -21,6 +21,7 @@ use Rattle.param.proofs.AudioParam.automation_rate.Reads as automation-rate-rea
 use Rattle.param.proofs.AudioParam.bounds.Reads as bounds-reads
 use Rattle.param.proofs.AudioParam.intrinsic_value.Reads as intrinsic-value-reads
 use Rattle.param.proofs.AudioParam.last_block_time.Reads as last-block-time-reads
+use Rattle.param.proofs.AudioParam.last_block_end.Reads as last-block-end-reads
 use Rattle.param.proofs.AudioParam.last_event.Reads as last-event-reads
 use Rattle.param.proofs.AudioParam.len.Reads as len-reads
 use Rattle.param.proofs.AudioParam.offset_of.Reads as offset-of-reads
@@ -40,6 +41,9 @@ intrinsic-value-requires c κs = search needs
 last-block-time-requires : tie.Need-last-block-time-requires
 last-block-time-requires c κs = search needs
 
+last-block-end-requires : tie.Need-last-block-end-requires
+last-block-end-requires c κs = search needs
+
 last-event-requires : tie.Need-last-event-requires
 last-event-requires c κs = search needs
 
@@ -50,7 +54,7 @@ put-queue-requires : tie.Need-put-queue-requires
 put-queue-requires c κs = search needs
 
 slice-aggregate-is-zeros : tie.Need-slice-aggregate-is-zeros
-slice-aggregate-is-zeros c = sym (length-take-le 4096 (c .before .before .before .before .before .before .before .before .before .before .before .before .before .before .before .before .before .before .before .args .store .now) (subst (λ (n : ℕ). 4096 ≤ n) (sym (c .before .before .before .before .before .before .before .before .before .before .before .before .before .before .before .before .before .before .before .pre .1)) (omega arith)))
+slice-aggregate-is-zeros c = sym (length-take-le 4096 (c .before .before .before .before .before .before .before .before .before .before .before .before .before .before .before .before .before .before .before .before .args .store .now) (subst (λ (n : ℕ). 4096 ≤ n) (sym (c .before .before .before .before .before .before .before .before .before .before .before .before .before .before .before .before .before .before .before .before .pre .1)) (omega arith)))
 
 offset-of-requires : tie.Need-offset-of-requires
 offset-of-requires c κs = search needs
@@ -67,12 +71,12 @@ same-length c = search needs
 returns : tie.Need-returns
 unfolding stating
 returns c =
-    let a = c .before .before .before .before .before .before .before .before .before .before .before .before .before .before .before .before .before .before .before .before .before .before .before .before in
+    let a = c .before .before .before .before .before .before .before .before .before .before .before .before .before .before .before .before .before .before .before .before .before .before .before .before .before in
     said _ _ _ (a .args .desk .lent) _ _ (a .pre .0) refl (a .pre .0 .lent) refl
     (put-same
-    (state-line (paramOf (a .args .desk .param)) (a .args .store .now) (c .before .before .before .before .before .before .before .before .before .before .before .before .before .before .before .before .before .before .automation-rate .ensures) (c .before .before .before .before .before .before .before .before .before .before .before .before .before .before .before .before .before .bounds .ensures) (c .before .before .before .before .before .before .before .before .before .before .before .before .before .before .before .before .intrinsic-value .ensures) (c .before .before .before .before .before .before .before .before .before .before .before .before .before .before .before .last-block-time .ensures) (c .before .before .before .before .before .before .before .before .before .before .before .before .before .before .last-event .ensures) (c .before .before .before .before .before .before .before .before .before .before .before .before .before .before .before .before .before .before .before .before .len .ensures) (c .before .before .before .before .offset-of .ensures) (c .before .before .before .is-zeros .ensures))
-    (put-then (c .before .before .before .before .before .before .before .before .before .before .before .before .before .put-state .ensures .0) (put-then (c .before .before .before .before .before .before .before .before .before .put-queue .ensures .0) (c .before .before .put-zeros .ensures .0) (omega (arith, c .before .before .before .before .before .before .before .before .before .before .before .before .before .before .before .before .before .before .before .before .before .before .before .before .pre .2, c .before .before .before .before .before .before .before .before .before .before .before .before .before .put-state .ensures .1, c .before .before .before .before .before .before .before .before .before .before .before .before .before .put-state .kept .0, c .before .before .before .before .before .before .before .before .before .put-queue .ensures .1))) (omega (arith, c .before .before .before .before .before .before .before .before .before .before .before .before .before .before .before .before .before .before .before .before .before .before .before .before .pre .2, c .before .before .before .before .before .before .before .before .before .before .before .before .before .put-state .ensures .1))))
-    (omega (arith, c .before .before .before .before .before .before .before .before .before .before .before .before .before .before .before .before .before .before .before .before .before .before .before .before .pre .2, c .before .before .before .before .before .before .before .before .before .before .before .before .before .put-state .ensures .1, c .before .before .before .before .before .before .before .before .before .before .before .before .before .put-state .kept .0, c .before .before .before .before .before .before .before .before .before .put-queue .ensures .1, c .before .before .put-zeros .ensures .1))
+    (state-line (paramOf (a .args .desk .param)) (a .args .store .now) (c .before .before .before .before .before .before .before .before .before .before .before .before .before .before .before .before .before .before .before .automation-rate .ensures) (c .before .before .before .before .before .before .before .before .before .before .before .before .before .before .before .before .before .before .bounds .ensures) (c .before .before .before .before .before .before .before .before .before .before .before .before .before .before .before .before .before .intrinsic-value .ensures) (c .before .before .before .before .before .before .before .before .before .before .before .before .before .before .before .before .last-block-time .ensures) (c .before .before .before .before .before .before .before .before .before .before .before .before .before .before .before .last-block-end .ensures) (c .before .before .before .before .before .before .before .before .before .before .before .before .before .before .last-event .ensures) (c .before .before .before .before .before .before .before .before .before .before .before .before .before .before .before .before .before .before .before .before .before .len .ensures) (c .before .before .before .before .offset-of .ensures) (c .before .before .before .is-zeros .ensures))
+    (put-then (c .before .before .before .before .before .before .before .before .before .before .before .before .before .put-state .ensures .0) (put-then (c .before .before .before .before .before .before .before .before .before .put-queue .ensures .0) (c .before .before .put-zeros .ensures .0) (omega (arith, c .before .before .before .before .before .before .before .before .before .before .before .before .before .before .before .before .before .before .before .before .before .before .before .before .before .pre .2, c .before .before .before .before .before .before .before .before .before .before .before .before .before .put-state .ensures .1, c .before .before .before .before .before .before .before .before .before .before .before .before .before .put-state .kept .0, c .before .before .before .before .before .before .before .before .before .put-queue .ensures .1))) (omega (arith, c .before .before .before .before .before .before .before .before .before .before .before .before .before .before .before .before .before .before .before .before .before .before .before .before .before .pre .2, c .before .before .before .before .before .before .before .before .before .before .before .before .before .put-state .ensures .1))))
+    (omega (arith, c .before .before .before .before .before .before .before .before .before .before .before .before .before .before .before .before .before .before .before .before .before .before .before .before .before .pre .2, c .before .before .before .before .before .before .before .before .before .before .before .before .before .put-state .ensures .1, c .before .before .before .before .before .before .before .before .before .before .before .before .before .put-state .kept .0, c .before .before .before .before .before .before .before .before .before .put-queue .ensures .1, c .before .before .put-zeros .ensures .1))
 
 pub state-spec : {M : Type 1} → statement M
 state-spec =
@@ -83,6 +87,7 @@ state-spec =
     bounds-requires
     intrinsic-value-requires
     last-block-time-requires
+    last-block-end-requires
     last-event-requires
     put-state-requires
     put-queue-requires

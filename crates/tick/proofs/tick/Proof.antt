@@ -125,7 +125,7 @@ module _ {M : Type 1} (𝓤 : URA M) (H : Heap 𝓤) (A : Atoms 𝓤) (W : Given
         move ! (4 ∷ []) $ heard ! (Does h w r (ws .1)) (λ e.
         -- *p = r.param, and the answer. [the frame; what r owns; the words' tokens; what is left of them; the cell; the open borrow; obs; auth]
         assigns ! (of-opd ! (part ! 8 1 {d = 8} refl refl refl)) (from ! (hop ! (look-in ! 0 (within ! 1 refl)) (stop !))) (store-raw ! 4 refl (param-lies 𝓤 H A W (r .param) (param-is r is))) $
-        sets ! 0 {v = ticked-val (withoutParam r)} (agg ! (and-then ! (part ! 8 0 {d = 0} refl refl refl) (and-then ! (part ! 8 2 {d = 3152} refl refl refl) (and-then ! (part ! 8 3 {d = 3160} refl refl refl) (and-then ! (part ! 8 4 {d = 3164} refl refl refl) (no-more !)))))) refl
+        sets ! 0 {v = ticked-val (withoutParam r)} (agg ! (and-then ! (part ! 8 0 {d = 0} refl refl refl) (and-then ! (part ! 8 2 {d = 3168} refl refl refl) (and-then ! (part ! 8 3 {d = 3176} refl refl refl) (and-then ! (part ! 8 4 {d = 3180} refl refl refl) (no-more !)))))) refl
         (ticked-lies 𝓤 H A W (withoutParam r) (answer-is r is)) $
         -- the borrow is closed over the new parameter
         owned ! T.the-row (Is T.the-row) (LL.makes T.the-type T′.the-plain 𝓤 H A) (r .param) _ (param-is r is) $ move ! (5 ∷ 0 ∷ 6 ∷ 7 ∷ 8 ∷ []) $

@@ -1,20 +1,22 @@
 -- `cancel_and_hold_at_time` meets its contract. Assumes nothing.
+use mathlib.Core.Bool.{Bool, cond}
 use mathlib.Core.List.{List}
-use mathlib.Core.Path.{_≡_, refl, sym, _∙_}
+use mathlib.Core.Path.{_≡_, refl, sym, ap, _∙_}
 use Prim.Native.Nat.{_≤_}
 use native.Mathlib.Omega.{arith}
 use lib.Ieee.{Float}
 use borrow.Author.Needs.{needs}
 use denote.Ref.{now}
+use Rattle.rules.specs.declared.Head.{Head}
 use Rattle.rules.specs.declared.Verdict.the-variants as Verdict
 use Rattle.rules.specs.Numbers.{storeLength, takenTime}
-use Rattle.rules.specs.Queue.{lengthsOf, attached, held}
+use Rattle.rules.specs.Queue.{lengthsOf, attached, held, losesCurve, returned, valueAfterHold}
 use Rattle.rules.specs.Refusals.{lowest, cancelRows}
 use Rattle.rules.specs.Block.{called}
 use Rattle.laws.proofs.Answers.{refused-called}
 use Rattle.laws.proofs.Rows.{cancel-answered}
 use Rattle.param.specs.Param.{paramOf}
-use Rattle.param.proofs.Calls.{leaves, keeps}
+use Rattle.param.proofs.Calls.{leaves, keeps, head-attached}
 use Rattle.param.proofs.AudioParam.cancel_and_hold_at_time.Statement.{statement}
 use Rattle.param.proofs.AudioParam.cancel_and_hold_at_time.Tie as tie
 
@@ -37,11 +39,20 @@ enum-told c = search needs
 taken-time-requires : tie.Need-taken-time-requires
 taken-time-requires c κs = search needs
 
+peek-requires : tie.Need-peek-requires
+peek-requires c κs = search needs
+
+loses-curve-requires : tie.Need-loses-curve-requires
+loses-curve-requires c κs = search needs
+
+value-after-requires : tie.Need-value-after-requires
+value-after-requires c κs = search needs
+
 hold-requires : tie.Need-hold-requires
 hold-requires c κs =
-    let start = c .before .before .before .before .before .before .before in
+    let start = c .before .before .before .before .before .before .before .before .before .before in
     let r : lengthsOf (paramOf (start .args .self) .queue) ≤ storeLength = start .pre .sound .waiting .room in
-    (start .pre .neat, omega (arith, cancel-answered (lent start) (start .args .cancel-time) (fine (c .before .before .before)) .lent))
+    (start .pre .neat, omega (arith, cancel-answered (lent start) (start .args .cancel-time) (fine (c .before .before .before .before .before .before)) .lent))
 
 answered-requires : tie.Need-answered-requires
 answered-requires c κs = search needs
@@ -53,20 +64,23 @@ same-length : tie.Need-same-length
 same-length c = search needs
 
 returns : tie.Need-returns
-unfolding called
+unfolding called valueAfterHold
 returns c =
-    let start = c .before .before .before .before .before .before .before .before .before .before .before in
+    let start = c .before .before .before .before .before .before .before .before .before .before .before .before .before .before in
+    let answered = c .before .before .before .before .before .before .before .before .before .before in
     let p = start .args .self in
     let time = takenTime (start .args .cancel-time) in
     let ws = attached (paramOf p .queue) (lent start) in
+    let lost = c .before .before .before .before .before .before .loses-curve .ensures ∙ ap (λ (h : Head). losesCurve (c .before .before .before .before .before .before .before .before .before .taken-time .result) (p .end) h) (c .before .before .before .before .before .before .before .peek .ensures ∙ sym (head-attached (paramOf p .queue) (lent start))) in
+    let value = c .before .before .before .before .before .value-after .ensures ∙ ap (λ (b : Bool). cond b (returned (p .last) (p .intrinsic)) (p .intrinsic)) lost in
     leaves
     (start .pre)
     (held time ws)
-    (p .intrinsic)
-    (rw (fine (c .before .before .before .before .before .before .before)))
-    (cancel-answered (lent start) (start .args .cancel-time) (fine (c .before .before .before .before .before .before .before)) .lent)
-    (rw (c .before .before .before .before .before .before .taken-time .ensures) at (c .before .before .before .hold .ensures))
-    (c .answered .ensures)
+    (valueAfterHold time (p .end) ws (p .last) (p .intrinsic))
+    (rw (fine answered))
+    (cancel-answered (lent start) (start .args .cancel-time) (fine answered) .lent)
+    (rw (c .before .before .before .before .before .before .before .before .before .taken-time .ensures) at (c .before .before .before .hold .ensures))
+    (rw (value, c .before .before .before .before .before .before .before .before .before .taken-time .ensures) at (c .answered .ensures))
 
 returns-2 : tie.Need-returns-2
 unfolding called
@@ -83,6 +97,9 @@ cancel-and-hold-at-time-spec =
     cancel-requires
     enum-told
     taken-time-requires
+    peek-requires
+    loses-curve-requires
+    value-after-requires
     hold-requires
     answered-requires
     enum-told-2

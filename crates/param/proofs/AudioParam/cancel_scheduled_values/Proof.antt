@@ -1,14 +1,16 @@
 -- `cancel_scheduled_values` meets its contract. Assumes nothing.
+use mathlib.Core.Bool.{Bool, cond}
 use mathlib.Core.List.{List}
-use mathlib.Core.Path.{_≡_, refl, sym, _∙_}
+use mathlib.Core.Path.{_≡_, refl, sym, ap, _∙_}
 use Prim.Native.Nat.{_≤_}
 use native.Mathlib.Omega.{arith}
 use lib.Ieee.{Float}
 use borrow.Author.Needs.{needs}
 use denote.Ref.{now}
+use Rattle.rules.specs.declared.Head.{Head}
 use Rattle.rules.specs.declared.Verdict.the-variants as Verdict
 use Rattle.rules.specs.Numbers.{storeLength, takenTime}
-use Rattle.rules.specs.Queue.{lengthsOf, attached, cancelled, valueAfterCancel}
+use Rattle.rules.specs.Queue.{lengthsOf, attached, cancelled, losesHead, returned, valueAfterCancel}
 use Rattle.rules.specs.Refusals.{lowest, cancelRows}
 use Rattle.rules.specs.Block.{called}
 use Rattle.laws.proofs.Answers.{refused-called}
@@ -40,14 +42,17 @@ taken-time-requires c κs = search needs
 peek-requires : tie.Need-peek-requires
 peek-requires c κs = search needs
 
-value-after-cancel-requires : tie.Need-value-after-cancel-requires
-value-after-cancel-requires c κs = search needs
+loses-head-requires : tie.Need-loses-head-requires
+loses-head-requires c κs = search needs
+
+value-after-requires : tie.Need-value-after-requires
+value-after-requires c κs = search needs
 
 cancel-requires-2 : tie.Need-cancel-requires-2
 cancel-requires-2 c κs =
-    let start = c .before .before .before .before .before .before .before .before .before in
+    let start = c .before .before .before .before .before .before .before .before .before .before in
     let r : lengthsOf (paramOf (start .args .self) .queue) ≤ storeLength = start .pre .sound .waiting .room in
-    (start .pre .neat, omega (arith, cancel-answered (lent start) (start .args .cancel-time) (fine (c .before .before .before .before .before)) .lent))
+    (start .pre .neat, omega (arith, cancel-answered (lent start) (start .args .cancel-time) (fine (c .before .before .before .before .before .before)) .lent))
 
 answered-requires : tie.Need-answered-requires
 answered-requires c κs = search needs
@@ -59,21 +64,23 @@ same-length : tie.Need-same-length
 same-length c = search needs
 
 returns : tie.Need-returns
-unfolding called
+unfolding called valueAfterCancel
 returns c =
-    let start = c .before .before .before .before .before .before .before .before .before .before .before .before .before in
+    let start = c .before .before .before .before .before .before .before .before .before .before .before .before .before .before in
+    let answered = c .before .before .before .before .before .before .before .before .before .before in
     let p = start .args .self in
     let time = takenTime (start .args .cancel-time) in
     let ws = attached (paramOf p .queue) (lent start) in
-    let value = c .before .before .before .before .before .value-after-cancel .ensures ws (head-attached (paramOf p .queue) (lent start) ∙ sym (c .before .before .before .before .before .before .peek .ensures)) in
+    let lost = c .before .before .before .before .before .before .loses-head .ensures ∙ ap (λ (h : Head). losesHead (c .before .before .before .before .before .before .before .before .before .taken-time .result) (p .end) h) (c .before .before .before .before .before .before .before .peek .ensures ∙ sym (head-attached (paramOf p .queue) (lent start))) in
+    let value = c .before .before .before .before .before .value-after .ensures ∙ ap (λ (b : Bool). cond b (returned (p .last) (p .intrinsic)) (p .intrinsic)) lost in
     leaves
     (start .pre)
     (cancelled time ws)
-    (valueAfterCancel time ws (p .last) (p .intrinsic))
-    (rw (fine (c .before .before .before .before .before .before .before .before .before)))
-    (cancel-answered (lent start) (start .args .cancel-time) (fine (c .before .before .before .before .before .before .before .before .before)) .lent)
-    (rw (c .before .before .before .before .before .before .before .before .taken-time .ensures) at (c .before .before .before .cancel2 .ensures))
-    (rw (value, c .before .before .before .before .before .before .before .before .taken-time .ensures) at (c .answered .ensures))
+    (valueAfterCancel time (p .end) ws (p .last) (p .intrinsic))
+    (rw (fine answered))
+    (cancel-answered (lent start) (start .args .cancel-time) (fine answered) .lent)
+    (rw (c .before .before .before .before .before .before .before .before .before .taken-time .ensures) at (c .before .before .before .cancel2 .ensures))
+    (rw (value, c .before .before .before .before .before .before .before .before .before .taken-time .ensures) at (c .answered .ensures))
 
 returns-2 : tie.Need-returns-2
 unfolding called
@@ -91,7 +98,8 @@ cancel-scheduled-values-spec =
     enum-told
     taken-time-requires
     peek-requires
-    value-after-cancel-requires
+    loses-head-requires
+    value-after-requires
     cancel-requires-2
     answered-requires
     enum-told-2

@@ -9,7 +9,7 @@ use Rattle.param.proofs.AudioParam.from_parts.Statement.{statement}
 use Rattle.param.proofs.AudioParam.from_parts.Tie as tie
 
 abbrev parts : tie.Start → AudioParam
-parts c = let a = c .args in partsOf (a .bounds) (a .rate) (a .intrinsic) (a .timeline) (a .block) (a .last)
+parts c = let a = c .args in partsOf (a .bounds) (a .rate) (a .intrinsic) (a .timeline) (a .block) (a .end) (a .last)
 
 refused-requires : tie.Need-refused-requires
 refused-requires c κs = search needs
@@ -26,8 +26,8 @@ take-requires c κs = search needs
 is-last-clear-requires : tie.Need-is-last-clear-requires
 is-last-clear-requires c κs = search needs
 
-is-taken-if-any-requires : tie.Need-is-taken-if-any-requires
-is-taken-if-any-requires c κs = search needs
+are-block-times-requires : tie.Need-are-block-times-requires
+are-block-times-requires c κs = search needs
 
 are-bounds-requires : tie.Need-are-bounds-requires
 are-bounds-requires c κs = search needs
@@ -44,7 +44,7 @@ returns-2 c =
     (c .before .before .before .before .before .before .has-played .ensures)
     (c .before .before .are-bounds .ensures)
     (c .before .before .before .before .is-last-clear .ensures)
-    (c .before .before .before .is-taken-if-any .ensures)
+    (c .before .before .before .are-block-times .ensures)
     (c .before .if2 .taken)
     refl
 
@@ -57,7 +57,7 @@ returns-3 c =
     (c .before .before .before .before .before .before .has-played .ensures)
     (c .before .before .are-bounds .ensures)
     (c .before .before .before .before .is-last-clear .ensures)
-    (c .before .before .before .is-taken-if-any .ensures)
+    (c .before .before .before .are-block-times .ensures)
     (c .before .if2 .left)
     (c .refused2 .ensures)
 
@@ -70,7 +70,7 @@ from-parts-spec =
     has-played-requires
     take-requires
     is-last-clear-requires
-    is-taken-if-any-requires
+    are-block-times-requires
     are-bounds-requires
     refused-requires-2
     returns-2
