@@ -193,7 +193,7 @@ those-pass test (x ∷ xs) = go (test x) refl (those-pass test xs)
     go true e h = (e, h)
     go false e h = h
 
-those-all : {A : Type 0} (test : A → Bool) (xs : List A) → AllPass test xs → those test xs ≡ xs
+pub those-all : {A : Type 0} (test : A → Bool) (xs : List A) → AllPass test xs → those test xs ≡ xs
 unfolding those
 those-all test [] h = refl
 those-all test (x ∷ xs) h = rw (h .0, those-all test xs (h .1))

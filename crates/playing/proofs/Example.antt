@@ -18,7 +18,7 @@ use Rattle.playing.specs.Demand.{whileTwoWait, behind, resumed, PlayedTh
 use Rattle.playing.proofs.Demand.{demand-3}
 
 -- a parameter just made with a store that holds x everywhere, then these calls
-abbrev start : Float → List Command → State
+abbrev pub start : Float → List Command → State
 start x cs = scheduled (begun (bounds minus10 n0 n10) Rate.A (replicate storeLength x)) cs
 
 -- two places from t on, with silence
@@ -29,7 +29,7 @@ abbrev blocks : List Call
 blocks = block n0 ∷ block n2 ∷ block n4 ∷ []
 
 -- its line names all that is computed here; `results` stands for the rules
-unfoldable outputs : List Answer → List (List Float)
+unfoldable pub outputs : List Answer → List (List Float)
 unfolding results Play.waiting Play.loaded Play.begun Play.asked Play.afterCall Play.scheduled Play.answerTo Play.after Play.afterAll Play.played
     Demand.whileTwoWait Demand.stillShared Demand.resumedWith
 outputs [] = []

@@ -5,4 +5,6 @@ pub mod Resume
 pub mod Schedules
 pub mod Demand
 pub mod Results
+pub mod Cancels
 pub mod Example
+pub mod Bursts

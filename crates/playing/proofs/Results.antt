@@ -4,8 +4,9 @@ use mathlib.Core.List.{List, _∷_, _++_, map}
 use Prim.Native.Nat.{ℕ}
 use lib.ListN.{length, take, drop}
 use lib.Ieee.{Float}
+use Rattle.rules.specs.declared.Verdict.{Verdict}
 use Rattle.rules.specs.Block.{Call, Answer, Command, Called}
-use Rattle.playing.specs.Play.{State, waiting, leftByCall, afterCall, asked, scheduled, leftBy, answerTo, after, played, apart, told}
+use Rattle.playing.specs.Play.{State, waiting, leftByCall, afterCall, asked, scheduled, verdicts, leftBy, answerTo, after, played, apart, told}
 use Rattle.playing.specs.Demand.{behind, resumed, Holds, withStore, PlayedTheSame}
 use Rattle.playing.specs.Results.{Results, none, more, lastLeft}
 use Rattle.playing.proofs.Resume.{played-first}
@@ -13,7 +14,7 @@ use Rattle.playing.proofs.Demand.{first-blocks}
 
 -- `state` is how the rules see what code passes on, and Ok what its contracts require of it
 module _ {X A : Type 0} (state : X → State) (left : A → X) (Ok : X → Type 0) where
-  -- ---- the calls before the first block
+  -- ---- scheduling and cancelling
 
   module _ (called : A → Called) (Meets : X → Command → A → Type 0)
       (leaves : (r : A) → state (left r) ≡ leftByCall (called r))
@@ -26,6 +27,15 @@ module _ {X A : Type 0} (state : X → State) (left : A → X) (Ok : X → Type 
         let s : (called r ≡ asked (state x) c) × Ok (left r) = settles x c r ok m in
         let e : state (left r) ≡ afterCall (state x) c = leaves r ∙ ap leftByCall (s .0) in
         rw e at (results-scheduled (s .1) rest)
+
+    -- and say what the rules say
+    pub results-verdicts : {x : X} {cs : List Command} {rs : List A} → Ok x → Results left Meets x cs rs → map (λ r. called r .verdict) rs ≡ verdicts (state x) cs
+    unfolding verdicts afterCall
+    results-verdicts ok none = refl
+    results-verdicts {x} ok (more {c} {r} m rest) =
+        let s : (called r ≡ asked (state x) c) × Ok (left r) = settles x c r ok m in
+        let e : state (left r) ≡ afterCall (state x) c = leaves r ∙ ap leftByCall (s .0) in
+        ap₂ (λ (v : Verdict) (vs : List Verdict). v ∷ vs) (ap (λ (a : Called). a .verdict) (s .0)) (rw e at (results-verdicts (s .1) rest))
 
   -- ---- blocks
 

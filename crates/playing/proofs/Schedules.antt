@@ -80,6 +80,18 @@ module _ (s : State) where
   call-refused (lent Verdict.Answered ws i fit stays) r h = never h
   call-refused (lent (Verdict.Refused q) ws i fit stays) r h = refl
 
+-- ---- a call at any time
+
+pub call-sound : (s : State) → SoundState s → (c : Command) → SoundState (afterCall s c)
+unfolding afterCall asked
+call-sound s h c =
+    let sound : Sound (asked s c .param) = called-sound (s .param) (s .store) (h .sound) c in
+    record { sound = sound; long = call-long s (asked-shape s c) h (sound .waiting .room) }
+
+pub refused-call : (s : State) (c : Command) (r : Refusal) → asked s c .verdict ≡ Verdict.Refused r → afterCall s c ≡ s
+unfolding afterCall
+refused-call s c r h = call-refused s (asked-shape s c) r h
+
 -- ---- schedules
 
 -- the parameter p but for the events that wait
@@ -90,12 +102,7 @@ pub record Ready (p : Param) (s : State) : Type 0 where
 call-ready : (p : Param) (s : State) → p .last ≡ LastEvent.None → Ready p s → (c : Command) → Ready p (afterCall s c)
 unfolding afterCall asked
 call-ready p s none r c =
-    let a : Shape s (asked s c) = asked-shape s c in
-    let sound : Sound (asked s c .param) = called-sound (s .param) (s .store) (r .sound .sound) c in
-    record {
-      same = call-same s a (ap (λ (q : Param). q .last) (r .same) ∙ none) ∙ r .same;
-      sound = record { sound = sound; long = call-long s a (r .sound) (sound .waiting .room) };
-    }
+    record { same = call-same s (asked-shape s c) (ap (λ (q : Param). q .last) (r .same) ∙ none) ∙ r .same; sound = call-sound s (r .sound) c }
 
 schedule-ready : (p : Param) → p .last ≡ LastEvent.None → (cs : List Command) (s : State) → Ready p s → Ready p (scheduled s cs)
 unfolding scheduled
@@ -150,5 +157,5 @@ accepted-alone (c ∷ cs) s = go (asked s c .verdict) refl (accepted-alone cs (a
     go Verdict.Answered e h = unfold acceptedIf in ((e, h .0), h .1)
     go (Verdict.Refused r) e h =
         unfold acceptedIf in
-        let same : afterCall s c ≡ s = unfold afterCall in call-refused s (asked-shape s c) r e in
+        let same : afterCall s c ≡ s = refused-call s c r e in
         rw same (rw same at h)

@@ -1,3 +1,4 @@
 pub mod Play
 pub mod Demand
+pub mod Cancels
 pub mod Results

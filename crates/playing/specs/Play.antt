@@ -1,4 +1,4 @@
--- Playing: a parameter with its curve store, the calls before the first block, and blocks one after the other.
+-- Playing: a parameter with its curve store, calls that schedule and cancel, and blocks one after the other.
 use mathlib.Core.Path.{_≡_}
 use mathlib.Core.Bool.{Bool, true, false, _||_}
 use mathlib.Core.List.{List, [], _∷_}
@@ -27,7 +27,7 @@ loaded p ws = record { param = withQueue (eventsOf ws) p; store = packed ws }
 unfoldable pub tidied : State → State
 tidied s = loaded (s .param) (waiting s)
 
--- ---- the calls before the first block
+-- ---- scheduling and cancelling, before the first block or between blocks
 
 -- a parameter just made, and a store of which nothing is said
 unfoldable pub begun : Bounds → AutomationRate → List Float → State
@@ -46,6 +46,11 @@ afterCall s c = leftByCall (asked s c)
 unfoldable pub scheduled : State → List Command → State
 scheduled s [] = s
 scheduled s (c ∷ cs) = scheduled (afterCall s c) cs
+
+-- and what is said to each
+unfoldable pub verdicts : State → List Command → List Verdict
+verdicts s [] = []
+verdicts s (c ∷ cs) = asked s c .verdict ∷ verdicts (afterCall s c) cs
 
 -- those of them that are answered
 unfoldable pub acceptedIf : Verdict → Command → List Command → List Command

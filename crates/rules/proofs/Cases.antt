@@ -1,8 +1,8 @@
 -- A second table beside the bench sheet, which has no target, no true exponential, no second hold and no walk at K-rate. What is expected does not come from the
 -- definitions: C1 to C26 are from a program written from document 01 alone, C27 to C49 from an interpreter of 01 in exact fractions by the second reader, who had read
--- the definitions, C50 to C52, C54 to C58, C61 to C66, C68 to C74 and what 02 changes of C25 and C65 from a program written from 01 and 02 (cases-02), C53, C59, C60,
--- C67, C75 to C77 and what 02 changes of C39, C42 and C46 by hand; the oracle's reference interpreter gives the same. Under each case's name stand its calls in plain
--- numbers.
+-- the definitions, C50 to C52, C54 to C58, C61 to C66, C68 to C74, C78 and what 02 changes of C25 and C65 from a program written from 01 and 02 (cases-02), C53, C59,
+-- C60, C67, C75 to C77 and what 02 changes of C39, C42 and C46 by hand; the oracle's reference interpreter gives the same. Under each case's name stand its calls in
+-- plain numbers.
 use mathlib.Core.Path.{_≡_, refl}
 use mathlib.Core.Bool.{true, false}
 use mathlib.Core.List.{List, [], _∷_, _++_}
@@ -2015,6 +2015,53 @@ cases =
           ok
           ∷ output 1 n0 true (n0 ∷ [])
           ∷ state n0 (MaybeTime.At (fin false 156575653125701 (pos 976))) (MaybeTime.At (inf false)) LastEvent.None [] true
+          ∷ [];
+    }
+    -- ---- 02, C-17: two cancels are one (C78 is cases-02's)
+    -- C78 a ramp inside a curve, with which two cancels would not be one, is refused: cancels at 17 and 12, or one at 12, leave the same
+    -- make -10 0 10 a; step 1 0; target 5 0 4; block 0 1 4; cancel 0; curve 10 10 0 8; linear 9 15; cancel 17; cancel 12; state; make -10 0 10 a; step 1 0; target 5 0 4; block 0 1 4; cancel 0; curve 10 10 0 8; linear 9 15; cancel 12; state
+    ∷ record {
+      acts =
+          make (bounds minus10 n0 n10) Rate.A
+          ∷ ask (step n1 n0)
+          ∷ ask (target n5 n0 n4)
+          ∷ block n0 n1 4 4 []
+          ∷ ask (cancel n0)
+          ∷ ask (curve n10 n10 (n0 ∷ n8 ∷ []))
+          ∷ ask (linear n9 (fin false 15 (pos 0)))
+          ∷ ask (cancel (fin false 17 (pos 0)))
+          ∷ ask (cancel (fin false 3 (pos 2)))
+          ∷ look
+          ∷ make (bounds minus10 n0 n10) Rate.A
+          ∷ ask (step n1 n0)
+          ∷ ask (target n5 n0 n4)
+          ∷ block n0 n1 4 4 []
+          ∷ ask (cancel n0)
+          ∷ ask (curve n10 n10 (n0 ∷ n8 ∷ []))
+          ∷ ask (linear n9 (fin false 15 (pos 0)))
+          ∷ ask (cancel (fin false 3 (pos 2)))
+          ∷ look
+          ∷ [];
+      said =
+          ok
+          ∷ ok
+          ∷ ok
+          ∷ output 2 n0 false (n1 ∷ (fin false 7905411 (negsuc 21)) ∷ (fin false 1349453 (negsuc 18)) ∷ (fin false 3261631 (negsuc 19)) ∷ [])
+          ∷ ok
+          ∷ ok
+          ∷ refused 11
+          ∷ ok
+          ∷ ok
+          ∷ state (fin false 14799527 (negsuc 21)) (MaybeTime.At n0) (MaybeTime.At n4) (done n0 n1) [] true
+          ∷ ok
+          ∷ ok
+          ∷ ok
+          ∷ output 2 n0 false (n1 ∷ (fin false 7905411 (negsuc 21)) ∷ (fin false 1349453 (negsuc 18)) ∷ (fin false 3261631 (negsuc 19)) ∷ [])
+          ∷ ok
+          ∷ ok
+          ∷ refused 11
+          ∷ ok
+          ∷ state (fin false 14799527 (negsuc 21)) (MaybeTime.At n0) (MaybeTime.At n4) (done n0 n1) [] true
           ∷ [];
     }
     ∷ []

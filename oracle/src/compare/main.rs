@@ -12,29 +12,17 @@ mod sides;
 
 use comparing::family::random;
 use comparing::session::Session;
+use comparing::side::Side;
 use comparing::summary::Summary;
 use comparing::verdict::Verdict;
 use comparing::{out, plain};
 use page::Page;
-use sides::{Played, Side, Sides};
-use std::io::{IsTerminal, Write};
+use sides::{Played, Sides};
 use std::path::Path;
 
 /// Sessions given to a process at a time, and faults shown before it stops.
 const BATCH: usize = 200;
 const SHOWN: usize = 5;
-
-/// What is done, on standard error: one line rewritten, or one in ten parts.
-fn progress(done: usize, all: usize, otherwise: usize) {
-    let line = format!("{done} of {all} sessions, {otherwise} differed otherwise");
-    let mut err = std::io::stderr();
-    if err.is_terminal() {
-        let end = if done == all { "\n" } else { "" };
-        let _ = write!(err, "\r{line}{end}");
-    } else if done == all || (done * 10 / all) > (done.saturating_sub(BATCH) * 10 / all) {
-        let _ = writeln!(err, "{line}");
-    }
-}
 
 /// A session that shows what must not be, shrunk, with both answers.
 fn show(sides: &Sides, played: Played, what: &str, wanted: fn(&Verdict) -> bool) {
@@ -68,7 +56,9 @@ fn run(sides: &Sides, n: usize, seed: u64) -> Summary {
                 show(sides, played, "NOT WHAT 01 SAYS", |v| v.not_01.is_some());
             }
         }
-        progress(summary.sessions, n, summary.otherwise);
+        let (done, otherwise) = (summary.sessions, summary.otherwise);
+        let line = format!("{done} of {n} sessions, {otherwise} differed otherwise");
+        out::progress(&line, from, done, n);
     }
     summary
 }

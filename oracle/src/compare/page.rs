@@ -1,8 +1,9 @@
 //! The page, docs/DIFFERENCES.md: its small sessions are replayed on both
 //! sides, must be shown there as they are on file, and it must have every name.
 
-use crate::sides::{Played, Side, Sides};
+use crate::sides::{Played, Sides};
 use comparing::session::{sessions, Session};
+use comparing::side::Side;
 use comparing::{out, plain};
 use std::fs;
 use std::path::{Path, PathBuf};

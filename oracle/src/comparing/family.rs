@@ -14,7 +14,8 @@ const MIXTURE: [Family; 10] = {
     [Clean, Plain, Clean, Wild, Clean, Clean, Plain, Clean, Wild, Clean]
 };
 
-fn seeded(seed: u64, number: usize) -> Draw {
+/// The draws of the session of this number.
+pub fn seeded(seed: u64, number: usize) -> Draw {
     Draw::new(seed.wrapping_mul(0x1000_0000_01b3) ^ number as u64)
 }
 

@@ -1,4 +1,4 @@
-//! What `generate`, `judge`, `expected` and `compare` share: sessions drawn at
+//! What `generate`, `judge`, `expected`, `compare` and `bursts` share: sessions drawn at
 //! random, what is claimed of a session before any answer is seen, and the
 //! judging of two sides' answers.
 
@@ -9,5 +9,6 @@ pub mod out;
 pub mod plain;
 pub mod plan;
 pub mod session;
+pub mod side;
 pub mod summary;
 pub mod verdict;

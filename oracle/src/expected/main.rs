@@ -1,14 +1,18 @@
 //! What the gate runs the port's session program on, and what it must write.
 //!
-//! `expected OUT SESSIONS RUST [SESSIONS ANSWERS]..` writes OUT/stdin and
-//! OUT/stdout. First come the pairs behind, sessions with answers that are
-//! given; each answer must be the reference's. Then the list SESSIONS with the
+//! `expected OUT SESSIONS RUST [SESSIONS ANSWERS].. [--bursts SESSIONS ANSWERS]`
+//! writes OUT/stdin and OUT/stdout. First come the pairs behind, sessions with
+//! answers that are given; each answer must be the reference's. In those behind
+//! `--bursts` each burst of cancels must have its one cancel, with the same
+//! answers from the first `state` on. Then comes the list SESSIONS with the
 //! Rust's answers, those marked `agree` before the others. An answer is written
 //! only if the Rust's and the reference's agree in every word that the Rust
 //! has, but for what the calls claim by name; so each word of it is the Rust's
 //! own, or one that the Rust has not, or one under a name, of the reference.
 //! Where they differ otherwise, or a session would end the comparison, it is
 //! listed, nothing is written, and the status is 1.
+
+mod burst;
 
 use comparing::line::compared;
 use comparing::session::{sessions, Session};
@@ -54,6 +58,13 @@ impl Gate {
         }
     }
 
+    /// The same of bursts, each with its one cancel.
+    fn bursts(&mut self, path: &str, text: &str, answers: &str) {
+        self.given(path, text, answers);
+        let faults = burst::faults(&sessions(text));
+        self.refused.extend(faults.iter().map(|fault| format!("{path}, {fault}")));
+    }
+
     /// A session of the list, with the Rust's answers.
     fn listed(&mut self, session: &Session, rust: &[&str]) {
         if let Some((i, name)) = session.end() {
@@ -93,12 +104,17 @@ impl Gate {
 fn main() {
     let words: Vec<String> = std::env::args().skip(1).collect();
     let [out, list, rust, pairs @ ..] = words.as_slice() else {
-        eprintln!("expected OUT SESSIONS RUST [SESSIONS ANSWERS]..");
+        eprintln!("expected OUT SESSIONS RUST [SESSIONS ANSWERS].. [--bursts SESSIONS ANSWERS]");
         std::process::exit(2);
     };
     let mut gate = Gate::default();
-    for pair in pairs.chunks_exact(2) {
+    let mut parts = pairs.splitn(2, |word| word == "--bursts");
+    let mut pairs = || parts.next().unwrap_or_default().chunks_exact(2);
+    for pair in pairs() {
         gate.given(&pair[0], &read(&pair[0]), &read(&pair[1]));
+    }
+    for pair in pairs() {
+        gate.bursts(&pair[0], &read(&pair[0]), &read(&pair[1]));
     }
     let answers = read(rust);
     let answers: Vec<&str> = answers.lines().collect();

@@ -63,6 +63,15 @@ impl Reference {
         }
     }
 
+    /// The waiting events, in queue order.
+    pub fn waiting(&self) -> &[Event] {
+        &self.queue
+    }
+
+    pub fn intrinsic(&self) -> f32 {
+        self.intrinsic.value
+    }
+
     pub fn answer(&mut self, call: &Call) -> String {
         self.claims = Claims::default();
         let refused = match call {
