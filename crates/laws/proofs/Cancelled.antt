@@ -1,9 +1,7 @@
 -- What a cancel leaves is the first of the waiting events, and no curve whose span has the cancel time, both ends included (02, C-12). Assumes nothing.
-use mathlib.Core.Path.{_≡_, refl, ap}
-use mathlib.Core.Bool.{Bool, true, false, cond, not, _&&_, _||_}
+use mathlib.Core.Path.{_≡_, refl, sym, ap, _∙_}
+use mathlib.Core.Bool.{Bool, true, false, cond, not, _&&_}
 use mathlib.Core.List.{List, [], _∷_}
-use Prim.Native.Nat.{ℕ}
-use native.Mathlib.Omega.{arith}
 use lib.ListN.{take}
 use lib.Ieee as Ieee
 use lib.Ieee.{Float}
@@ -12,8 +10,9 @@ use Rattle.rules.specs.declared.Event.the-variants as Event
 use Rattle.rules.specs.declared.Verdict.{Verdict}
 use Rattle.rules.specs.declared.Verdict.the-variants as Verdict
 use Rattle.rules.specs.Numbers.{takenTime}
-use Rattle.rules.specs.Queue.{Waiting, filedUnder, curveEnd, any, eventsOf, attached, those, lastsTo, goesAt, cancelled}
-use Rattle.rules.specs.Block.{Param, calledAs, cancel, called}
+use Rattle.rules.specs.Queue.{Waiting, filedUnder, curveEnd, any, eventsOf, packed, attached, those, lastsTo, goesAt, cancelled, valueAfterCancel}
+use Rattle.rules.specs.Refusals.{lowest, cancelRows}
+use Rattle.rules.specs.Block.{Param, leftWith, Called, calledAs, cancel, called}
 use Rattle.laws.specs.Sound.{inOrder, Sound}
 use Rattle.laws.specs.Search.{firstGoing}
 use Rattle.laws.specs.Spans.{spans}
@@ -21,24 +20,37 @@ use Rattle.laws.proofs.Tests.{neither}
 use Rattle.laws.proofs.Events.{events-attached, events-take, events-cancelled}
 use Rattle.laws.proofs.Ordered.{cancelled-is}
 
--- an answered cancel leaves these events
-cancel-leaves : (p : Param) (store : List Float) (c : Float) → called p store (cancel c) .verdict ≡ Verdict.Answered
-    → called p store (cancel c) .param .queue ≡ eventsOf (cancelled (takenTime c) (attached (p .queue) store))
+pub cancel-verdict : (p : Param) (store : List Float) (c : Float) → called p store (cancel c) .verdict ≡ lowest (cancelRows store c)
 unfolding called
-cancel-leaves p store c answered = go _ _ answered
+cancel-verdict p store c = go _ _ _
   where
-    ws : List Waiting
-    ws = cancelled (takenTime c) (attached (p .queue) store)
+    go : (v : Verdict) (ws : List Waiting) (i : Float) → calledAs v p store ws i .verdict ≡ v
+    go Verdict.Answered ws i = unfold calledAs in refl
+    go (Verdict.Refused r) ws i = unfold calledAs in refl
 
-    go : (v : Verdict) (i : Float) → calledAs v p store ws i .verdict ≡ Verdict.Answered → calledAs v p store ws i .param .queue ≡ eventsOf ws
-    go Verdict.Answered i a = unfold calledAs in refl
-    go (Verdict.Refused r) i a = unfold calledAs in let z : _≡_ {A = ℕ} 0 1 = cc in absurd (omega arith)
+-- what an answered cancel gives where these wait, at a time as it is taken
+abbrev pub cancelledAt : Param → List Waiting → Float → Called
+cancelledAt p ws c =
+    record {
+      verdict = Verdict.Answered;
+      param = leftWith (eventsOf (cancelled c ws)) (valueAfterCancel c (p .lastEnd) ws (p .last) (p .intrinsic)) p;
+      store = packed (cancelled c ws);
+    }
+
+pub cancel-leaves : (p : Param) (store : List Float) (c : Float) → called p store (cancel c) .verdict ≡ Verdict.Answered
+    → called p store (cancel c) ≡ cancelledAt p (attached (p .queue) store) (takenTime c)
+unfolding called calledAs
+cancel-leaves p store c answered = rw (sym (cancel-verdict p store c) ∙ answered)
+
+queue-left : (p : Param) (store : List Float) (c : Float) → called p store (cancel c) .verdict ≡ Verdict.Answered
+    → called p store (cancel c) .param .queue ≡ eventsOf (cancelled (takenTime c) (attached (p .queue) store))
+queue-left p store c answered = ap (λ (r : Called). r .param .queue) (cancel-leaves p store c answered)
 
 -- those ahead of the first that goes
 pub a-cancel-leaves-the-first : (p : Param) (store : List Float) (c : Float) → Sound p → called p store (cancel c) .verdict ≡ Verdict.Answered
     → called p store (cancel c) .param .queue ≡ take (firstGoing (takenTime c) (p .queue)) (p .queue)
 a-cancel-leaves-the-first p store c s answered =
-    rw (cancel-leaves p store c answered, cancelled-is (takenTime c) (attached (p .queue) store) ordered, events-take, events-attached (p .queue) store)
+    rw (queue-left p store c answered, cancelled-is (takenTime c) (attached (p .queue) store) ordered, events-take, events-attached (p .queue) store)
   where
     ordered : inOrder (eventsOf (attached (p .queue) store)) ≡ true
     ordered = rw (events-attached (p .queue) store) (s .waiting .ordered)
@@ -70,4 +82,4 @@ none-spans c (e ∷ q) = go (goesAt c e) refl (none-spans c q)
 pub after-a-cancel-no-curve-spans-it : (p : Param) (store : List Float) (c : Float) → called p store (cancel c) .verdict ≡ Verdict.Answered
     → any (spans (takenTime c)) (called p store (cancel c) .param .queue) ≡ false
 after-a-cancel-no-curve-spans-it p store c answered =
-    rw (cancel-leaves p store c answered, events-cancelled (takenTime c) (attached (p .queue) store)) (none-spans (takenTime c) _)
+    rw (queue-left p store c answered, events-cancelled (takenTime c) (attached (p .queue) store)) (none-spans (takenTime c) _)

@@ -13,9 +13,9 @@ use Rattle.rules.specs.declared.LastEvent.{LastEvent}
 use Rattle.rules.specs.declared.Verdict.{Verdict}
 use Rattle.rules.specs.declared.Verdict.the-variants as Verdict
 use Rattle.rules.specs.Numbers.{plusZero, isNegative, isZero, takenTime}
-use Rattle.rules.specs.Queue.{Waiting, headOf, eventsOf, packed, those, filedUnder, curveEnd, lastsTo, goesAt, isBefore, cancelled, isRamp, hasStarted, losesHead, returned, valueAfterCancel}
+use Rattle.rules.specs.Queue.{Waiting, headOf, eventsOf, those, filedUnder, curveEnd, lastsTo, goesAt, isBefore, cancelled, isRamp, hasStarted, losesHead, returned, valueAfterCancel}
 use Rattle.rules.specs.Refusals.{lowest, cancelRows}
-use Rattle.rules.specs.Block.{Param, Command, cancel, leftWith, calledAs, called}
+use Rattle.rules.specs.Block.{Param, Command, cancel}
 use Rattle.laws.specs.Sound.{isNumber, inOrder, Sound}
 use Rattle.laws.specs.Search.{firstGoing, placeOf}
 use Rattle.laws.proofs.Tests.{clash, never}
@@ -23,9 +23,10 @@ use Rattle.laws.proofs.Order.{le-le, lt-le, not-lt, number-le, finite-number, l
 use Rattle.laws.proofs.Ordered.{AllPass, those-pass, those-all, cancelled-is}
 use Rattle.laws.proofs.Store.{fit-cancelled, packed-back}
 use Rattle.laws.proofs.Rows.{Cancelled, cancel-answered}
+use Rattle.laws.proofs.Cancelled.{cancel-verdict, cancelledAt, cancel-leaves}
 use Rattle.laws.proofs.Kept.{called-sound}
 use Rattle.laws.proofs.Answers.{Reached, reached-sound}
-use Rattle.playing.specs.Play.{State, waiting, asked, afterCall, scheduled, verdicts, isAnswered}
+use Rattle.playing.specs.Play.{State, waiting, asked, leftByCall, afterCall, scheduled, verdicts, isAnswered}
 use Rattle.playing.specs.Cancels.{earlierOf, earliest, burst, acceptedTimes, oneCancel, TwoAreOne, CancelsAreOne}
 use Rattle.playing.proofs.States.{SoundState, queue-is, waiting-fit, by-verdict}
 use Rattle.playing.proofs.Schedules.{call-sound, refused-call}
@@ -122,9 +123,7 @@ module _ (c d : Float) (l : Ieee.le c d ≡ true) where
 
 -- what an answered cancel leaves, at a time as it is taken
 abbrev leftAt : State → Float → State
-leftAt s c =
-    let v = valueAfterCancel c (s .param .lastEnd) (waiting s) (s .param .last) (s .param .intrinsic) in
-    record { param = leftWith (eventsOf (cancelled c (waiting s))) v (s .param); store = packed (cancelled c (waiting s)) }
+leftAt s c = leftByCall (cancelledAt (s .param) (waiting s) c)
 
 waits-left : (s : State) (c : Float) → SoundState s → waiting (leftAt s c) ≡ cancelled c (waiting s)
 unfolding waiting
@@ -145,18 +144,13 @@ module _ (s : State) (h : SoundState s) (c d : Float) (l : Ieee.le c d ≡ true)
 abbrev Accepts : State → Float → Type 0
 Accepts s a = asked s (cancel a) .verdict ≡ Verdict.Answered
 
-verdict-of : (v : Verdict) (p : Param) (store : List Float) (ws : List Waiting) (i : Float) → calledAs v p store ws i .verdict ≡ v
-unfolding calledAs
-verdict-of Verdict.Answered p store ws i = refl
-verdict-of (Verdict.Refused r) p store ws i = refl
-
 verdict-is : (s : State) (a : Float) → asked s (cancel a) .verdict ≡ lowest (cancelRows (s .store) a)
-unfolding asked called
-verdict-is s a = verdict-of _ (s .param) (s .store) _ _
+unfolding asked
+verdict-is s a = cancel-verdict (s .param) (s .store) a
 
 answered-is : (s : State) (a : Float) → Accepts s a → afterCall s (cancel a) ≡ leftAt s (takenTime a)
-unfolding afterCall asked called waiting calledAs
-answered-is s a h = rw (sym (verdict-is s a) ∙ h)
+unfolding afterCall asked waiting
+answered-is s a h = ap leftByCall (cancel-leaves (s .param) (s .store) a h)
 
 given : (s : State) (a : Float) → Accepts s a → Cancelled (s .store) a
 given s a h = cancel-answered (s .store) a (sym (verdict-is s a) ∙ h)
