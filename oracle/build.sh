@@ -113,9 +113,21 @@ find_port() {
     echo "$port"
 }
 
+# The port's program `play`: what CRACKLEDRAY_PLAY names, else the one that is built.
+find_play() {
+    local play=${CRACKLEDRAY_PLAY:-$root/target/bin/play}
+    [ -x "$play" ] || {
+        say "no program at $play; get it: rt check play (proves and builds it)," \
+            "or name one that is built in CRACKLEDRAY_PLAY"
+        return 1
+    }
+    [ -n "${CRACKLEDRAY_PLAY:-}" ] || [ "$(uname -m)" = x86_64 ] || play=$(emulated "$play") || return 1
+    echo "$play"
+}
+
 # The port's programs are for x86-64; elsewhere the kit's emulator runs them: a command that does so.
 emulated() {
-    local kit tools
+    local kit tools command
     kit=$(dirname "$(dirname "$(readlink -f "$(command -v rt)")")")
     tools=$kit/on/$(uname -m)/toolchain
     [ -x "$tools/bin/qemu-x86_64" ] || {
@@ -123,7 +135,8 @@ emulated() {
         return 1
     }
     say "$1 is for x86-64: the kit's emulator runs it, which is slower"
+    command=$out/emulated-$(basename "$1")
     printf '#!/bin/sh\nexec "%s" "%s" --library-path "%s" "%s"\n' \
-        "$tools/bin/qemu-x86_64" "$tools/lib/ld-linux-x86-64.so.2" "$tools/lib" "$1" > "$out/port"
-    chmod +x "$out/port" && echo "$out/port"
+        "$tools/bin/qemu-x86_64" "$tools/lib/ld-linux-x86-64.so.2" "$tools/lib" "$1" > "$command"
+    chmod +x "$command" && echo "$command"
 }

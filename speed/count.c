@@ -71,7 +71,7 @@ static double near(char kind, int place, int i) {
     return from(kind) + (at > 0.0 ? at : 0.0) / 48000.0;
 }
 
-/* the kinds of speed/run but for the curve: c l e t s r k h, session n, beyond b */
+/* kinds of speed/run: c l e t s r k h, session n, beyond b */
 static void schedule(char kind) {
     double period = 1.0 / 48000.0, hour = 3600.0;
     crackledray_make(state, STATE, -1000.0f, 0.5f, 1000.0f, kind == 'k');

@@ -52,6 +52,11 @@ impl Original {
         self.take_in();
     }
 
+    pub fn hold(&mut self, time: f64) {
+        self.param.cancel_and_hold_at_time(time);
+        self.take_in();
+    }
+
     /// So many blocks, one behind the other.
     #[inline(never)]
     pub fn blocks(&mut self, time: f64, period: f64, count: usize, advance: f64, blocks: usize) {

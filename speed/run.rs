@@ -1,16 +1,25 @@
 //! Nanoseconds a block: the port by value, by tick and by its exported call, beside the Rust at default flags and at
-//! target-cpu=native, in one run, interleaved, the best of several rounds. speed/run builds it.
+//! target-cpu=native, in one run, interleaved, the best of several rounds; and what of it a step and a sample take.
+//! speed/run builds it.
 
 use crackledray::raw;
 use std::hint::black_box;
 use std::time::Instant;
 
 const PERIOD: f64 = 1.0 / 48000.0;
-const KINDS: [&str; 11] = [
+const KINDS: [&str; 16] = [
     "constant", "linear", "exponential", "target", "curve", "steps", "ramps", "k-linear", "short",
-    "session", "beyond",
+    "session", "beyond", "exponentials", "targets", "curves", "turned", "held",
 ];
 const WAYS: [&str; 5] = ["rust", "native", "value", "tick", "exported"];
+/// Kinds of one event that goes on: what a sample takes.
+const LASTING: [&str; 4] = ["linear", "exponential", "target", "curve"];
+/// Kinds of 64 events that a block uses up: what a further step takes.
+const USED: [&str; 7] = ["steps", "ramps", "exponentials", "targets", "curves", "turned", "held"];
+/// How many events can wait.
+const EVENTS: usize = 64;
+/// Where a state has how many events wait.
+const WAITING: usize = 13;
 /// How many parameters are made ready for a kind whose events are used up by one block.
 const READY: usize = 16;
 /// How many blocks of a long session lie between two of these parameters.
@@ -122,6 +131,7 @@ trait Takes {
     fn exponential(&mut self, value: f32, time: f64);
     fn target(&mut self, value: f32, time: f64, constant: f64);
     fn curve(&mut self, values: &[f32], time: f64, duration: f64);
+    fn hold(&mut self, time: f64);
 }
 
 macro_rules! takes {
@@ -141,6 +151,9 @@ macro_rules! takes {
             }
             fn curve(&mut self, values: &[f32], time: f64, duration: f64) {
                 self.curve(values, time, duration)
+            }
+            fn hold(&mut self, time: f64) {
+                self.hold(time)
             }
         }
     };
@@ -170,9 +183,9 @@ impl Port {
         p
     }
 
-    /// Blocks by the exported call: of 128 samples the last block's stay in the output.
+    /// Blocks by the exported call: the steps of the last, whose samples stay in the output.
     #[inline(never)]
-    fn blocks(&mut self, time: f64, count: usize, advance: f64, blocks: usize) {
+    fn blocks(&mut self, time: f64, count: usize, advance: f64, blocks: usize) -> usize {
         let (mut time, mut steps, mut current, mut one) = (time, 0, 0.0, false);
         let silence = [0.0f32; 1];
         for _ in 0..blocks {
@@ -197,6 +210,7 @@ impl Port {
             assert_eq!(n, 0);
             time += advance;
         }
+        steps
     }
 }
 
@@ -237,6 +251,12 @@ impl Takes for Port {
         };
         assert_eq!(n, 0);
     }
+    fn hold(&mut self, time: f64) {
+        let store = self.store.as_mut_ptr();
+        assert_eq!(0, unsafe {
+            raw::crackledray_hold(self.state.as_mut_ptr(), raw::STATE, time, store, raw::STORE)
+        });
+    }
 }
 
 /// The events of a kind for a block at `from`. Those that go on last for an hour, so that no run comes to their end.
@@ -265,12 +285,50 @@ fn schedule(kind: &str, p: &mut impl Takes, from: f64) {
             let numbers: Vec<f32> = (0..1024).map(|i| (i * 37 % 101) as f32).collect();
             p.curve(&numbers, 0.0, hour);
         }
-        "steps" => (0..64).for_each(|i| p.step(i as f32, (2 * i) as f64 * PERIOD)),
-        "ramps" => (0..64).for_each(|i| p.linear((i % 5) as f32, (2 * i + 1) as f64 * PERIOD)),
-        "session" => (0..64).for_each(|i| p.step(i as f32, near(2 * i, i))),
-        "beyond" => (0..64).for_each(|i| p.step(i as f32, near(16 + 7 * i / 4, i))),
+        "steps" => (0..EVENTS).for_each(|i| p.step(i as f32, (2 * i) as f64 * PERIOD)),
+        "ramps" => (0..EVENTS).for_each(|i| p.linear((i % 5) as f32, (2 * i + 1) as f64 * PERIOD)),
+        "session" => (0..EVENTS).for_each(|i| p.step(i as f32, near(2 * i, i))),
+        "beyond" => (0..EVENTS).for_each(|i| p.step(i as f32, near(16 + 7 * i / 4, i))),
+        _ => pairs(kind, p),
+    }
+}
+
+/// 64 events with two places each, 2i and 2i + 1: from a tenth of a period before the first on, so that no sample but
+/// the block's first lies at an event's very start.
+fn pairs(kind: &str, p: &mut impl Takes) {
+    let level = |i: usize| 1.0 + (i * 37 % 101) as f32 / 32.0;
+    let start = |i: usize| (2.0 * i as f64 - 0.1).max(0.0) * PERIOD;
+    let all = 0..EVENTS;
+    match kind {
+        "exponentials" => all.for_each(|i| p.exponential(level(i), start(i + 1))),
+        // each ends the one before, the hold the last
+        "targets" => {
+            all.for_each(|i| p.target(level(i), start(i), 3.0 * PERIOD));
+            p.hold(start(EVENTS));
+        }
+        // each ends a tenth of a period and more before the next, however its end is rounded
+        "curves" => {
+            all.for_each(|i| p.curve(&[level(i), level(i + 1)], start(i), 1.8 * PERIOD));
+        }
+        // signs in turn, so that no ratio is above 0
+        "turned" => all.for_each(|i| {
+            let sign = if i % 2 == 0 { -1.0 } else { 1.0 };
+            p.exponential(sign * level(i), start(i + 1));
+        }),
+        // each is stopped before its own end, so that its value there is one sample more
+        "held" => all.for_each(|i| {
+            p.exponential(level(i), start(i + 1) + 0.7 * PERIOD);
+            p.hold(start(i + 1));
+        }),
         _ => unreachable!(),
     }
+}
+
+/// Nanoseconds a block, what of them is not the block's own, and the samples of the last block.
+struct Played {
+    ns: f64,
+    off: f64,
+    samples: Vec<f32>,
 }
 
 struct Bench {
@@ -286,7 +344,7 @@ struct Bench {
 impl Bench {
     fn of(kind: &'static str, blocks: usize) -> Self {
         let late = kind == "session" || kind == "beyond";
-        let once = late || kind == "steps" || kind == "ramps";
+        let once = late || USED.contains(&kind);
         let count = if kind == "short" { 64 } else { 128 };
         Bench { kind, count, once, late, blocks: if once { READY } else { blocks } }
     }
@@ -306,8 +364,30 @@ impl Bench {
         self.count as f64 * PERIOD
     }
 
-    /// Nanoseconds a block by one way, and the samples of the last block.
-    fn way(&self, way: &str) -> (f64, Vec<f32>) {
+    /// The steps of a block, but for the first of a kind that goes on.
+    fn steps(&self) -> usize {
+        match self.kind {
+            "turned" => 2 * EVENTS + 1,
+            _ if self.once => EVENTS + 1,
+            _ => 1,
+        }
+    }
+
+    /// Each parameter has the steps that the kind says; 64 events wait and none is left, or one goes on.
+    fn check(&self) {
+        for i in 0..READY {
+            let mut p = self.port(i);
+            let waited = p.state[WAITING];
+            let blocks = if self.once { 1 } else { 2 };
+            let steps = p.blocks(self.from(i), self.count, self.advance(), blocks);
+            let left = if self.once || self.kind == "constant" { 0 } else { 1 };
+            assert_eq!((steps, p.state[WAITING]), (self.steps(), left), "{}", self.kind);
+            assert!(!self.once || waited == EVENTS as u64, "{}: {waited} wait", self.kind);
+        }
+    }
+
+    /// Blocks by one way.
+    fn way(&self, way: &str) -> Played {
         let a_rate = self.kind != "k-linear";
         macro_rules! original {
             ($t:ty) => {{
@@ -329,7 +409,7 @@ impl Bench {
             "native" => original!(original_native::Original),
             "exported" => self.play(
                 |i| self.port(i),
-                |p, from, n| p.blocks(from, self.count, self.advance(), n),
+                |p, from, n| _ = p.blocks(from, self.count, self.advance(), n),
                 samples,
             ),
             "value" => self.inside(by_value),
@@ -343,7 +423,7 @@ impl Bench {
         ready: impl Fn(usize) -> P,
         blocks: impl Fn(&mut P, f64, usize),
         samples: impl Fn(&P) -> Vec<f32>,
-    ) -> (f64, Vec<f32>) {
+    ) -> Played {
         let mut all: Vec<P> = (0..if self.once { READY } else { 1 }).map(ready).collect();
         let each = if self.once { 1 } else { self.blocks };
         let began = Instant::now();
@@ -351,17 +431,29 @@ impl Bench {
             blocks(black_box(p), self.from(i), each);
         }
         let took = began.elapsed().as_nanos() as f64;
-        (took / self.blocks as f64, samples(&all[0]))
+        Played { ns: took / self.blocks as f64, off: 0.0, samples: samples(&all[0]) }
     }
 
     /// Blocks in a loop of the port's own: the state is read once, before the first.
-    fn inside(&self, blocks_in_a_loop: Loop) -> (f64, Vec<f32>) {
+    fn inside(&self, blocks_in_a_loop: Loop) -> Played {
         let mut p = self.port(0);
-        let silence = [0.0f32; 1];
         // what a block uses up is played again and again
         let blocks = if self.once { self.blocks * 16 } else { self.blocks };
-        let advance = if self.once { 0.0 } else { self.advance() };
-        let began = Instant::now();
+        let (ns, off) = if self.kind == "curves" {
+            // the empty calls first, so that the samples are a block's
+            let off = self.put_back(&mut p, blocks_in_a_loop, 0, blocks);
+            (self.put_back(&mut p, blocks_in_a_loop, 1, blocks), off)
+        } else {
+            let began = Instant::now();
+            self.call(&mut p, blocks_in_a_loop, blocks);
+            (began.elapsed().as_nanos() as f64 / blocks as f64, 0.0)
+        };
+        Played { ns, off, samples: p.output[..self.count].to_vec() }
+    }
+
+    /// So many blocks by one call of a loop.
+    fn call(&self, p: &mut Port, blocks_in_a_loop: Loop, blocks: usize) {
+        let silence = [0.0f32; 1];
         let steps = unsafe {
             blocks_in_a_loop(
                 p.state.as_ptr(),
@@ -369,7 +461,7 @@ impl Bench {
                 self.from(0),
                 PERIOD,
                 self.count,
-                advance,
+                if self.once { 0.0 } else { self.advance() },
                 self.once,
                 blocks,
                 silence.as_ptr(),
@@ -380,9 +472,19 @@ impl Bench {
                 raw::STORE,
             )
         };
-        let took = began.elapsed().as_nanos() as f64;
-        assert!(steps > 0);
-        (took / blocks as f64, p.output[..self.count].to_vec())
+        assert_eq!(steps, if blocks == 0 { 0 } else { self.steps() });
+    }
+
+    /// A block clears the numbers of the curves that it uses up, so they are put back before each: nanoseconds a call of
+    /// so many blocks (1, or 0 for what a call takes that is not the block's).
+    fn put_back(&self, p: &mut Port, blocks_in_a_loop: Loop, blocks: usize, calls: usize) -> f64 {
+        let numbers = p.store[..2 * EVENTS].to_vec();
+        let began = Instant::now();
+        for _ in 0..calls {
+            p.store[..2 * EVENTS].copy_from_slice(&numbers);
+            self.call(black_box(p), blocks_in_a_loop, blocks);
+        }
+        began.elapsed().as_nanos() as f64 / calls as f64
     }
 }
 
@@ -413,10 +515,81 @@ fn floors(rounds: usize) -> (f64, f64) {
     best
 }
 
-fn main() {
-    let rounds: usize =
-        std::env::args().nth(1).map_or(15, |w| w.parse().expect("a number of rounds"));
-    let blocks = 4000;
+struct Row {
+    kind: &'static str,
+    best: [f64; WAYS.len()],
+}
+
+impl Row {
+    /// The best of the rounds for each way, in which the ways take turns.
+    fn of(kind: &'static str, rounds: usize) -> Self {
+        let bench = Bench::of(kind, 4000);
+        bench.check();
+        let mut best = [f64::INFINITY; WAYS.len()];
+        let mut off = best;
+        let rust = bench.way("rust").samples;
+        for _ in 0..rounds {
+            for (i, way) in WAYS.iter().enumerate() {
+                let played = bench.way(way);
+                assert!(
+                    rust.iter().zip(&played.samples).all(|(a, b)| close(*a, *b)),
+                    "{kind}: {way} plays other samples: {rust:?} {:?}",
+                    played.samples
+                );
+                best[i] = best[i].min(played.ns);
+                off[i] = off[i].min(played.off);
+            }
+        }
+        (0..WAYS.len()).for_each(|i| best[i] -= off[i]);
+        Row { kind, best }
+    }
+
+    /// By value, by tick, by the exported call.
+    fn ours(&self) -> [f64; 3] {
+        [self.best[2], self.best[3], self.best[4]]
+    }
+
+    fn print(&self) {
+        let ([r, n, v, t, e], kind) = (self.best, self.kind);
+        println!(
+            "{kind:12} {r:9.1} {n:9.1} {v:9.1} {t:9.1} {e:9.1}   {:10.2} {:10.2} {:14.2} {:13.2}",
+            v / r,
+            t / r,
+            e / r,
+            v / n
+        );
+    }
+}
+
+/// The second table: what the differences of rows say of a step and of a sample.
+fn costs(rows: &[Row]) {
+    let of = |kind: &str| rows.iter().find(|r| r.kind == kind).expect("a row").ours();
+    let line = |what: &str, kind: &str, [v, t, e]: [f64; 3], by: &str| {
+        println!("{what:14} {kind:12} {v:9.2} {t:9.2} {e:9.2}   {by}")
+    };
+    let apart = |a: [f64; 3], b: [f64; 3], n: usize| [0, 1, 2].map(|i| (a[i] - b[i]) / n as f64);
+    let base = of("constant");
+    println!("A step and a sample: nanoseconds by differences of the rows above.");
+    println!("{:14} {:12} {:>9} {:>9} {:>9}", "what", "kind", "value", "tick", "exported");
+    line("base", "constant", base, "the row: an answered block with no event");
+    for kind in LASTING {
+        line("sample", kind, apart(of(kind), base, 128), "(row - constant) / 128");
+    }
+    line("further-sample", "linear", apart(of("linear"), of("short"), 64), "(row - short) / 64");
+    for kind in USED {
+        let n = Bench::of(kind, 1).steps() - 1;
+        let by = format!("(row - constant) / {n}");
+        line("further-step", kind, apart(of(kind), base, n), &by);
+    }
+    let dearest = |i: usize| {
+        let by = |a: &&Row, b: &&Row| a.ours()[i].total_cmp(&b.ours()[i]);
+        rows.iter().max_by(by).expect("a row")
+    };
+    let kinds = [0, 1, 2].map(|i| dearest(i).kind).join(", ");
+    line("dearest", "block", [0, 1, 2].map(|i| dearest(i).ours()[i]), &kinds);
+}
+
+fn head(rounds: usize) {
     println!("Nanoseconds a block of 128 samples (short: 64), sample period 1/48000 s, silence; best of {rounds} rounds, interleaved.");
     println!("Machine: {}. Nobody clears a buffer between blocks: the output is written over, in the port and in the Rust;", std::env::consts::ARCH);
     println!("the Rust clears its own list of values at each block, and the port writes the curve store's numbers and zeros.");
@@ -426,38 +599,27 @@ fn main() {
         "{:12} {:>9} {:>9} {:>9} {:>9} {:>9}   value/rust  tick/rust  exported/rust  value/native",
         "kind", "rust", "native", "value", "tick", "exported"
     );
+}
+
+fn main() {
+    let rounds: usize =
+        std::env::args().nth(1).map_or(15, |w| w.parse().expect("a number of rounds"));
+    head(rounds);
     let mut rows = Vec::new();
     for kind in KINDS {
-        let bench = Bench::of(kind, blocks);
-        let mut best = [f64::INFINITY; WAYS.len()];
-        let rust = bench.way("rust").1;
-        for _ in 0..rounds {
-            for (i, way) in WAYS.iter().enumerate() {
-                let (ns, samples) = bench.way(way);
-                assert!(
-                    rust.iter().zip(&samples).all(|(a, b)| close(*a, *b)),
-                    "{kind}: {way} plays other samples: {rust:?} {samples:?}"
-                );
-                best[i] = best[i].min(ns);
-            }
-        }
-        let [r, n, v, t, e] = best;
-        println!(
-            "{kind:12} {r:9.1} {n:9.1} {v:9.1} {t:9.1} {e:9.1}   {:10.2} {:10.2} {:14.2} {:13.2}",
-            v / r,
-            t / r,
-            e / r,
-            v / n
-        );
-        rows.push((kind, [("value", v / r), ("tick", t / r), ("exported", e / r)]));
+        let row = Row::of(kind, rounds);
+        row.print();
+        rows.push(row);
     }
     let (zeros, copy) = floors(rounds);
     println!();
     println!("alone: zeros over the whole curve store {zeros:.1} ns; one copy of the parameter {copy:.1} ns");
     println!();
-    for (kind, ways) in rows {
-        for (way, ratio) in ways {
-            println!("ratio {kind} {way} {ratio:.2}");
+    costs(&rows);
+    println!();
+    for row in rows {
+        for (way, ns) in WAYS[2..].iter().zip(row.ours()) {
+            println!("ratio {} {way} {:.2}", row.kind, ns / row.best[0]);
         }
     }
 }

@@ -33,7 +33,7 @@ use Rattle.demands.specs.Run.{Held, stateOf, Done, leftByDone, calledBy,
 abbrev pub Ok : Held → Type 0
 Ok h = SoundParam (h .param)
 
-back : {p : AudioParam} {q : Param} → p ≡ structOf q → paramOf p ≡ q
+pub back : {p : AudioParam} {q : Param} → p ≡ structOf q → paramOf p ≡ q
 back {p} {q} e = ap paramOf e ∙ struct-back q
 
 -- ---- scheduling and cancelling

@@ -1,5 +1,5 @@
 -- From what the parameter's block ensures to what a session's block ensures. Assumes nothing.
-use mathlib.Core.Path.{_≡_, refl, sym, ap, _∙_, subst}
+use mathlib.Core.Path.{_≡_, sym, ap, _∙_, subst}
 use mathlib.Core.Bool.{Bool}
 use mathlib.Core.List.{List, _++_}
 use Prim.Native.Nat.{ℕ, _+_, _-_, _≤_}
@@ -11,18 +11,25 @@ use Rattle.rules.specs.declared.Refusal.{Refusal}
 use Rattle.rules.specs.declared.Verdict.{Verdict}
 use Rattle.rules.specs.declared.Verdict.the-variants as Verdict
 use Rattle.rules.specs.Block as rule
+use Rattle.rules.specs.Block.{Param, answered}
 use Rattle.laws.proofs.Answers.{given}
 use Rattle.text.specs.Put.{Put}
-use Rattle.text.proofs.Writing.{put-same, put-then}
+use Rattle.text.proofs.Writing.{put-same}
 use Rattle.answers.specs.Answers.{verdictText, blockText, listText, restText, areMarks}
 use Rattle.answers.proofs.Lists.{list-length}
 use Rattle.param.specs.declared.Processed.{Processed}
-use Rattle.param.specs.Param.{paramOf, structOf}
+use Rattle.param.specs.Param.{paramOf}
 use Rattle.param.specs.Processed.{Processes}
 use Rattle.param.proofs.Blocks.{verdict-is, length-kept}
+use Rattle.param.proofs.Calls.{struct-back}
+use Rattle.costs.specs.declared.Totals.{Totals}
+use Rattle.costs.specs.Costs.{waitingIn, plus, blockCost}
+use Rattle.costs.specs.Seen.{blockSeen}
+use Rattle.costs.proofs.Seen.{block-seen}
+use Rattle.tally.specs.Tally.{kept}
 use Rattle.desk.specs.declared.Desk.{Desk}
 use Rattle.desk.specs.declared.Answered.{Answered}
-use Rattle.desk.specs.Desk.{deskOf, SoundDesk, Spoken, blockLine, playing, marks}
+use Rattle.desk.specs.Desk.{deskOf, afterBlock, SoundDesk, Spoken, blockLine, playing, marks}
 
 -- ---- its text
 
@@ -46,22 +53,35 @@ samples-room count output h =
 
 module _ (time period : Float) (count : ℕ) (input output : List Float) (d : Desk) (s : List Float) {r : Processed} {output′ after : List Float}
     (a : Processes (d .param) (take (d .lent) s) (record { time = time; period = period; count = count; input = input; output = output }) r output′ after) where
+  abbrev asks : rule.Call
+  asks = record { time = time; period = period; count = count; input = input; output = output }
+
   -- where it is answered, its samples are no more than 128, and the output holds them
   pub block-fits : r .verdict ≡ Verdict.Answered → (count ≤ 128) × (count ≤ length output′)
   block-fits h =
-      let g = given (paramOf (d .param)) (take (d .lent) s) (record { time = time; period = period; count = count; input = input; output = output }) (sym (verdict-is a) ∙ h) in
+      let g = given (paramOf (d .param)) (take (d .lent) s) asks (sym (verdict-is a) ∙ h) in
       (g .few, rw (length-kept a h) (g .room))
 
-  pub played : {l l′ : List ℕ} {at next : ℕ} → SoundDesk d → Put l at (blockLine (r .verdict) count (r .steps) (r .current) (r .one) output′) l′ next → next ≤ at + 1195
-      → Spoken 41999 (playing time period count input output) d s l at (record { desk = deskOf (r .param) (d .lent); next = next }) (after ++ drop (d .lent) s) l′
+  -- what is seen of it is what it costs
+  counted : afterBlock d r ≡ kept (plus (d .totals) (blockCost (answered (paramOf (d .param)) (take (d .lent) s) asks)))
+  counted =
+      let p : Param = paramOf (d .param) in
+      let is : paramOf (r .param) ≡ answered p (take (d .lent) s) asks .param = ap paramOf (a .param) ∙ struct-back _ in
+      ap (λ (q : Param). kept (plus (d .totals) (blockSeen (r .verdict) (r .steps) (waitingIn p) (waitingIn q)))) is
+      ∙ rw (a .verdict, a .steps) (ap (λ (u : Totals). kept (plus (d .totals) u)) (block-seen p (take (d .lent) s) asks))
+
+  pub played : {l l′ : List ℕ} {at next : ℕ} {k : Desk} → SoundDesk d → k ≡ deskOf (r .param) (d .lent) (afterBlock d r)
+      → Put l at (blockLine (r .verdict) count (r .steps) (r .current) (r .one) output′) l′ next → next ≤ at + 1195
+      → Spoken 41999 (playing time period count input output) d s l at (record { desk = k; next = next }) (after ++ drop (d .lent) s) l′
   unfolding playing
-  played ok p near =
+  played ok e p near =
       record {
-        param = a .param;
-        lent = refl;
+        param = ap (λ (x : Desk). x .param) e ∙ a .param;
+        lent = ap (λ (x : Desk). x .lent) e;
         store = ap (λ (x : List Float). x ++ drop (d .lent) s) (a .left);
+        totals = ap (λ (x : Desk). x .totals) e ∙ counted;
         text = put-same (rw (a .verdict, a .steps, a .current, a .one, a .written)) p;
-        sound = record { param = a .sound; lent = ok .lent };
+        sound = subst SoundDesk (sym e) (record { param = a .sound; lent = ok .lent });
         room = omega (arith, near);
       }
 

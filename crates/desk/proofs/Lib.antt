@@ -2,3 +2,4 @@ pub mod Blocks
 pub mod Queues
 pub mod Ranges
 pub mod Turns
+pub mod Costs

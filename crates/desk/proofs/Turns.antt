@@ -26,13 +26,18 @@ use Rattle.answers.specs.Answers.{verdictText}
 use Rattle.calls.specs.declared.Call.{Call}
 use Rattle.calls.specs.declared.Call.the-variants as Call
 use Rattle.calls.proofs.Call.{the-type}
+use Rattle.costs.specs.declared.Totals.{Totals}
+use Rattle.costs.specs.Costs.{waitingIn, nothing, plus, commandCost}
+use Rattle.costs.specs.Seen.{commandSeen}
+use Rattle.costs.proofs.Seen.{command-seen}
+use Rattle.tally.specs.Tally.{kept}
 use Rattle.param.specs.declared.AudioParam.{AudioParam}
 use Rattle.param.specs.declared.Outcome.{Outcome}
 use Rattle.param.specs.Param.{paramOf, structOf, nothingMade, SoundParam, Makes, Answers}
-use Rattle.param.proofs.Calls.{whole}
+use Rattle.param.proofs.Calls.{whole, struct-back}
 use Rattle.desk.specs.declared.Desk.{Desk}
 use Rattle.desk.specs.declared.Answered.{Answered}
-use Rattle.desk.specs.Desk.{Table, Turn, deskOf, tableOf, SoundDesk, Spoken, making, asked, answerOf, withNewline, InRange, isScheduling}
+use Rattle.desk.specs.Desk.{Table, Turn, deskOf, afterCommand, tableOf, Told, SoundDesk, Spoken, making, asked, answerOf, withNewline, InRange, isScheduling}
 
 -- ---- a call that is not lent the store
 
@@ -67,14 +72,19 @@ plain-target v t c p s = plain _ p s _
 
 -- ---- what was told
 
--- the desk and the text that `told` leaves
-abbrev pub Told : Outcome → ℕ → List ℕ → ℕ → Answered → List ℕ → Type 0
-Told o lent l at t l′ = (t .desk ≡ deskOf (o .param) lent) × Put l at (verdictText (o .verdict)) l′ (t .next) × (t .next ≤ at + 28)
+told-sound : {d : Desk} (p : AudioParam) (lent : ℕ) (totals : Totals) → d ≡ deskOf p lent totals → SoundParam p → lent ≤ 8192 → SoundDesk d
+told-sound p lent totals e s h = subst SoundDesk (sym e) (record { param = s; lent = h })
 
-told-sound : {d : Desk} (p : AudioParam) (lent : ℕ) → d ≡ deskOf p lent → SoundParam p → lent ≤ 8192 → SoundDesk d
-told-sound p lent e s h = subst SoundDesk (sym e) (record { param = s; lent = h })
+-- what is seen of a command is what it costs
+counted : (c : Command) (d : Desk) (store : List Float) (o : Outcome) → SoundDesk d → o .param ≡ structOf (called (paramOf (d .param)) store c .param)
+    → afterCommand d (o .param) ≡ kept (plus (d .totals) (commandCost (paramOf (d .param)) (called (paramOf (d .param)) store c) c))
+counted c d store o ok e =
+    let p : Param = paramOf (d .param) in
+    ap (λ (q : Param). kept (plus (d .totals) (commandSeen (waitingIn p) (waitingIn q)))) (ap paramOf e ∙ struct-back (called p store c .param))
+    ∙ ap (λ (u : Totals). kept (plus (d .totals) u)) (command-seen p store c (ok .param .sound))
 
-module _ (c : Command) (d : Desk) (s : List Float) (l : List ℕ) (at : ℕ) (o : Outcome) (t : Answered) (l′ : List ℕ) (ok : SoundDesk d) (told : Told o (d .lent) l at t l′) where
+module _ (c : Command) (d : Desk) (s : List Float) (l : List ℕ) (at : ℕ) (o : Outcome) (t : Answered) (l′ : List ℕ) (ok : SoundDesk d)
+    (told : Told o (d .lent) (afterCommand d (o .param)) l at t l′) where
   -- lent the store
   pub lent : (after : List Float) → Answers (d .param) (take (d .lent) s) c o after → Spoken 41999 (asked c) d s l at t (after ++ drop (d .lent) s) l′
   unfolding asked
@@ -83,8 +93,9 @@ module _ (c : Command) (d : Desk) (s : List Float) (l : List ℕ) (at : ℕ) (o 
         param = ap (λ (x : Desk). x .param) (told .0) ∙ a .param;
         lent = ap (λ (x : Desk). x .lent) (told .0);
         store = ap (λ (x : List Float). x ++ drop (d .lent) s) (a .left);
+        totals = ap (λ (x : Desk). x .totals) (told .0) ∙ counted c d (take (d .lent) s) o ok (a .param);
         text = put-same (ap verdictText (a .verdict)) (told .1);
-        sound = told-sound (o .param) (d .lent) (told .0) (a .sound) (ok .lent);
+        sound = told-sound (o .param) (d .lent) _ (told .0) (a .sound) (ok .lent);
         room = omega (arith, told .2);
       }
 
@@ -93,43 +104,47 @@ module _ (c : Command) (d : Desk) (s : List Float) (l : List ℕ) (at : ℕ) (o 
   unfolding asked
   alone same a =
       let e : called (paramOf (d .param)) (take (d .lent) s) c ≡ _ = same (paramOf (d .param)) (take (d .lent) s) in
+      let left : o .param ≡ structOf (called (paramOf (d .param)) (take (d .lent) s) c .param) = a .param ∙ ap (λ (x : Called). structOf (x .param)) (sym e) in
       record {
-        param = ap (λ (x : Desk). x .param) (told .0) ∙ a .param ∙ ap (λ (x : Called). structOf (x .param)) (sym e);
+        param = ap (λ (x : Desk). x .param) (told .0) ∙ left;
         lent = ap (λ (x : Desk). x .lent) (told .0);
         store = sym (ap (λ (x : Called). x .store ++ drop (d .lent) s) e ∙ take-append-drop (d .lent) s);
+        totals = ap (λ (x : Desk). x .totals) (told .0) ∙ counted c d (take (d .lent) s) o ok left;
         text = put-same (ap verdictText (a .verdict ∙ ap (λ (x : Called). x .verdict) (sym e))) (told .1);
-        sound = told-sound (o .param) (d .lent) (told .0) (a .sound) (ok .lent);
+        sound = told-sound (o .param) (d .lent) _ (told .0) (a .sound) (ok .lent);
         room = omega (arith, told .2);
       }
 
 -- ---- making
 
 pub made-spoken : (b : Bounds) (rate : AutomationRate) (o : Outcome) (s s′ : List Float) (l : List ℕ) (at : ℕ) (t : Answered) (l′ : List ℕ) → length s ≡ 8192
-    → s′ ≡ replicate (length s) plusZero → Makes b rate o → Told o 4096 l at t l′ → (d : Desk) → Spoken 41999 (making b rate) d s l at t s′ l′
+    → s′ ≡ replicate (length s) plusZero → Makes b rate o → Told o 4096 nothing l at t l′ → (d : Desk) → Spoken 41999 (making b rate) d s l at t s′ l′
 unfolding making
 made-spoken b rate o s s′ l at t l′ long zeroed a told d =
     record {
       param = ap (λ (x : Desk). x .param) (told .0) ∙ a .param;
       lent = ap (λ (x : Desk). x .lent) (told .0);
       store = zeroed ∙ ap (λ (n : ℕ). replicate n plusZero) long;
+      totals = ap (λ (x : Desk). x .totals) (told .0);
       text = put-same (ap verdictText (a .verdict)) (told .1);
-      sound = told-sound (o .param) 4096 (told .0) (a .sound) (omega arith);
+      sound = told-sound (o .param) 4096 _ (told .0) (a .sound) (omega arith);
       room = omega (arith, told .2);
     }
 
 -- ---- a call that leaves the parameter: how many are lent, the store after it, and its text
 
 pub said : {most : ℕ} (turn : Table → Turn) (d : Desk) (s : List Float) {l : List ℕ} {at : ℕ} {t : Answered} {l′ : List ℕ} (n : ℕ) (s′ : List Float) (x : List ℕ)
-    → SoundDesk d → t .desk ≡ deskOf (d .param) n → n ≤ 8192
-    → turn (tableOf d s) ≡ record { table = record { param = paramOf (d .param); lent = n; store = s′ }; text = x } → Put l at x l′ (t .next) → t .next ≤ at + most
+    → SoundDesk d → t .desk ≡ deskOf (d .param) n (d .totals) → n ≤ 8192
+    → turn (tableOf d s) ≡ record { table = record { param = paramOf (d .param); lent = n; store = s′; totals = d .totals }; text = x } → Put l at x l′ (t .next) → t .next ≤ at + most
     → Spoken most turn d s l at t s′ l′
 said turn d s {t = t} n s′ x ok e h is put-text near =
     record {
       param = ap (λ (y : Desk). y .param) e ∙ whole (d .param) (ok .param) ∙ ap (λ (y : Turn). structOf (y .table .param)) (sym is);
       lent = ap (λ (y : Desk). y .lent) e ∙ ap (λ (y : Turn). y .table .lent) (sym is);
       store = ap (λ (y : Turn). y .table .store) (sym is);
+      totals = ap (λ (y : Desk). y .totals) e ∙ ap (λ (y : Turn). y .table .totals) (sym is);
       text = put-same (ap (λ (y : Turn). y .text) (sym is)) put-text;
-      sound = told-sound (d .param) n e (ok .param) h;
+      sound = told-sound (d .param) n _ e (ok .param) h;
       room = near;
     }
 
@@ -202,6 +217,7 @@ newline {turn} {this} {d} {s} {l} {l₁} {at} {r} {s′} {l′} {next} e spoken 
       param = k .param;
       lent = k .lent;
       store = k .store;
+      totals = k .totals;
       text = put-then (k .text) p (omega (arith, k .room));
       sound = k .sound;
       room = omega (arith, k .room, p .place);

@@ -21,18 +21,25 @@ use Rattle.calls.specs.Language.{Said, callOf}
 use Rattle.calls.specs.declared.Call.{Call}
 use Rattle.calls.specs.declared.Call.the-variants as Call
 use Rattle.answers.specs.Answers.{verdictText, blockText, restText, stateText, eventText, listText, zerosText, areMarks, areZeros}
+use Rattle.costs.specs.declared.Totals.{Totals}
+use Rattle.costs.specs.Costs.{waitingIn, nothing, plus, commandCost, blockCost}
+use Rattle.costs.specs.Seen.{commandSeen, blockSeen}
+use Rattle.tally.specs.Tally.{kept}
 use Rattle.param.specs.declared.AudioParam.{AudioParam}
+use Rattle.param.specs.declared.Outcome.{Outcome}
+use Rattle.param.specs.declared.Processed.{Processed}
 use Rattle.param.specs.Param.{paramOf, structOf, nothingMade, SoundParam}
 use Rattle.desk.specs.declared.Desk.{Desk}
 use Rattle.desk.specs.declared.Answered.{Answered}
 
 -- ---- what a session has at hand
 
--- the parameter, "a fixed array of 8192" numbers, and how many of its first are lent
+-- the parameter, "a fixed array of 8192" numbers, how many of its first are lent, and what the calls have cost since the last `make` (02, C-20; up to 2^64 − 1)
 pub record Table : Type 0 where
   pub param : Param
   pub lent : ℕ
   pub store : List Float
+  pub totals : Totals
 
 -- a call's effect, and its answer without the newline
 pub record Turn : Type 0 where
@@ -44,7 +51,7 @@ unchanged text t = record { table = t; text = text }
 
 -- "Before the first `make`, the parameter is what refusal 1 returns", and 4096 are lent
 abbrev pub unmadeDesk : Desk
-unmadeDesk = record { param = structOf nothingMade; lent = storeLength }
+unmadeDesk = record { param = structOf nothingMade; lent = storeLength; totals = nothing }
 
 -- ---- the calls
 
@@ -56,7 +63,7 @@ unread = unchanged (117 ∷ 110 ∷ 114 ∷ 101 ∷ 97 ∷ 100 ∷ [])
 unfoldable pub making : Bounds → AutomationRate → Table → Turn
 making b rate t =
     record {
-      table = record { param = made b rate; lent = storeLength; store = replicate 8192 plusZero };
+      table = record { param = made b rate; lent = storeLength; store = replicate 8192 plusZero; totals = nothing };
       text = verdictText (lowest (makingRows b));
     }
 
@@ -65,17 +72,31 @@ unfoldable pub asked : Command → Table → Turn
 asked c t =
     let r = called (t .param) (take (t .lent) (t .store)) c in
     record {
-      table = record { param = r .param; lent = t .lent; store = r .store ++ drop (t .lent) (t .store) };
+      table =
+          record {
+            param = r .param;
+            lent = t .lent;
+            store = r .store ++ drop (t .lent) (t .store);
+            totals = kept (plus (t .totals) (commandCost (t .param) r c));
+          };
       text = verdictText (r .verdict);
     }
 
 -- `ok`
 unfoldable pub lending : ℕ → Table → Turn
-lending n t = record { table = record { param = t .param; lent = n; store = t .store }; text = verdictText Verdict.Answered }
+lending n t =
+    record {
+      table = record { param = t .param; lent = n; store = t .store; totals = t .totals };
+      text = verdictText Verdict.Answered;
+    }
 
 -- "put V at place I of that array"
 unfoldable pub poking : ℕ → Float → Table → Turn
-poking i v t = record { table = record { param = t .param; lent = t .lent; store = set (t .store) i v }; text = verdictText Verdict.Answered }
+poking i v t =
+    record {
+      table = record { param = t .param; lent = t .lent; store = set (t .store) i v; totals = t .totals };
+      text = verdictText Verdict.Answered;
+    }
 
 -- ---- the block
 
@@ -90,7 +111,13 @@ unfoldable pub playing : Float → Float → ℕ → List Float → List Float �
 playing time period count input output t =
     let a = answered (t .param) (take (t .lent) (t .store)) (record { time = time; period = period; count = count; input = input; output = output }) in
     record {
-      table = record { param = a .param; lent = t .lent; store = a .store ++ drop (t .lent) (t .store) };
+      table =
+          record {
+            param = a .param;
+            lent = t .lent;
+            store = a .store ++ drop (t .lent) (t .store);
+            totals = kept (plus (t .totals) (blockCost a));
+          };
       text = blockLine (a .verdict) count (a .steps) (a .current) (a .oneValued) (a .output);
     }
 
@@ -152,8 +179,15 @@ lineTurn line = withNewline (saidTurn (callOf line))
 
 -- ---- what the code keeps and ensures
 
-abbrev pub deskOf : AudioParam → ℕ → Desk
-deskOf p n = record { param = p; lent = n }
+abbrev pub deskOf : AudioParam → ℕ → Totals → Desk
+deskOf p n t = record { param = p; lent = n; totals = t }
+
+-- the totals behind a call that left this parameter, and behind a block
+abbrev pub afterCommand : Desk → AudioParam → Totals
+afterCommand d after = kept (plus (d .totals) (commandSeen (waitingIn (paramOf (d .param))) (waitingIn (paramOf after))))
+
+abbrev pub afterBlock : Desk → Processed → Totals
+afterBlock d r = kept (plus (d .totals) (blockSeen (r .verdict) (r .steps) (waitingIn (paramOf (d .param))) (waitingIn (paramOf (r .param)))))
 
 -- a desk that these calls leave
 pub record SoundDesk (d : Desk) : Type 0 where
@@ -161,13 +195,19 @@ pub record SoundDesk (d : Desk) : Type 0 where
   pub lent : d .lent ≤ 8192
 
 abbrev pub tableOf : Desk → List Float → Table
-tableOf d s = record { param = paramOf (d .param); lent = d .lent; store = s }
+tableOf d s = record { param = paramOf (d .param); lent = d .lent; store = s; totals = d .totals }
+
+-- what was told: the desk, and the verdict's text in the buffer
+abbrev pub Told : Outcome → ℕ → Totals → List ℕ → ℕ → Answered → List ℕ → Type 0
+Told o lent totals l at t l′ =
+    (t .desk ≡ deskOf (o .param) lent totals) × Put l at (verdictText (o .verdict)) l′ (t .next) × (t .next ≤ at + 28)
 
 -- a call, by its effect, in at most so many characters: from the desk d, the store s and the buffer l, written from `at` on, to what r says, the store s′ and the buffer l′
 pub record Spoken (most : ℕ) (turn : Table → Turn) (d : Desk) (s : List Float) (l : List ℕ) (at : ℕ) (r : Answered) (s′ : List Float) (l′ : List ℕ) : Type 0 where
   pub param : r .desk .param ≡ structOf (turn (tableOf d s) .table .param)
   pub lent : r .desk .lent ≡ turn (tableOf d s) .table .lent
   pub store : s′ ≡ turn (tableOf d s) .table .store
+  pub totals : r .desk .totals ≡ turn (tableOf d s) .table .totals
   pub text : Put l at (turn (tableOf d s) .text) l′ (r .next)
   pub sound : SoundDesk (r .desk)
   pub room : r .next ≤ at + most

@@ -9,9 +9,8 @@ ghost use Rattle.rules.specs.declared.Verdict.the-variants as Verdict;
 ghost use Rattle.rules.specs.Numbers.{mostCount, plusZero};
 ghost use Rattle.rules.specs.Block.{set, step, linear, exponential, target, curve, cancel, hold};
 ghost use Rattle.text.specs.Put.{Put};
-ghost use Rattle.answers.specs.Answers.{verdictText};
 ghost use Rattle.param.specs.Param.{SoundParam, paramOf};
-ghost use Rattle.desk.specs.Desk.{SoundDesk, InRange, isScheduling, deskOf, Spoken, unread, making, asked, lending, poking, blockLine, playing, marks, stating, answerOf, withNewline, lineTurn, widthAt, waitingAt, queueText, unmadeDesk};
+ghost use Rattle.desk.specs.Desk.{SoundDesk, InRange, isScheduling, deskOf, afterCommand, afterBlock, Told, Spoken, unread, making, asked, lending, poking, blockLine, playing, marks, stating, answerOf, withNewline, lineTurn, widthAt, waitingAt, queueText, unmadeDesk};
 use answers::is_clean;
 use answers::is_zeros;
 use answers::put_block;
@@ -23,6 +22,7 @@ use answers::put_verdict;
 use answers::put_zeros;
 use calls::Call;
 use calls::read_call;
+use costs::Totals;
 use param::AudioParam;
 use param::Outcome;
 use param::Processed;
@@ -30,14 +30,18 @@ use rules::AutomationRate;
 use rules::Bounds;
 use rules::Head;
 use rules::Verdict;
+use tally::after_block;
+use tally::after_command;
+use tally::none;
 use text::write::put_byte;
 use text::write::put_word;
 use timeline::length_of;
 
-// The parameter at hand, and how many numbers of the store are lent to its calls.
+// The parameter at hand, how many numbers of the store are lent to its calls, and what these have cost since it was made.
 pub struct Desk {
     pub param: AudioParam,
     pub lent: usize,
+    pub totals: Totals,
 }
 
 // The desk after a call, and the place behind its answer.
@@ -57,7 +61,11 @@ pub fn at_first() -> Desk
     };
     let r = AudioParam::new(no_range, AutomationRate::A);
     let param = r.param;
-    Desk { param, lent: 4096 }
+    Desk {
+        param,
+        lent: 4096,
+        totals: none(),
+    }
 }
 
 // An answer in a word, by which nothing changes.
@@ -70,15 +78,30 @@ fn word(desk: Desk, out: &mut [u8], at: usize, word: &[u8]) -> Answered
 }
 
 // What a call says, and the parameter after it.
-fn told(r: Outcome, lent: usize, out: &mut [u8], at: usize) -> Answered
+fn told(r: Outcome, lent: usize, totals: Totals, out: &mut [u8], at: usize) -> Answered
     requires { ⌜ at + 42000 ≤ length (now out) ⌝ }
-    ensures { λ t. ⌜ (t .desk ≡ deskOf (r .param) lent) × Put (now (out .entry)) at (verdictText (r .verdict)) (now (out .exit)) (t .next) × (t .next ≤ at + 28) ⌝ }
+    ensures { λ t. ⌜ Told r lent totals (now (out .entry)) at t (now (out .exit)) ⌝ }
 {
     let verdict = r.verdict;
     let param = r.param;
     let next = put_verdict(out, at, verdict);
-    let desk = Desk { param, lent };
+    let desk = Desk {
+        param,
+        lent,
+        totals,
+    };
     Answered { desk, next }
+}
+
+// The same of a call that schedules or cancels, with its cost.
+fn called(desk: Desk, r: Outcome, out: &mut [u8], at: usize) -> Answered
+    requires { ⌜ SoundParam (desk .param) × SoundParam (r .param) × (at + 42000 ≤ length (now out)) ⌝ }
+    ensures { λ t. ⌜ Told r (desk .lent) (afterCommand desk (r .param)) (now (out .entry)) at t (now (out .exit)) ⌝ }
+{
+    let before = desk.param;
+    let after = r.param;
+    let totals = after_command(desk.totals, before.len(), after.len());
+    told(r, desk.lent, totals, out, at)
 }
 
 // All numbers of a store +0.
@@ -103,7 +126,7 @@ fn make(
     ensures { λ r. ⌜ ((d : Desk) → Spoken 41999 (making bounds rate) d (now (store .entry)) (now (out .entry)) at r (now (store .exit)) (now (out .exit))) ⌝ }
 {
     clear(store);
-    told(AudioParam::new(bounds, rate), 4096, out, at)
+    told(AudioParam::new(bounds, rate), 4096, none(), out, at)
 }
 
 fn set(desk: Desk, value: f32, out: &mut [u8], at: usize) -> Answered
@@ -111,7 +134,7 @@ fn set(desk: Desk, value: f32, out: &mut [u8], at: usize) -> Answered
     ensures { λ r. ⌜ ((s : List Float) → Spoken 41999 (asked (set value)) desk s (now (out .entry)) at r s (now (out .exit))) ⌝ }
 {
     let p = desk.param;
-    told(p.set_value(value), desk.lent, out, at)
+    called(desk, p.set_value(value), out, at)
 }
 
 fn step(desk: Desk, value: f32, time: f64, out: &mut [u8], at: usize) -> Answered
@@ -119,7 +142,7 @@ fn step(desk: Desk, value: f32, time: f64, out: &mut [u8], at: usize) -> Answere
     ensures { λ r. ⌜ ((s : List Float) → Spoken 41999 (asked (step value time)) desk s (now (out .entry)) at r s (now (out .exit))) ⌝ }
 {
     let p = desk.param;
-    told(p.set_value_at_time(value, time), desk.lent, out, at)
+    called(desk, p.set_value_at_time(value, time), out, at)
 }
 
 fn linear(desk: Desk, value: f32, time: f64, out: &mut [u8], at: usize) -> Answered
@@ -127,12 +150,7 @@ fn linear(desk: Desk, value: f32, time: f64, out: &mut [u8], at: usize) -> Answe
     ensures { λ r. ⌜ ((s : List Float) → Spoken 41999 (asked (linear value time)) desk s (now (out .entry)) at r s (now (out .exit))) ⌝ }
 {
     let p = desk.param;
-    told(
-        p.linear_ramp_to_value_at_time(value, time),
-        desk.lent,
-        out,
-        at,
-    )
+    called(desk, p.linear_ramp_to_value_at_time(value, time), out, at)
 }
 
 fn exponential(desk: Desk, value: f32, time: f64, out: &mut [u8], at: usize) -> Answered
@@ -140,9 +158,9 @@ fn exponential(desk: Desk, value: f32, time: f64, out: &mut [u8], at: usize) -> 
     ensures { λ r. ⌜ ((s : List Float) → Spoken 41999 (asked (exponential value time)) desk s (now (out .entry)) at r s (now (out .exit))) ⌝ }
 {
     let p = desk.param;
-    told(
+    called(
+        desk,
         p.exponential_ramp_to_value_at_time(value, time),
-        desk.lent,
         out,
         at,
     )
@@ -153,12 +171,7 @@ fn target(desk: Desk, value: f32, time: f64, constant: f64, out: &mut [u8], at: 
     ensures { λ r. ⌜ ((s : List Float) → Spoken 41999 (asked (target value time constant)) desk s (now (out .entry)) at r s (now (out .exit))) ⌝ }
 {
     let p = desk.param;
-    told(
-        p.set_target_at_time(value, time, constant),
-        desk.lent,
-        out,
-        at,
-    )
+    called(desk, p.set_target_at_time(value, time, constant), out, at)
 }
 
 fn curve(
@@ -176,7 +189,7 @@ fn curve(
     let p = desk.param;
     let lent = desk.lent;
     let r = p.set_value_curve_at_time(values, start, duration, &mut store[..lent]);
-    told(r, lent, out, at)
+    called(desk, r, out, at)
 }
 
 fn cancel(desk: Desk, time: f64, store: &mut [f32], out: &mut [u8], at: usize) -> Answered
@@ -186,7 +199,7 @@ fn cancel(desk: Desk, time: f64, store: &mut [f32], out: &mut [u8], at: usize) -
     let p = desk.param;
     let lent = desk.lent;
     let r = p.cancel_scheduled_values(time, &mut store[..lent]);
-    told(r, lent, out, at)
+    called(desk, r, out, at)
 }
 
 fn hold(desk: Desk, time: f64, store: &mut [f32], out: &mut [u8], at: usize) -> Answered
@@ -196,7 +209,7 @@ fn hold(desk: Desk, time: f64, store: &mut [f32], out: &mut [u8], at: usize) -> 
     let p = desk.param;
     let lent = desk.lent;
     let r = p.cancel_and_hold_at_time(time, &mut store[..lent]);
-    told(r, lent, out, at)
+    called(desk, r, out, at)
 }
 
 fn lend(desk: Desk, len: usize, out: &mut [u8], at: usize) -> Answered
@@ -204,7 +217,13 @@ fn lend(desk: Desk, len: usize, out: &mut [u8], at: usize) -> Answered
     ensures { λ r. ⌜ ((s : List Float) → Spoken 41999 (lending len) desk s (now (out .entry)) at r s (now (out .exit))) ⌝ }
 {
     let param = desk.param;
-    word(Desk { param, lent: len }, out, at, b"ok")
+    let totals = desk.totals;
+    let desk = Desk {
+        param,
+        lent: len,
+        totals,
+    };
+    word(desk, out, at, b"ok")
 }
 
 fn poke(
@@ -242,6 +261,22 @@ fn put_processed(r: Processed, count: usize, output: &[f32], out: &mut [u8], at:
     }
 }
 
+// The desk after a block, with its cost.
+fn played(desk: Desk, r: Processed) -> Desk
+    requires { ⌜ SoundParam (desk .param) × SoundParam (r .param) ⌝ }
+    ensures { λ d. ⌜ d ≡ deskOf (r .param) (desk .lent) (afterBlock desk r) ⌝ }
+{
+    let before = desk.param;
+    let after = r.param;
+    let verdict = r.verdict;
+    let totals = after_block(desk.totals, verdict, r.steps, before.len(), after.len());
+    Desk {
+        param: after,
+        lent: desk.lent,
+        totals,
+    }
+}
+
 // A block, with its output lent.
 fn play(
     desk: Desk,
@@ -261,8 +296,7 @@ fn play(
     let lent = desk.lent;
     let r = p.process(time, period, count, input, output, &mut store[..lent]);
     let next = put_processed(r, count, &output[..], out, at);
-    let param = r.param;
-    let desk = Desk { param, lent };
+    let desk = played(desk, r);
     Answered { desk, next }
 }
 

@@ -23,7 +23,7 @@ use Rattle.param.specs.Param.{paramOf}
 use Rattle.desk.specs.declared.Desk.{Desk}
 use Rattle.desk.specs.declared.Answered.{Answered}
 use Rattle.desk.specs.Desk.{Table, Turn, tableOf, SoundDesk, Spoken, unchanged, saidTurn, withNewline, lineTurn}
-use Rattle.play.specs.Played.{notRead, clashIn, told, strictTurn, translatedTurn, plainTurn}
+use Rattle.play.specs.Played.{notRead, clashIn, told, strictTurn, costTurn, readTurn, translatedTurn, plainTurn}
 
 -- ---- an answer without its newline, and what is told of it
 
@@ -53,6 +53,7 @@ module _ (line : List ℕ) {d : Desk} {s : List Float} {l : List ℕ} {r : Answe
         param = spoken .param;
         lent = spoken .lent;
         store = spoken .store;
+        totals = spoken .totals;
         text = put-then (put-same (ap (λ (x : Clash). told n x (take (r .next - 1) l′)) e ∙ ap (told n (clashIn (paramOf (d .param) .queue) (callOf line))) is-answer) p) q h;
         sound = spoken .sound;
         room = near;
@@ -87,9 +88,18 @@ module _ (n : ℕ) (line : List ℕ) where
   unfolding plainTurn translatedTurn
   no-translation e = ap (λ (o : Option (List ℕ)). withNewline (translatedTurn n o)) (sym e)
 
-  pub a-translation : {t u : List ℕ} → translation line ≡ some t → u ≡ t → withNewline (strictTurn n u) ≡ withNewline (plainTurn n line)
+  pub a-translation : {t u : List ℕ} → translation line ≡ some t → u ≡ t → withNewline (readTurn n u) ≡ withNewline (plainTurn n line)
   unfolding plainTurn translatedTurn
-  a-translation e g = ap (λ (u : List ℕ). withNewline (strictTurn n u)) g ∙ ap (λ (o : Option (List ℕ)). withNewline (translatedTurn n o)) (sym e)
+  a-translation e g = ap (λ (u : List ℕ). withNewline (readTurn n u)) g ∙ ap (λ (o : Option (List ℕ)). withNewline (translatedTurn n o)) (sym e)
+
+  -- `cost`, or a word of the session language
+  pub read-cost : sameWord line (codes "cost") ≡ true → withNewline costTurn ≡ withNewline (readTurn n line)
+  unfolding readTurn
+  read-cost e = rw e
+
+  pub read-strict : sameWord line (codes "cost") ≡ false → withNewline (strictTurn n line) ≡ withNewline (readTurn n line)
+  unfolding readTurn
+  read-strict e = rw e
 
 pub spoken-same : {most : ℕ} {turn this : Table → Turn} {d : Desk} {s : List Float} {l : List ℕ} {at : ℕ} {r : Answered} {s′ : List Float} {l′ : List ℕ}
     → turn ≡ this → Spoken most turn d s l at r s′ l′ → Spoken most this d s l at r s′ l′

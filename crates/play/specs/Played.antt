@@ -7,6 +7,8 @@ use Prim.Native.Nat.{ℕ, _+_, _*_, _≤_}
 use lib.ListN.{length}
 use lib.Ieee.{Float}
 use Rattle.rules.specs.declared.Event.{Event}
+use Rattle.costs.specs.Costs.{waitingIn}
+use Rattle.tally.specs.Tally.{costText}
 use Rattle.text.specs.Digits.{decimalOf}
 use Rattle.text.specs.Words.{sameWord}
 use Rattle.calls.specs.Language.{Said, callOf}
@@ -42,9 +44,17 @@ strictTurn n line t =
     let r = saidTurn (callOf line) t in
     record { table = r .table; text = told n (clashIn (t .param .queue) (callOf line)) (r .text) }
 
+-- `cost`: the totals of the calls since the last `make`, in words
+unfoldable pub costTurn : Table → Turn
+costTurn t = unchanged (costText (t .totals) (waitingIn (t .param))) t
+
+-- the n-th line, translated; `cost` is no word of the session language
+unfoldable pub readTurn : ℕ → List ℕ → Table → Turn
+readTurn n line = cond (sameWord line (codes "cost")) costTurn (strictTurn n line)
+
 unfoldable pub translatedTurn : ℕ → Option (List ℕ) → Table → Turn
 translatedTurn n none = unchanged (notRead n)
-translatedTurn n (some line) = strictTurn n line
+translatedTurn n (some line) = readTurn n line
 
 -- the n-th line, as a person writes it
 unfoldable pub plainTurn : ℕ → List ℕ → Table → Turn

@@ -9,7 +9,7 @@ ghost use Rattle.calls.specs.Language.{callOf};
 ghost use Rattle.param.specs.Param.{paramOf};
 ghost use Rattle.desk.specs.Desk.{SoundDesk, Spoken, unchanged, withNewline};
 ghost use Rattle.lines.specs.Lines.{LineIn};
-ghost use Rattle.play.specs.Played.{notRead, clashIn, told, strictTurn, plainTurn, Lent, Going};
+ghost use Rattle.play.specs.Played.{notRead, clashIn, told, strictTurn, costTurn, readTurn, plainTurn, Lent, Going};
 use calls::read_call;
 use clashes::Clash;
 use clashes::clash_of;
@@ -26,6 +26,7 @@ use lines::last_line;
 use lines::make_room;
 use lines::next_line;
 use replies::put_reply;
+use tally::put_cost;
 use text::words::same;
 use text::write::put_byte;
 use text::write::put_count;
@@ -114,6 +115,37 @@ fn answer_not_read(desk: Desk, n: u64, out: &mut [u8], at: usize) -> Answered
     Answered { desk, next }
 }
 
+// What the calls have cost since the last `make`.
+fn answer_cost(desk: Desk, out: &mut [u8], at: usize) -> Answered
+    requires { ⌜ SoundDesk desk × (at + 168200 ≤ length (now out)) ⌝ }
+    ensures { λ r. ⌜ ((s : List Float) → Spoken 168200 (withNewline costTurn) desk s (now (out .entry)) at r s (now (out .exit))) ⌝ }
+{
+    let p = desk.param;
+    let to = put_cost(out, at, desk.totals, p.len() as u64);
+    let next = put_byte(out, to, b'\n');
+    Answered { desk, next }
+}
+
+// The n-th line, translated.
+fn answer_read(
+    desk: Desk,
+    n: u64,
+    line: &[u8],
+    numbers: &mut [f32],
+    store: &mut [f32],
+    said: &mut [u8],
+    out: &mut [u8],
+    at: usize,
+) -> Answered
+    requires { ⌜ SoundDesk desk × (5000 ≤ length (now numbers)) × (length (now store) ≡ 8192) × (42000 ≤ length (now said)) × (at + 168200 ≤ length (now out)) ⌝ }
+    ensures { λ r. ⌜ Spoken 168200 (withNewline (readTurn n (now (line .entry)))) desk (now (store .entry)) (now (out .entry)) at r (now (store .exit)) (now (out .exit)) ⌝ }
+{
+    if same(line, b"cost") {
+        return answer_cost(desk, out, at);
+    }
+    answer_strict(desk, n, line, numbers, store, said, out, at)
+}
+
 // The n-th line, as a person writes it.
 fn answer_plain(
     desk: Desk,
@@ -132,7 +164,7 @@ fn answer_plain(
     let Field::To(to) = translate(strict, line) else {
         return answer_not_read(desk, n, out, at);
     };
-    answer_strict(desk, n, &strict[..to], numbers, store, said, out, at)
+    answer_read(desk, n, &strict[..to], numbers, store, said, out, at)
 }
 
 // Room for one more answer: where there is none, those that wait are written.

@@ -6,6 +6,7 @@ use native.Mathlib.Omega.{arith}
 use lib.ListN.{length}
 use lib.Ieee.{Float}
 use Rattle.rules.specs.Block.{Param}
+use Rattle.costs.specs.declared.Totals.{Totals}
 use Rattle.text.proofs.Writing.{put-nothing, put-same, put-then}
 use Rattle.param.specs.Param.{paramOf, structOf}
 use Rattle.param.proofs.Calls.{struct-back}
@@ -27,13 +28,14 @@ by-next input {d = d} {s} {l} {at} {r} {s′} {l′} e spoken = subst (λ (n : N
 
 -- ---- one thing said behind another
 
-same-table : {p q : Param} {n m : ℕ} {s t : List Float} → p ≡ q → n ≡ m → s ≡ t → _≡_ {A = Table} (record { param = p; lent = n; store = s }) (record { param = q; lent = m; store = t })
-same-table e f g = rw (e, f, g)
+same-table : {p q : Param} {n m : ℕ} {s t : List Float} {a b : Totals} → p ≡ q → n ≡ m → s ≡ t → a ≡ b
+    → _≡_ {A = Table} (record { param = p; lent = n; store = s; totals = a }) (record { param = q; lent = m; store = t; totals = b })
+same-table e f g h = rw (e, f, g, h)
 
 -- what is at hand once it is said
 said-table : {most : ℕ} {turn : Table → Turn} {d : Desk} {s : List Float} {l : List ℕ} {at : ℕ} {r : Answered} {s′ : List Float} {l′ : List ℕ}
     → Spoken most turn d s l at r s′ l′ → tableOf (r .desk) s′ ≡ turn (tableOf d s) .table
-said-table k = same-table (ap paramOf (k .param) ∙ struct-back _) (k .lent) (k .store)
+said-table k = same-table (ap paramOf (k .param) ∙ struct-back _) (k .lent) (k .store) (k .totals)
 
 then-said : {m n : ℕ} (most : ℕ) {f g : Table → Turn} {d : Desk} {s s₁ s′ : List Float} {l l₁ l′ : List ℕ} {at : ℕ} {r r′ : Answered}
     → Spoken m f d s l at r s₁ l₁ → Spoken n g (r .desk) s₁ l₁ (r .next) r′ s′ l′ → r .next ≤ length l → r′ .next ≤ at + most → Spoken most (andThen f g) d s l at r′ s′ l′
@@ -44,6 +46,7 @@ then-said most {g = g} a b h near =
       param = b .param ∙ ap (λ (t : Table). structOf (g t .table .param)) e;
       lent = b .lent ∙ ap (λ (t : Table). g t .table .lent) e;
       store = b .store ∙ ap (λ (t : Table). g t .table .store) e;
+      totals = b .totals ∙ ap (λ (t : Table). g t .table .totals) e;
       text = put-then (a .text) (put-same (ap (λ (t : Table). g t .text) e) (b .text)) h;
       sound = b .sound;
       room = near;

@@ -27,11 +27,13 @@ pub examples :
     × means "block at 0 by 1 for 64" "block 0000000000000000 3ff0000000000000 64 64 0"
     × means "block 3 1 2 2 -0 NaN" "block 4008000000000000 3ff0000000000000 2 2 2 80000000 7fc00000"
     × means "set x00000001" "set 00000001"
+    × means " cost  # so far" "cost"
     × means "# nothing" ""
     × means "at" ""
     × unread "step 5"
     × unread "step 5 2 3"
     × unread "step 1e-40 0"
     × unread "jump 1 2"
+    × unread "cost 1"
 unfolding isBlank split isOne isSmall kept spoken wordsAt inFront spaced bitsOf fieldOf withField fields numbers cappedAt lengthFor lengthAnd blockFields tailOf andThen formed scheduling rows formIn whole translated translation ending isOver sameWord joined plainIn held namedIn decimalIn unsignedIn scaled scaledBy tensIn tensOf digitsIn fractionDigits wholeDigits digitsPart before behindSign signLength isMinus floatIn floatOf floatText bitsIn countIn upTo numberIn numberFrom areDigits valueFrom digitOf digitsOf glyphOf decimalOf placesOf indexOf narrowed round ofBits toBits
-examples = (refl, refl, refl, refl, refl, refl, refl, refl, refl, refl, refl, refl, refl)
+examples = (refl, refl, refl, refl, refl, refl, refl, refl, refl, refl, refl, refl, refl, refl, refl)

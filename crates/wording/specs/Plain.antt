@@ -1,5 +1,5 @@
 -- The language of `play`: the calls of the session language with decimal numbers, words apart by blanks, small words between them, and a comment
--- behind `#`. A line means what its translation into the session language means.
+-- behind `#`. A line means what its translation into the session language means; that language has no `cost`, which `play` answers itself.
 use mathlib.Core.Bool.{Bool, true, false, cond, _||_}
 use mathlib.Core.List.{List, [], _∷_, _++_}
 use mathlib.Core.Option.{Option, none, some}
@@ -143,6 +143,7 @@ rows =
     ∷ row (codes "state") (Form.Is Kind.AsItIs 0 (Tail.Fields Kind.AsItIs 0))
     ∷ row (codes "lend") (Form.Is Kind.AsItIs 1 (Tail.Fields Kind.AsItIs 0))
     ∷ row (codes "poke") (Form.Is Kind.AsItIs 1 (Tail.Fields Kind.Value 1))
+    ∷ row (codes "cost") (Form.Is Kind.AsItIs 0 (Tail.Fields Kind.AsItIs 0))
     ∷ scheduling
 
 unfoldable pub formIn : List Row → Word → Form

@@ -1,4 +1,4 @@
-// A line as a person writes it, put into the session language: the same calls with decimal numbers.
+// A line as a person writes it, put into the session language: the same calls with decimal numbers, and `cost`, which that language has not.
 ghost use mathlib.Core.Path.{_≡_};
 ghost use Prim.Native.Nat.{ℕ, _+_, _-_, _*_, _≤_, _<_};
 ghost use lib.ListN.{length, drop};
@@ -354,6 +354,9 @@ fn form_of(word: &[u8]) -> Form
     }
     if same(word, b"poke") {
         return two_kinds(Kind::AsItIs, 1, Kind::Value, 1);
+    }
+    if same(word, b"cost") {
+        return two_kinds(Kind::AsItIs, 0, Kind::AsItIs, 0);
     }
     scheduling_form(word)
 }

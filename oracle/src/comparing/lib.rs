@@ -1,6 +1,6 @@
-//! What `generate`, `judge`, `expected`, `compare` and `bursts` share: sessions drawn at
-//! random, what is claimed of a session before any answer is seen, and the
-//! judging of two sides' answers.
+//! What `generate`, `judge`, `expected`, `compare`, `bursts` and `costs` share: sessions
+//! drawn at random, what is claimed of a session before any answer is seen, the
+//! judging of two sides' answers, and smaller sessions.
 
 pub mod draw;
 pub mod family;
@@ -10,5 +10,6 @@ pub mod plain;
 pub mod plan;
 pub mod session;
 pub mod side;
+pub mod smaller;
 pub mod summary;
 pub mod verdict;

@@ -35,15 +35,21 @@ impl Side {
         String::from_utf8_lossy(&output).lines().map(str::to_string).collect()
     }
 
-    /// The answers to each session. One in which the program ended early is
-    /// filled up, and the next is given to a new process.
+    /// The answers to each session.
     pub fn answers(&self, sessions: &[Session]) -> Vec<Vec<String>> {
-        let mut all = Vec::with_capacity(sessions.len());
-        while all.len() < sessions.len() {
-            let rest = &sessions[all.len()..];
-            let mut lines = self.play(rest.iter().map(Session::text).collect()).into_iter();
-            for session in rest {
-                let n = session.calls.len();
+        let texts: Vec<String> = sessions.iter().map(Session::text).collect();
+        self.answers_to(&texts)
+    }
+
+    /// The answers to each text, one for each of its lines. One in which the program
+    /// ended early is filled up, and the next is given to a new process.
+    pub fn answers_to(&self, texts: &[String]) -> Vec<Vec<String>> {
+        let mut all = Vec::with_capacity(texts.len());
+        while all.len() < texts.len() {
+            let rest = &texts[all.len()..];
+            let mut lines = self.play(rest.concat()).into_iter();
+            for text in rest {
+                let n = text.lines().count();
                 let mut own: Vec<String> = lines.by_ref().take(n).collect();
                 let early = own.len() < n;
                 own.resize(n, MISSING.to_string());

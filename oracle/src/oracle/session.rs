@@ -166,12 +166,17 @@ pub fn write_call(call: &Call) -> String {
 
 /// Answers every line of standard input by `answer`, in order.
 pub fn serve(mut answer: impl FnMut(&Line) -> String) {
+    serve_text(|text| answer(&read_line(text)));
+}
+
+/// The same of lines as they stand, for words that are none of the language.
+pub fn serve_text(mut answer: impl FnMut(&str) -> String) {
     use std::io::{Read, Write};
     let mut bytes = Vec::new();
     std::io::stdin().read_to_end(&mut bytes).expect("standard input");
     let mut out = std::io::BufWriter::new(std::io::stdout().lock());
     for line in lines(&bytes) {
-        let text = answer(&read_line(&String::from_utf8_lossy(line)));
+        let text = answer(&String::from_utf8_lossy(line));
         if writeln!(out, "{text}").is_err() {
             return; // the reader is gone
         }

@@ -1,6 +1,7 @@
 //! The parameter by 01: its calls with their refusals, the store, the answers.
 
 use crate::claims::{Claims, Reach};
+use crate::costs::Costs;
 use crate::near::{Near, Value};
 use crate::numbers::mixed;
 use crate::queue::{cancel, claim_arrival, hold, insert, inside, rust_inside, Event, Kind};
@@ -22,6 +23,8 @@ pub struct Reference {
     last: Option<(f64, Value)>,
     store: Vec<f32>,
     lent: usize,
+    /// Without the waiting events, which the queue has.
+    costs: Costs,
     /// What param.rs does differently in the call just answered.
     pub claims: Claims,
 }
@@ -59,6 +62,7 @@ impl Reference {
             last: None,
             store: vec![0.; 8192],
             lent: STORE,
+            costs: Costs::default(),
             claims: Claims::default(),
         }
     }
@@ -70,6 +74,11 @@ impl Reference {
 
     pub fn intrinsic(&self) -> f32 {
         self.intrinsic.value
+    }
+
+    /// The totals since the last `make`, refused or not; before the first, of all calls.
+    pub fn costs(&self) -> Costs {
+        Costs { waiting: self.queue.len() as u64, ..self.costs }
     }
 
     pub fn answer(&mut self, call: &Call) -> String {
@@ -140,6 +149,7 @@ impl Reference {
         let event = Event { time: plus_zero(event.time), ..event.clone() };
         claim_arrival(&self.queue, &event, self.last.is_none(), &mut self.claims);
         insert(&mut self.queue, event);
+        self.costs.stored += 1;
     }
 
     /// A step at 0; inside where a curve from 0 waits.
@@ -226,7 +236,9 @@ impl Reference {
         let refused = refusal(&rows);
         if refused.is_none() {
             self.read_store();
+            let waited = self.queue.len();
             let gone = cancel(&mut self.queue, c, &mut self.claims);
+            self.count_cancelled(waited);
             if gone.as_ref().is_some_and(Event::is_ramp) {
                 self.claims.note(Reach::Ends, "no-last-event", self.last.is_none());
                 self.intrinsic = self.last.map_or(self.intrinsic, |(_, v)| v);
@@ -243,11 +255,18 @@ impl Reference {
         if refused.is_none() {
             self.claims.note(Reach::Ends, "minus-zero-time", is_minus_zero(c));
             self.read_store();
+            let waited = self.queue.len();
             let gone = hold(&mut self.queue, plus_zero(c), &mut self.claims);
+            self.count_cancelled(waited);
             self.leave_curve(gone);
             self.pack_store();
         }
         self.refuse(refused)
+    }
+
+    /// Those that went, of so many that waited before the cancel or hold.
+    fn count_cancelled(&mut self, waited: usize) {
+        self.costs.cancelled += (waited - self.queue.len()) as u64;
     }
 
     /// "If a curve removed by any cancel was the head and had started by the last
@@ -329,6 +348,7 @@ impl Reference {
         if let Some(number) = self.block_refusal(b) {
             return format!("refused {number} clean");
         }
+        self.costs.blocks += 1;
         self.claims.note(Reach::Ends, "minus-zero-time", is_minus_zero(b.time));
         let (time, count) = (plus_zero(b.time), b.count as usize);
         let next = (count as f64).mul_add(b.period, time);
@@ -357,6 +377,7 @@ impl Reference {
         let at_end = waits.is_some_and(|(ramp, t)| !ramp && t == facts.next);
         self.claims.note(Reach::Ends, "block-end", at_end);
         if waits.is_none_or(|(ramp, t)| !ramp && t > facts.next) {
+            self.costs.steps += 1;
             return (vec![self.intrinsic], 1, true);
         }
         let mut walk = Walk {
@@ -365,6 +386,7 @@ impl Reference {
             intrinsic: &mut self.intrinsic,
             last: &mut self.last,
             claims: &mut self.claims,
+            costs: &mut self.costs,
             buffer: Vec::with_capacity(facts.count),
             steps: 0,
         };

@@ -1,6 +1,7 @@
 //! Rendering one block: the walk over the heads.
 
 use crate::claims::{Claims, Reach, Run};
+use crate::costs::Costs;
 use crate::near::{exponential_near, target_near, Near, Value};
 use crate::numbers::{curve_sample, end_place, exponential_sample, linear_sample};
 use crate::numbers::{target_factor, target_sample};
@@ -23,6 +24,7 @@ pub struct Walk<'a> {
     pub intrinsic: &'a mut Value,
     pub last: &'a mut Option<(f64, Value)>,
     pub claims: &'a mut Claims,
+    pub costs: &'a mut Costs,
     /// The samples so far; at K-rate the block's one value.
     pub buffer: Vec<Value>,
     pub steps: u32,
@@ -65,6 +67,7 @@ impl Walk<'_> {
         let mut rest = None;
         while rest.is_none() {
             self.steps += 1;
+            self.costs.steps += 1;
             let Some(head) = self.queue.first().cloned() else { break };
             let (from, waiting) = (self.buffer.len(), self.queue.len());
             let no_length = self.last.is_some_and(|(start, _)| has_no_length(&head, start));
@@ -110,6 +113,7 @@ impl Walk<'_> {
 
     fn consume(&mut self, time: f64, value: Value) -> Next {
         self.queue.remove(0);
+        self.costs.finished += 1;
         *self.last = Some((time, value));
         *self.intrinsic = value;
         Next::GoOn
@@ -172,6 +176,7 @@ impl Walk<'_> {
         if turns {
             let time = head.hold.unwrap_or(head.time);
             self.queue[0] = Event { kind: Kind::Step, value: head.value, time, hold: None };
+            self.costs.turned += 1;
             return Next::GoOn;
         }
         self.ramp(head, start, |t| {

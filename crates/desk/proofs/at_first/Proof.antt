@@ -1,7 +1,8 @@
 -- `desk::at_first` meets its contract: there is no such range. Assumes nothing.
-use mathlib.Core.Path.{ap, _∙_}
+use mathlib.Core.Path.{ap, ap₂, _∙_}
 use native.Mathlib.Omega.{arith}
 use Rattle.rules.specs.Block.{Param}
+use Rattle.costs.specs.declared.Totals.{Totals}
 use Rattle.param.specs.declared.AudioParam.{AudioParam}
 use Rattle.param.specs.Param.{structOf}
 use Rattle.desk.specs.Desk.{deskOf}
@@ -16,10 +17,13 @@ use Rattle.param.proofs.AudioParam.new.Reads as new-reads
 new-requires : tie.Need-new-requires
 new-requires c κs = search needs
 
+none-requires : tie.Need-none-requires
+none-requires c κs = search needs
+
 returns : tie.Need-returns
 returns c =
-    let made = c .before .new .ensures in
-    (ap (λ (p : AudioParam). deskOf p 4096) (made .param ∙ ap (λ (p : Param). structOf p) no-range), record { param = made .sound; lent = omega arith })
+    let made = c .before .before .new .ensures in
+    (ap₂ (λ (p : AudioParam) (t : Totals). deskOf p 4096 t) (made .param ∙ ap (λ (p : Param). structOf p) no-range) (c .none .ensures), record { param = made .sound; lent = omega arith })
 
 pub at-first-spec : {M : Type 1} → statement M
-at-first-spec = tie.close (tie.spec new-requires returns)
+at-first-spec = tie.close (tie.spec new-requires none-requires returns)

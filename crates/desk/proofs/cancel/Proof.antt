@@ -8,7 +8,7 @@ use Rattle.desk.proofs.cancel.Statement.{statement}
 use Rattle.desk.proofs.cancel.Tie as tie
 use Rattle.desk.proofs.cancel.Reads as reads
 use Rattle.desk.proofs.cancel.Lts as lts
-use Rattle.desk.proofs.told.Reads as told-reads
+use Rattle.desk.proofs.called.Reads as called-reads
 use Rattle.param.proofs.AudioParam.cancel_scheduled_values.Reads as cancel-scheduled-values-reads
 
 slice-relend-prefix-cancel-scheduled-values : tie.Need-slice-relend-prefix-cancel-scheduled-values
@@ -21,8 +21,8 @@ slice-aggregate-cancel-scheduled-values c =
 cancel-scheduled-values-requires : tie.Need-cancel-scheduled-values-requires
 cancel-scheduled-values-requires c κs = search needs
 
-told-requires : tie.Need-told-requires
-told-requires c κs = search needs
+called-requires : tie.Need-called-requires
+called-requires c κs = search needs
 
 same-length : tie.Need-same-length
 same-length c = search needs
@@ -31,7 +31,7 @@ same-length-2 : tie.Need-same-length-2
 same-length-2 c = search needs
 
 returns : tie.Need-returns
-returns c = lent _ _ _ _ _ _ _ _ (c .before .before .before .before .before .before .before .before .before .before .before .pre .0) (c .before .before .told .ensures) _ (c .before .before .before .before .before .before .cancel-scheduled-values .ensures)
+returns c = lent _ _ _ _ _ _ _ _ (c .before .before .before .before .before .before .before .before .before .before .before .pre .0) (c .before .before .called .ensures) _ (c .before .before .before .before .before .before .cancel-scheduled-values .ensures)
 
 pub cancel-spec : {M : Type 1} → statement M
 cancel-spec =
@@ -40,7 +40,7 @@ cancel-spec =
     slice-relend-prefix-cancel-scheduled-values
     slice-aggregate-cancel-scheduled-values
     cancel-scheduled-values-requires
-    told-requires
+    called-requires
     same-length
     same-length-2
     returns)

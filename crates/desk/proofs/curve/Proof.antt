@@ -8,7 +8,7 @@ use Rattle.desk.proofs.curve.Statement.{statement}
 use Rattle.desk.proofs.curve.Tie as tie
 use Rattle.desk.proofs.curve.Reads as reads
 use Rattle.desk.proofs.curve.Lts as lts
-use Rattle.desk.proofs.told.Reads as told-reads
+use Rattle.desk.proofs.called.Reads as called-reads
 use Rattle.param.proofs.AudioParam.set_value_curve_at_time.Reads as set-value-curve-at-time-reads
 
 slice-relend-prefix-set-value-curve-at-time : tie.Need-slice-relend-prefix-set-value-curve-at-time
@@ -21,8 +21,8 @@ slice-aggregate-set-value-curve-at-time c =
 set-value-curve-at-time-requires : tie.Need-set-value-curve-at-time-requires
 set-value-curve-at-time-requires c κs = search needs
 
-told-requires : tie.Need-told-requires
-told-requires c κs = search needs
+called-requires : tie.Need-called-requires
+called-requires c κs = search needs
 
 same-length : tie.Need-same-length
 same-length c = search needs
@@ -31,7 +31,7 @@ same-length-2 : tie.Need-same-length-2
 same-length-2 c = search needs
 
 returns : tie.Need-returns
-returns c = lent _ _ _ _ _ _ _ _ (c .before .before .before .before .before .before .before .before .before .before .before .before .pre .0) (c .before .before .told .ensures) _ (c .before .before .before .before .before .before .set-value-curve-at-time .ensures)
+returns c = lent _ _ _ _ _ _ _ _ (c .before .before .before .before .before .before .before .before .before .before .before .before .pre .0) (c .before .before .called .ensures) _ (c .before .before .before .before .before .before .set-value-curve-at-time .ensures)
 
 pub curve-spec : {M : Type 1} → statement M
 curve-spec =
@@ -40,7 +40,7 @@ curve-spec =
     slice-relend-prefix-set-value-curve-at-time
     slice-aggregate-set-value-curve-at-time
     set-value-curve-at-time-requires
-    told-requires
+    called-requires
     same-length
     same-length-2
     returns)

@@ -8,7 +8,7 @@ use Rattle.desk.proofs.hold.Statement.{statement}
 use Rattle.desk.proofs.hold.Tie as tie
 use Rattle.desk.proofs.hold.Reads as reads
 use Rattle.desk.proofs.hold.Lts as lts
-use Rattle.desk.proofs.told.Reads as told-reads
+use Rattle.desk.proofs.called.Reads as called-reads
 use Rattle.param.proofs.AudioParam.cancel_and_hold_at_time.Reads as cancel-and-hold-at-time-reads
 
 slice-relend-prefix-cancel-and-hold-at-time : tie.Need-slice-relend-prefix-cancel-and-hold-at-time
@@ -21,8 +21,8 @@ slice-aggregate-cancel-and-hold-at-time c =
 cancel-and-hold-at-time-requires : tie.Need-cancel-and-hold-at-time-requires
 cancel-and-hold-at-time-requires c κs = search needs
 
-told-requires : tie.Need-told-requires
-told-requires c κs = search needs
+called-requires : tie.Need-called-requires
+called-requires c κs = search needs
 
 same-length : tie.Need-same-length
 same-length c = search needs
@@ -31,7 +31,7 @@ same-length-2 : tie.Need-same-length-2
 same-length-2 c = search needs
 
 returns : tie.Need-returns
-returns c = lent _ _ _ _ _ _ _ _ (c .before .before .before .before .before .before .before .before .before .before .before .pre .0) (c .before .before .told .ensures) _ (c .before .before .before .before .before .before .cancel-and-hold-at-time .ensures)
+returns c = lent _ _ _ _ _ _ _ _ (c .before .before .before .before .before .before .before .before .before .before .before .pre .0) (c .before .before .called .ensures) _ (c .before .before .before .before .before .before .cancel-and-hold-at-time .ensures)
 
 pub hold-spec : {M : Type 1} → statement M
 hold-spec =
@@ -40,7 +40,7 @@ hold-spec =
     slice-relend-prefix-cancel-and-hold-at-time
     slice-aggregate-cancel-and-hold-at-time
     cancel-and-hold-at-time-requires
-    told-requires
+    called-requires
     same-length
     same-length-2
     returns)

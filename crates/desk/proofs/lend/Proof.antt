@@ -22,7 +22,7 @@ same-length c = search needs
 
 returns : tie.Need-returns
 unfolding lending verdictText
-returns c = λ s. said _ _ s _ s _ (c .before .before .before .before .before .before .before .pre .0) (c .before .before .word .ensures .0) (c .before .before .before .before .before .before .before .pre .1) refl (c .before .before .word .ensures .1) (omega arith)
+returns c = λ s. said _ _ s _ s _ (c .before .before .before .before .before .before .before .before .pre .0) (c .before .before .word .ensures .0) (c .before .before .before .before .before .before .before .before .pre .1) refl (c .before .before .word .ensures .1) (omega arith)
 
 pub lend-spec : {M : Type 1} → statement M
 lend-spec = tie.close (tie.spec slice-aggregate-word word-requires same-length returns)

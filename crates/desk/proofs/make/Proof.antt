@@ -15,6 +15,9 @@ clear-requires c κs = search needs
 new-requires : tie.Need-new-requires
 new-requires c κs = search needs
 
+none-requires : tie.Need-none-requires
+none-requires c κs = search needs
+
 told-requires : tie.Need-told-requires
 told-requires c κs = search needs
 
@@ -25,9 +28,11 @@ same-length-2 : tie.Need-same-length-2
 same-length-2 c = search needs
 
 returns : tie.Need-returns
-returns c = made-spoken _ _ _ _ _ _ _ _ _ (c .before .before .before .before .before .before .before .before .before .before .before .pre .0) (c .before .before .before .before .before .before .before .clear .ensures) (c .before .before .before .before .new .ensures) (c .before .before .told .ensures)
+returns c =
+    made-spoken _ _ _ _ _ _ _ _ _ (c .before .before .before .before .before .before .before .before .before .before .before .before .pre .0) (c .before .before .before .before .before .before .before .before .clear .ensures) (c .before .before .before .before .before .new .ensures)
+    (rw (c .before .before .before .before .none .ensures) at (c .before .before .told .ensures))
 
 pub make-spec : {M : Type 1} → statement M
 make-spec =
     tie.close
-    (tie.spec clear-requires new-requires told-requires same-length same-length-2 returns)
+    (tie.spec clear-requires new-requires none-requires told-requires same-length same-length-2 returns)

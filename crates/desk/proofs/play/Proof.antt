@@ -36,10 +36,13 @@ same-length-2 c = search needs
 same-length-3 : tie.Need-same-length-3
 same-length-3 c = search needs
 
+played-requires : tie.Need-played-requires
+played-requires c κs = (c .before .before .before .before .before .before .before .before .before .before .before .before .before .before .before .before .before .pre .0 .param, c .before .before .before .before .before .before .before .before .before .process .ensures .sound)
+
 returns : tie.Need-returns
 returns c =
     let a = c .before .before .before .before .before .before .before .before .before .before .before .before .before .before .before .before .before .before in
-    played _ _ _ _ _ (a .args .desk) (a .args .store .now) (c .before .before .before .before .before .before .before .before .before .before .process .ensures) (a .pre .0) (c .before .before .before .put-processed .ensures .0) (c .before .before .before .put-processed .ensures .1)
+    played _ _ _ _ _ (a .args .desk) (a .args .store .now) (c .before .before .before .before .before .before .before .before .before .before .process .ensures) (a .pre .0) (c .played .ensures) (c .before .before .before .put-processed .ensures .0) (c .before .before .before .put-processed .ensures .1)
 
 pub play-spec : {M : Type 1} → statement M
 play-spec =
@@ -49,6 +52,7 @@ play-spec =
     slice-aggregate-process
     process-requires
     put-processed-requires
+    played-requires
     same-length
     same-length-2
     same-length-3

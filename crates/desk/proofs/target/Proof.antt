@@ -5,20 +5,20 @@ use Rattle.desk.proofs.target.Statement.{statement}
 use Rattle.desk.proofs.target.Tie as tie
 use Rattle.desk.proofs.target.Reads as reads
 use Rattle.desk.proofs.target.Lts as lts
-use Rattle.desk.proofs.told.Reads as told-reads
+use Rattle.desk.proofs.called.Reads as called-reads
 use Rattle.param.proofs.AudioParam.set_target_at_time.Reads as set-target-at-time-reads
 
 set-target-at-time-requires : tie.Need-set-target-at-time-requires
 set-target-at-time-requires c κs = search needs
 
-told-requires : tie.Need-told-requires
-told-requires c κs = search needs
+called-requires : tie.Need-called-requires
+called-requires c κs = search needs
 
 same-length : tie.Need-same-length
 same-length c = search needs
 
 returns : tie.Need-returns
-returns c = λ s. alone _ _ s _ _ _ _ _ (c .before .before .before .before .before .before .before .pre .0) (c .before .before .told .ensures) (plain-target _ _ _) (c .before .before .before .before .set-target-at-time .ensures)
+returns c = λ s. alone _ _ s _ _ _ _ _ (c .before .before .before .before .before .before .before .pre .0) (c .before .before .called .ensures) (plain-target _ _ _) (c .before .before .before .before .set-target-at-time .ensures)
 
 pub target-spec : {M : Type 1} → statement M
-target-spec = tie.close (tie.spec set-target-at-time-requires told-requires same-length returns)
+target-spec = tie.close (tie.spec set-target-at-time-requires called-requires same-length returns)

@@ -11,7 +11,7 @@ use Rattle.play.proofs.answer_plain.Tie as tie
 use Rattle.play.proofs.answer_plain.Reads as reads
 use Rattle.play.proofs.answer_plain.Lts as lts
 use Rattle.play.proofs.answer_not_read.Reads as answer-not-read-reads
-use Rattle.play.proofs.answer_strict.Reads as answer-strict-reads
+use Rattle.play.proofs.answer_read.Reads as answer-read-reads
 use Rattle.wording.proofs.translate.Reads as translate-reads
 
 translate-requires : tie.Need-translate-requires
@@ -36,16 +36,16 @@ returns : tie.Need-returns
 returns c =
     spoken-same (no-translation _ _ (wrote-unread _ _ _ _ (c .before .before .before .before .before .before .before .before .translate .ensures .0) (c .before .before .before .before .enum-told .given .1))) (c .before .before .answer-not-read .ensures _)
 
-slice-reshare-prefix-answer-strict : tie.Need-slice-reshare-prefix-answer-strict
-slice-reshare-prefix-answer-strict c =
+slice-reshare-prefix-answer-read : tie.Need-slice-reshare-prefix-answer-read
+slice-reshare-prefix-answer-read c =
     le-trans (room-to _ (c .before .before .before .before .before .translate .ensures .1) (c .before .to .given .1)) (le-of-eq (search needs))
 
-slice-aggregate-answer-strict : tie.Need-slice-aggregate-answer-strict
-slice-aggregate-answer-strict c =
+slice-aggregate-answer-read : tie.Need-slice-aggregate-answer-read
+slice-aggregate-answer-read c =
     sym (length-take-le _ _ (le-trans (room-to _ (c .before .before .before .before .before .before .translate .ensures .1) (c .before .before .to .given .1)) (le-of-eq (search needs))))
 
-answer-strict-requires : tie.Need-answer-strict-requires
-answer-strict-requires c κs = search needs
+answer-read-requires : tie.Need-answer-read-requires
+answer-read-requires c κs = search needs
 
 same-length-3 : tie.Need-same-length-3
 same-length-3 c = search needs
@@ -65,7 +65,7 @@ same-length-7 c = search needs
 returns-2 : tie.Need-returns-2
 returns-2 c =
     let v = wrote-to (c .before .before .before .before .before .before .before .before .before .before .before .before .before .before .before .before .before .before .before .translate .ensures .0) (c .before .before .before .before .before .before .before .before .before .before .before .before .before .before .before .to .given .1) in
-    spoken-same (a-translation _ _ (v .1) (written-is (v .2) (room-to _ (c .before .before .before .before .before .before .before .before .before .before .before .before .before .before .before .before .before .before .before .translate .ensures .1) (c .before .before .before .before .before .before .before .before .before .before .before .before .before .before .before .to .given .1)))) (c .before .before .before .before .before .before .before .before .answer-strict .ensures)
+    spoken-same (a-translation _ _ (v .1) (written-is (v .2) (room-to _ (c .before .before .before .before .before .before .before .before .before .before .before .before .before .before .before .before .before .before .before .translate .ensures .1) (c .before .before .before .before .before .before .before .before .before .before .before .before .before .before .before .to .given .1)))) (c .before .before .before .before .before .before .before .before .answer-read .ensures)
 
 pub answer-plain-spec : {M : Type 1} → statement M
 answer-plain-spec =
@@ -78,9 +78,9 @@ answer-plain-spec =
     same-length
     same-length-2
     returns
-    slice-reshare-prefix-answer-strict
-    slice-aggregate-answer-strict
-    answer-strict-requires
+    slice-reshare-prefix-answer-read
+    slice-aggregate-answer-read
+    answer-read-requires
     same-length-3
     same-length-4
     same-length-5

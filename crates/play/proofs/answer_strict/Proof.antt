@@ -42,7 +42,7 @@ put-byte-requires c κs =
     room-left _ _ _ _ (nearby _ _ _ _ (length-take-le (c .before .before .before .before .before .before .before .before .before .before .before .before .before .before .answer-line .result .next - 1) (c .before .before .before .before .before .before .before .before .before .before .before .before .before .before .answer-line .last .1 .1 .1 .1 .0) (within _ _ _ (c .before .before .before .before .before .before .before .before .before .before .before .before .before .before .answer-line .ensures .room) (c .before .before .before .before .before .before .before .before .before .before .before .before .before .before .before .before .before .before .before .before .before .before .before .before .before .before .before .pre .3) (c .before .before .before .before .before .before .before .before .before .before .before .before .before .before .answer-line .kept .1 .1 .1 .1 .0))) (c .before .before .before .before .before .before .before .before .before .before .before .before .before .before .answer-line .ensures .room) (c .before .before .before .put-told .ensures .1)) (c .before .before .before .before .before .before .before .before .before .before .before .before .before .before .before .before .before .before .before .before .before .before .before .before .before .before .before .pre .4) (search needs)
 
 same-length : tie.Need-same-length
-same-length c = search needs
+same-length c = search (needs, c .before .before .before .before .before .before .before .before .before .before .before .before .before .before .before .before .before .answer-line .kept .1 .1 .0, c .before .before .before .before .before .before .before .before .before .before .before .before .before .before .before .before .before .before .before .before .before .before .before .clash-in .kept .1 .1 .0)
 
 same-length-2 : tie.Need-same-length-2
 same-length-2 c = search needs

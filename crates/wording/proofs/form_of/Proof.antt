@@ -41,6 +41,10 @@ left-5 : (c : tie.Else5) → formIn rows (c .before .before .before .before .bef
 unfolding rows scheduling
 left-5 c = left-4 (c .before .before .before) ∙ row-not _ _ _ _ (sym (c .before .same5 .ensures) ∙ c .if5 .left)
 
+left-6 : (c : tie.Else6) → formIn rows (c .before .before .before .before .before .before .before .before .before .before .before .before .before .before .before .before .before .before .before .args .word .now) ≡ formIn (drop 6 rows) (c .before .before .before .before .before .before .before .before .before .before .before .before .before .before .before .before .before .before .before .args .word .now)
+unfolding rows scheduling
+left-6 c = left-5 (c .before .before .before) ∙ row-not _ _ _ _ (sym (c .before .same6 .ensures) ∙ c .if6 .left)
+
 returns : tie.Need-returns
 unfolding rows scheduling
 returns c = c .two-kinds .ensures ∙ sym (row-is _ _ _ _ (sym (c .before .before .same .ensures) ∙ c .before .if1 .taken))
@@ -94,12 +98,25 @@ returns-5 : tie.Need-returns-5
 unfolding rows scheduling
 returns-5 c = c .two-kinds4 .ensures ∙ sym (left-4 (c .before .before .before .before) ∙ row-is _ _ _ _ (sym (c .before .before .same5 .ensures) ∙ c .before .if5 .taken))
 
+slice-aggregate-same-6 : tie.Need-slice-aggregate-same-6
+slice-aggregate-same-6 c = search needs
+
+same-requires-6 : tie.Need-same-requires-6
+same-requires-6 c κs = search needs
+
+two-kinds-requires-5 : tie.Need-two-kinds-requires-5
+two-kinds-requires-5 c κs = search needs
+
+returns-6 : tie.Need-returns-6
+unfolding rows scheduling
+returns-6 c = c .two-kinds5 .ensures ∙ sym (left-5 (c .before .before .before .before) ∙ row-is _ _ _ _ (sym (c .before .before .same6 .ensures) ∙ c .before .if6 .taken))
+
 scheduling-form-requires : tie.Need-scheduling-form-requires
 scheduling-form-requires c κs = search needs
 
-returns-6 : tie.Need-returns-6
+returns-7 : tie.Need-returns-7
 unfolding rows scheduling formIn
-returns-6 c = c .scheduling-form .ensures ∙ sym (left-5 (c .before))
+returns-7 c = c .scheduling-form .ensures ∙ sym (left-6 (c .before))
 
 pub form-of-spec : {M : Type 1} → statement M
 form-of-spec =
@@ -124,5 +141,9 @@ form-of-spec =
     same-requires-5
     two-kinds-requires-4
     returns-5
+    slice-aggregate-same-6
+    same-requires-6
+    two-kinds-requires-5
+    returns-6
     scheduling-form-requires
-    returns-6)
+    returns-7)

@@ -1,0 +1,113 @@
+-- What a desk keeps is what its session has cost: the totals of the calls since the last `make`, so that C-20's sums hold of them. Assumes nothing.
+use mathlib.Core.Path.{_≡_, refl, sym, ap, _∙_}
+use mathlib.Core.List.{List, [], _∷_, _++_}
+use mathlib.Core.Option.{Option, none, some}
+use Prim.Native.Nat.{ℕ, _<_}
+use native.Mathlib.Omega.{arith}
+use lib.ListN.{take}
+use lib.Ieee.{Float}
+use Rattle.rules.specs.declared.Bounds.{Bounds}
+use Rattle.rules.specs.declared.AutomationRate.{AutomationRate}
+use Rattle.rules.specs.declared.AutomationRate.the-variants as Rate
+use Rattle.rules.specs.Block.{Param, made, Command}
+use Rattle.rules.specs.Block as rule
+use Rattle.calls.specs.Language.{Said}
+use Rattle.calls.specs.declared.Call.{Call}
+use Rattle.calls.specs.declared.Call.the-variants as Call
+use Rattle.costs.specs.declared.Totals.{Totals}
+use Rattle.costs.specs.Costs.{Asked, command, block, left, leftByAll, waitingIn, costOf, plus, totals, Sums}
+use Rattle.costs.proofs.Costs.{one-more-left, one-more-costs, session-sums}
+use Rattle.tally.specs.Tally.{largest, capped, kept}
+use Rattle.tally.proofs.Kept.{kept-plus, kept-sums}
+use Rattle.desk.specs.Desk.{Table, unread, making, asked, lending, poking, playing, marks, stating, answerOf, saidTurn, tableOf, unmadeDesk}
+use Rattle.param.proofs.Calls.{struct-back}
+use Rattle.desk.proofs.Turns.{no-range}
+
+-- a table with a parameter that was made so and has had these calls
+pub record Counts (t : Table) : Type 0 where
+  pub bounds : Bounds
+  pub rate : AutomationRate
+  pub calls : List Asked
+  pub param : t .param ≡ leftByAll (made bounds rate) calls
+  pub totals : t .totals ≡ kept (totals (made bounds rate) calls)
+
+-- ---- a call more
+
+module _ (t u : Table) (k : Counts t) where
+  one-more : (a : Asked) → u .param ≡ left (t .param) a → u .totals ≡ kept (plus (t .totals) (costOf (t .param) a)) → Counts u
+  one-more a p c =
+      let first : Param = made (k .bounds) (k .rate) in
+      record {
+        bounds = k .bounds;
+        rate = k .rate;
+        calls = k .calls ++ (a ∷ []);
+        param = p ∙ ap (λ (q : Param). left q a) (k .param) ∙ sym (one-more-left first (k .calls) a);
+        totals =
+            c
+            ∙ ap (λ (x : Totals). kept (plus x (costOf (t .param) a))) (k .totals)
+            ∙ kept-plus (totals first (k .calls)) (costOf (t .param) a)
+            ∙ ap (λ (q : Param). kept (plus (totals first (k .calls)) (costOf q a))) (k .param)
+            ∙ ap kept (sym (one-more-costs first (k .calls) a));
+      }
+
+  -- a line that is no call of the parameter
+  same : u .param ≡ t .param → u .totals ≡ t .totals → Counts u
+  same p c = record { bounds = k .bounds; rate = k .rate; calls = k .calls; param = p ∙ k .param; totals = c ∙ k .totals }
+
+asked-counts : (c : Command) (t : Table) → Counts t → Counts (asked c t .table)
+unfolding asked left costOf
+asked-counts c t k = one-more t (asked c t .table) k (command (take (t .lent) (t .store)) c) refl refl
+
+playing-counts : (time period : Float) (count : ℕ) (input output : List Float) (t : Table) → Counts t → Counts (playing time period count input output t .table)
+unfolding playing left costOf
+playing-counts time period count input output t k =
+    one-more t (playing time period count input output t .table) k
+    (block (take (t .lent) (t .store)) (record { time = time; period = period; count = count; input = input; output = output })) refl refl
+
+making-counts : (b : Bounds) (r : AutomationRate) (t : Table) → Counts (making b r t .table)
+unfolding making leftByAll totals
+making-counts b r t = record { bounds = b; rate = r; calls = []; param = refl; totals = unfold kept capped in refl }
+
+-- ---- every line
+
+pub said-counts : (call : Call) (numbers : List Float) (t : Table) → Counts t → Counts (answerOf call numbers t .table)
+unfolding answerOf unread lending poking stating
+said-counts Call.Nothing numbers t k = k
+said-counts Call.Unread numbers t k = k
+said-counts (Call.Make b rate) numbers t k = making-counts b rate t
+said-counts (Call.Set v) numbers t k = asked-counts (rule.set v) t k
+said-counts (Call.Step v u) numbers t k = asked-counts (rule.step v u) t k
+said-counts (Call.Linear v u) numbers t k = asked-counts (rule.linear v u) t k
+said-counts (Call.Exponential v u) numbers t k = asked-counts (rule.exponential v u) t k
+said-counts (Call.Target v u c) numbers t k = asked-counts (rule.target v u c) t k
+said-counts (Call.Curve u d n) numbers t k = asked-counts (rule.curve u d (take n numbers)) t k
+said-counts (Call.Cancel u) numbers t k = asked-counts (rule.cancel u) t k
+said-counts (Call.Hold u) numbers t k = asked-counts (rule.hold u) t k
+said-counts (Call.Block u p n o i) numbers t k = playing-counts u p n (take i numbers) (marks o) t k
+said-counts (Call.Lend n) numbers t k = same t _ k refl refl
+said-counts (Call.Poke i v) numbers t k = same t _ k refl refl
+said-counts Call.State numbers t k = k
+
+pub line-counts : (o : Option Said) (t : Table) → Counts t → Counts (saidTurn o t .table)
+unfolding saidTurn unread
+line-counts none t k = k
+line-counts (some s) t k = said-counts (s .0) (s .1) t k
+
+-- before the first `make`
+pub first-counts : (s : List Float) → Counts (tableOf unmadeDesk s)
+unfolding leftByAll totals
+first-counts s =
+    record {
+      bounds = _;
+      rate = Rate.A;
+      calls = [];
+      param = struct-back _ ∙ sym no-range;
+      totals = unfold kept capped in refl;
+    }
+
+-- ---- so the sums hold of what it keeps, while no counter stands at its end
+
+pub desk-sums : (t : Table) → Counts t → t .totals .steps < largest → t .totals .stored < largest → Sums (t .totals) (waitingIn (t .param))
+desk-sums t k steps stored =
+    let first : Param = made (k .bounds) (k .rate) in
+    rw (k .totals, k .param) (kept-sums (session-sums (k .bounds) (k .rate) (k .calls)) (rw (k .totals) at steps) (rw (k .totals) at stored))
