@@ -1,18 +1,19 @@
 /* One audio parameter, proved: its scheduling calls and its block renderer.
  *
- * The caller owns all memory: a state of 398 numbers and a curve store of 4,096 floats, both for one parameter. Neither is
+ * The caller owns all memory: a state of 399 numbers and a curve store of 4,096 floats, both for one parameter. Neither is
  * allocated, kept or freed here; a state can be copied, stored and compared like any array of numbers. Its first number is the
  * version of its layout: one that was stored under another version gets 100, and so does an array of zeros.
  *
  * Every function but crackledray_version answers 0, or why it is refused: a number of document 01, or 100 (enum
- * crackledray_answer). Where a call is refused nothing changes; the exceptions are crackledray_make's state and crackledray_block's
- * steps, current and one, as their comments say. No number that is passed is out of bounds for a function: each is answered or
- * refused.
+ * crackledray_answer). Where a call is refused nothing changes; the exceptions are the state of crackledray_make and
+ * crackledray_make_under, and crackledray_block's steps, current and one, as their comments say. No number that is passed is out of
+ * bounds for a function: each is answered or refused.
  *
- * 100: the state has not 398 numbers, or they fail the test that is made of them at every call (README.md beside this file, "The
- * state", lists it: the version is 2, the rate word is 0 or 1, at most 64 events wait, in order of time, values are finite, times
- * are not below 0, the last block's end is not before its time, ..). The test is the parameter's invariant. Every state that these
- * calls leave passes it; a state that passes it need not have been left by calls, and is answered as what stands in it.
+ * 100: the state has not 399 numbers, or they fail the test that is made of them at every call (README.md beside this file, "The
+ * state", lists it: the version is 3, the rate word is 0 or 1, the edition 1 or 2, at most 64 events wait, in order of time, values
+ * are finite, times are not below 0, the last block's end is not before its time, ..). The test is the parameter's invariant. Every
+ * state that these calls leave passes it; a state that passes it need not have been left by calls, and is answered as what stands
+ * in it.
  *
  * For firmware:
  * - There is no allocation and no data that is written to but the caller's: constants alone. From outside the archive wants memcpy
@@ -20,6 +21,8 @@
  *   on different threads; two on the same state or store may not.
  * - No function waits, calls itself, or calls the caller back. All of them are proved to end.
  * - Stack: enum crackledray_stack has the most that each call takes.
+ * - The output is crackledray_block's own until it returns: while a block is computed, values stand there that are not yet mixed with
+ *   the input and not yet limited to the range. Hand it to a converter, a DMA or another thread only behind the call.
  * - Everything that a pointer leads to is initialised by the caller, whatever to, also what is only written: the state that is made,
  *   the output, the store, and steps, current and one (false or true) of a block.
  *
@@ -48,23 +51,30 @@ extern "C" {
 #endif
 
 /* Major, minor and patch, 8 bits each. */
-#define CRACKLEDRAY_VERSION 0x000600u
+#define CRACKLEDRAY_VERSION 0x000700u
 
 /* The same number, of the archive: not this one where header and archive do not belong together. */
 uint32_t crackledray_version(void);
 
 enum {
-    CRACKLEDRAY_STATE = 398,       /* numbers of a state */
-    CRACKLEDRAY_STATE_VERSION = 2, /* the first of them: which layout it has */
+    CRACKLEDRAY_STATE = 399,       /* numbers of a state */
+    CRACKLEDRAY_STATE_VERSION = 3, /* the first of them: which layout it has */
     CRACKLEDRAY_STORE = 4096,      /* floats of a curve store, and of all waiting curves */
     CRACKLEDRAY_EVENTS = 64,       /* events that can wait */
-    CRACKLEDRAY_COUNT = 128        /* samples of a block, at most */
+    CRACKLEDRAY_COUNT = 128,       /* samples of a block, at most: under the first edition .. */
+    CRACKLEDRAY_LONG_COUNT = 1024  /* .. and under the second */
+};
+
+/* What a parameter is made under, and keeps. The editions differ in how many samples a block can have, and in nothing else. */
+enum crackledray_edition {
+    CRACKLEDRAY_FIRST_EDITION = 1, /* Web Audio API 1.0: 1 to 128 */
+    CRACKLEDRAY_SECOND_EDITION = 2 /* Web Audio API 1.1: 1 to 1,024 */
 };
 
 /* Bytes of stack that a call takes at most in the x86-64 archive, its return address counted, memcpy's and memset's own not.
  * library/stack reads the exact numbers out of an archive; library/test holds them to these. */
 enum crackledray_stack {
-    CRACKLEDRAY_STACK_MAKE = 16384, /* crackledray_make */
+    CRACKLEDRAY_STACK_MAKE = 16384, /* crackledray_make, crackledray_make_under */
     CRACKLEDRAY_STACK_HOLD = 40960, /* crackledray_hold */
     CRACKLEDRAY_STACK_CALL = 32768  /* each of the others */
 };
@@ -72,26 +82,32 @@ enum crackledray_stack {
 /* What a call answers. Where several apply, 100 is given, else the lowest, 11 counting as between 6 and 7. The other numbers are given
  * by no function. */
 enum crackledray_answer {
-    CRACKLEDRAY_ANSWERED = 0,      /* done */
-    CRACKLEDRAY_BOUNDS = 1,        /* a bound or the default is not finite, or not min <= default <= max */
-    CRACKLEDRAY_NOT_FINITE = 2,    /* a value, time, time constant, duration or curve number is not finite */
-    CRACKLEDRAY_BEFORE_ZERO = 3,   /* a scheduled or cancel time is below 0 */
-    CRACKLEDRAY_NOT_ABOVE = 4,     /* a time constant below 0, or a duration not above 0 */
-    CRACKLEDRAY_ZERO_TARGET = 5,   /* an exponential ramp to 0 */
-    CRACKLEDRAY_SHORT_CURVE = 6,   /* a curve of fewer than 2 numbers */
-    CRACKLEDRAY_QUEUE_FULL = 7,    /* 64 events wait */
-    CRACKLEDRAY_STORE_FULL = 8,    /* the waiting curves and this one have more than 4,096 numbers */
-    CRACKLEDRAY_BAD_BLOCK = 9,     /* block time, sample period, count, or the lengths of input and output */
-    CRACKLEDRAY_OUT_OF_ORDER = 10, /* a block before the last answered one */
-    CRACKLEDRAY_INSIDE = 11,       /* inside a waiting curve, or a curve with a waiting event's time inside */
-    CRACKLEDRAY_BAD_STORE = 14,    /* the curve store has not 4,096 floats */
-    CRACKLEDRAY_BAD_STATE = 100    /* the state's length, or the test of a state (not document 01's) */
+    CRACKLEDRAY_ANSWERED = 0,         /* done */
+    CRACKLEDRAY_BOUNDS = 1,           /* a bound or the default is not finite, or not min <= default <= max */
+    CRACKLEDRAY_NOT_FINITE = 2,       /* a value, time, time constant, duration or curve number is not finite */
+    CRACKLEDRAY_BEFORE_ZERO = 3,      /* a scheduled or cancel time is below 0 */
+    CRACKLEDRAY_NOT_ABOVE = 4,        /* a time constant below 0, or a duration not above 0 */
+    CRACKLEDRAY_ZERO_TARGET = 5,      /* an exponential ramp to 0 */
+    CRACKLEDRAY_SHORT_CURVE = 6,      /* a curve of fewer than 2 numbers */
+    CRACKLEDRAY_QUEUE_FULL = 7,       /* 64 events wait */
+    CRACKLEDRAY_STORE_FULL = 8,       /* the waiting curves and this one have more than 4,096 numbers */
+    CRACKLEDRAY_BAD_BLOCK = 9,        /* block time, sample period, count (by the edition), or the lengths of input and output */
+    CRACKLEDRAY_OUT_OF_ORDER = 10,    /* a block before the last answered one */
+    CRACKLEDRAY_INSIDE = 11,          /* inside a waiting curve, or a curve with a waiting event's time inside */
+    CRACKLEDRAY_UNKNOWN_EDITION = 12, /* an edition that is neither 1 nor 2 */
+    CRACKLEDRAY_BAD_STORE = 14,       /* the curve store has not 4,096 floats */
+    CRACKLEDRAY_BAD_STATE = 100       /* the state's length, or the test of a state (not document 01's) */
 };
 
-/* Makes a parameter; K-rate where k_rate, else A-rate. The state may hold anything before. Refused by 1 the state IS written: it is
- * that of an A-rate parameter with all numbers 0 (the version is 2), which other calls accept. Refused by 100 it stays as it is.
- * The curve store of a new parameter may hold anything. */
+/* Makes a parameter of the first edition; K-rate where k_rate, else A-rate. The state may hold anything before. Refused by 1 the
+ * state IS written: it is that of an A-rate parameter of the first edition with all numbers 0 (the version is 3 and the edition 1),
+ * which other calls accept. Refused by 100 it stays as it is. The curve store of a new parameter may hold anything. */
 uint32_t crackledray_make(uint64_t *state, size_t state_length, float min, float default_value, float max, bool k_rate);
+
+/* The same under an edition, 1 or 2; any other number is refused by 12, where the bounds are not by 1. Refused by 1 or 12 the state
+ * IS written: it is the one above, of the first edition. */
+uint32_t crackledray_make_under(uint64_t *state, size_t state_length, float min, float default_value, float max, bool k_rate,
+                                uint64_t edition);
 
 /* An immediate set: a step at time 0. */
 uint32_t crackledray_set(uint64_t *state, size_t state_length, float value);
@@ -120,10 +136,10 @@ uint32_t crackledray_cancel(uint64_t *state, size_t state_length, double time, f
  * the value returns, as by a cancel. */
 uint32_t crackledray_hold(uint64_t *state, size_t state_length, double time, float *store, size_t store_length);
 
-/* One block: count samples (1 to 128) from the time on, a sample period apart, into the first places of the output; the other
- * places stay. The input is mixed in: count numbers, or none for silence. steps: events walked, at most 129. current: the value
- * before the block. one: all samples are one value. Refused, these are 0, 0 and false, and by 100 they stay as they are; so the
- * caller initialises them. */
+/* One block: count samples (1 to 128, under the second edition 1 to 1,024) from the time on, a sample period apart, into the first
+ * places of the output; the other places stay. The input is mixed in: count numbers, or none for silence. steps: events walked, at
+ * most 129. current: the value before the block. one: all samples are one value. Refused, these are 0, 0 and false, and by 100 they
+ * stay as they are; so the caller initialises them. */
 uint32_t crackledray_block(uint64_t *state, size_t state_length, double time, double period, size_t count, const float *input,
                            size_t input_length, float *output, size_t output_length, float *store, size_t store_length,
                            size_t *steps, float *current, bool *one);

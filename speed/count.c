@@ -2,10 +2,10 @@
 typedef unsigned long size_t;
 typedef unsigned long word;
 
-enum { STATE = 398, STORE = 4096, COUNT = 128, SIZES = 3 };
+enum { STATE = 399, STORE = 4096, COUNT = 128, LONG_COUNT = 1024, SIZES = 3 };
 
 /* the exported calls, as in library/crackledray.h, and the loops of speed_c and speed_a */
-unsigned crackledray_make(word *state, size_t states, float min, float start, float max, _Bool k_rate);
+unsigned crackledray_make_under(word *state, size_t states, float min, float start, float max, _Bool k_rate, word edition);
 unsigned crackledray_step(word *state, size_t states, float value, double time);
 unsigned crackledray_linear(word *state, size_t states, float value, double time);
 unsigned crackledray_exponential(word *state, size_t states, float value, double time);
@@ -59,7 +59,7 @@ static void number(size_t n, size_t base) {
 }
 
 static word state[STATE];
-static float output[COUNT], store[STORE];
+static float output[LONG_COUNT], store[STORE];
 
 /* whether a block uses the kind's events up, and when that block is */
 static _Bool is_once(char kind) { return kind == 's' || kind == 'r' || kind == 'n' || kind == 'b'; }
@@ -71,12 +71,12 @@ static double near(char kind, int place, int i) {
     return from(kind) + (at > 0.0 ? at : 0.0) / 48000.0;
 }
 
-/* kinds of speed/run: c l e t s r k h, session n, beyond b */
+/* kinds of speed/run: c l e t s r k h, session n, beyond b; g: linear in a block of 1,024 under the second edition */
 static void schedule(char kind) {
     double period = 1.0 / 48000.0, hour = 3600.0;
-    crackledray_make(state, STATE, -1000.0f, 0.5f, 1000.0f, kind == 'k');
+    crackledray_make_under(state, STATE, -1000.0f, 0.5f, 1000.0f, kind == 'k', kind == 'g' ? 2 : 1);
     if (kind != 'c' && !is_once(kind)) crackledray_step(state, STATE, 1.0f, 0.0);
-    if (kind == 'l' || kind == 'k' || kind == 'h') crackledray_linear(state, STATE, 2.0f, hour);
+    if (kind == 'l' || kind == 'k' || kind == 'h' || kind == 'g') crackledray_linear(state, STATE, 2.0f, hour);
     if (kind == 'e') crackledray_exponential(state, STATE, 2.0f, hour);
     if (kind == 't') crackledray_target(state, STATE, 2.0f, 0.0, hour);
     for (int i = 0; i < 64; i++) {
@@ -92,14 +92,14 @@ __attribute__((used)) static void start(long *stack) {
     char **words = (char **)(stack + 1);
     char kind = words[1][0];
     double period = 1.0 / 48000.0;
-    size_t blocks = 0, count = kind == 'h' ? 64 : COUNT;
+    size_t blocks = 0, count = kind == 'h' ? 64 : kind == 'g' ? LONG_COUNT : COUNT, room = kind == 'g' ? LONG_COUNT : COUNT;
     for (char *p = words[2]; *p; p++) blocks = 10 * blocks + (size_t)(*p - '0');
     schedule(kind);
     for (int i = 0; i < SIZES; i++) copied[i] = zeroed[i] = 0;
     if (is_once(kind))
-        speed_again(state, STATE, from(kind), period, count, 0.0, 1, blocks, output, 0, output, COUNT, store, STORE);
+        speed_again(state, STATE, from(kind), period, count, 0.0, 1, blocks, output, 0, output, room, store, STORE);
     else
-        speed_value(state, STATE, 0.0, period, count, (double)count * period, blocks, output, 0, output, COUNT, store, STORE);
+        speed_value(state, STATE, 0.0, period, count, (double)count * period, blocks, output, 0, output, room, store, STORE);
     double sum = 0.0;
     for (size_t i = 0; i < count; i++) sum += output[i];
     for (int i = 0; i < SIZES; i++) number(copied[i], 10);

@@ -1,8 +1,8 @@
 //! Nanoseconds a block: the port by value, by tick and by its exported call, beside the Rust at default flags and at
-//! target-cpu=native, in one run, interleaved, the best of several rounds; and what of it a step and a sample take.
-//! speed/run builds it.
+//! target-cpu=native, in one run, interleaved, the best of several rounds; what of it a step and a sample take; and blocks
+//! of up to 1,024 under the second edition. speed/run builds it.
 
-use crackledray::raw;
+use crackledray::{raw, Edition};
 use std::hint::black_box;
 use std::time::Instant;
 
@@ -16,10 +16,16 @@ const WAYS: [&str; 5] = ["rust", "native", "value", "tick", "exported"];
 const LASTING: [&str; 4] = ["linear", "exponential", "target", "curve"];
 /// Kinds of 64 events that a block uses up: what a further step takes.
 const USED: [&str; 7] = ["steps", "ramps", "exponentials", "targets", "curves", "turned", "held"];
+/// What long blocks are of, how many samples they have, and who plays them.
+const LONG_KINDS: [&str; 6] = ["constant", "linear", "exponential", "target", "curve", "steps"];
+const LONG_COUNTS: [usize; 4] = [128, 256, 512, 1024];
+const LONG_WAYS: [&str; 4] = ["rust", "value", "tick", "exported"];
+/// How many samples of an event that goes on are played, whatever the count: 4,000 blocks of 128.
+const SAMPLES: usize = 512_000;
 /// How many events can wait.
 const EVENTS: usize = 64;
 /// Where a state has how many events wait.
-const WAITING: usize = 13;
+const WAITING: usize = 14;
 /// How many parameters are made ready for a kind whose events are used up by one block.
 const READY: usize = 16;
 /// How many blocks of a long session lie between two of these parameters.
@@ -160,6 +166,9 @@ macro_rules! takes {
 }
 takes!(original_default::Original);
 takes!(original_native::Original);
+takes!(original_256::Original);
+takes!(original_512::Original);
+takes!(original_1024::Original);
 
 /// The port's parameter as its caller keeps it.
 #[derive(Clone)]
@@ -170,15 +179,14 @@ struct Port {
 }
 
 impl Port {
-    fn new(k_rate: bool) -> Self {
+    fn new(k_rate: bool, edition: Edition) -> Self {
         let mut p = Port {
             state: vec![0; raw::STATE],
             store: vec![0.0; raw::STORE],
-            output: vec![0.0; 128],
+            output: vec![0.0; edition.ceiling()],
         };
-        let n = unsafe {
-            raw::crackledray_make(p.state.as_mut_ptr(), raw::STATE, -1000.0, 0.5, 1000.0, k_rate)
-        };
+        let (s, n, edition) = (p.state.as_mut_ptr(), raw::STATE, edition.number());
+        let n = unsafe { raw::crackledray_make_under(s, n, -1000.0, 0.5, 1000.0, k_rate, edition) };
         assert_eq!(n, 0);
         p
     }
@@ -199,7 +207,7 @@ impl Port {
                     silence.as_ptr(),
                     0,
                     self.output.as_mut_ptr(),
-                    128,
+                    self.output.len(),
                     self.store.as_mut_ptr(),
                     raw::STORE,
                     &mut steps,
@@ -259,8 +267,8 @@ impl Takes for Port {
     }
 }
 
-/// The events of a kind for a block at `from`. Those that go on last for an hour, so that no run comes to their end.
-fn schedule(kind: &str, p: &mut impl Takes, from: f64) {
+/// The events of a kind for a block of `count` at `from`. Those that go on last for an hour, so that no run comes to their end.
+fn schedule(kind: &str, p: &mut impl Takes, from: f64, count: usize) {
     let hour = 3600.0;
     // nearest to the place, but seldom at its very time, as an operator's times lie
     let near = |place: usize, i: usize| {
@@ -285,7 +293,10 @@ fn schedule(kind: &str, p: &mut impl Takes, from: f64) {
             let numbers: Vec<f32> = (0..1024).map(|i| (i * 37 % 101) as f32).collect();
             p.curve(&numbers, 0.0, hour);
         }
-        "steps" => (0..EVENTS).for_each(|i| p.step(i as f32, (2 * i) as f64 * PERIOD)),
+        "steps" => {
+            let apart = count / EVENTS;
+            (0..EVENTS).for_each(|i| p.step(i as f32, (apart * i) as f64 * PERIOD))
+        }
         "ramps" => (0..EVENTS).for_each(|i| p.linear((i % 5) as f32, (2 * i + 1) as f64 * PERIOD)),
         "session" => (0..EVENTS).for_each(|i| p.step(i as f32, near(2 * i, i))),
         "beyond" => (0..EVENTS).for_each(|i| p.step(i as f32, near(16 + 7 * i / 4, i))),
@@ -333,6 +344,7 @@ struct Played {
 
 struct Bench {
     kind: &'static str,
+    edition: Edition,
     count: usize,
     /// its events are used up by one block
     once: bool,
@@ -346,7 +358,13 @@ impl Bench {
         let late = kind == "session" || kind == "beyond";
         let once = late || USED.contains(&kind);
         let count = if kind == "short" { 64 } else { 128 };
-        Bench { kind, count, once, late, blocks: if once { READY } else { blocks } }
+        let blocks = if once { READY } else { blocks };
+        Bench { kind, edition: Edition::First, count, once, late, blocks }
+    }
+
+    /// Blocks of so many samples under the second edition.
+    fn long(kind: &'static str, count: usize) -> Self {
+        Bench { edition: Edition::Second, count, ..Bench::of(kind, SAMPLES / count) }
     }
 
     /// The time of the first block of the parameter made ready as the i-th.
@@ -355,8 +373,8 @@ impl Bench {
     }
 
     fn port(&self, i: usize) -> Port {
-        let mut p = Port::new(self.kind == "k-linear");
-        schedule(self.kind, &mut p, self.from(i));
+        let mut p = Port::new(self.kind == "k-linear", self.edition);
+        schedule(self.kind, &mut p, self.from(i), self.count);
         p
     }
 
@@ -393,7 +411,7 @@ impl Bench {
             ($t:ty) => {{
                 let ready = |i| {
                     let mut p = <$t>::new(-1000.0, 0.5, 1000.0, a_rate);
-                    schedule(self.kind, &mut p, self.from(i));
+                    schedule(self.kind, &mut p, self.from(i), self.count);
                     p
                 };
                 self.play(
@@ -405,7 +423,13 @@ impl Bench {
         }
         let samples = |p: &Port| p.output[..self.count].to_vec();
         match way {
-            "rust" => original!(original_default::Original),
+            // each with room for that count and no more
+            "rust" => match self.count {
+                256 => original!(original_256::Original),
+                512 => original!(original_512::Original),
+                1024 => original!(original_1024::Original),
+                _ => original!(original_default::Original),
+            },
             "native" => original!(original_native::Original),
             "exported" => self.play(
                 |i| self.port(i),
@@ -467,7 +491,7 @@ impl Bench {
                 silence.as_ptr(),
                 0,
                 p.output.as_mut_ptr(),
-                128,
+                p.output.len(),
                 p.store.as_mut_ptr(),
                 raw::STORE,
             )
@@ -515,33 +539,38 @@ fn floors(rounds: usize) -> (f64, f64) {
     best
 }
 
+/// The best of the rounds for each way, in which the ways take turns.
+fn best<const N: usize>(bench: &Bench, ways: [&str; N], rounds: usize) -> [f64; N] {
+    bench.check();
+    let mut best = [f64::INFINITY; N];
+    let mut off = best;
+    let rust = bench.way("rust").samples;
+    for _ in 0..rounds {
+        for (i, way) in ways.iter().enumerate() {
+            let played = bench.way(way);
+            assert!(
+                rust.len() == bench.count
+                    && rust.iter().zip(&played.samples).all(|(a, b)| close(*a, *b)),
+                "{}: {way} plays other samples: {rust:?} {:?}",
+                bench.kind,
+                played.samples
+            );
+            best[i] = best[i].min(played.ns);
+            off[i] = off[i].min(played.off);
+        }
+    }
+    (0..N).for_each(|i| best[i] -= off[i]);
+    best
+}
+
 struct Row {
     kind: &'static str,
     best: [f64; WAYS.len()],
 }
 
 impl Row {
-    /// The best of the rounds for each way, in which the ways take turns.
     fn of(kind: &'static str, rounds: usize) -> Self {
-        let bench = Bench::of(kind, 4000);
-        bench.check();
-        let mut best = [f64::INFINITY; WAYS.len()];
-        let mut off = best;
-        let rust = bench.way("rust").samples;
-        for _ in 0..rounds {
-            for (i, way) in WAYS.iter().enumerate() {
-                let played = bench.way(way);
-                assert!(
-                    rust.iter().zip(&played.samples).all(|(a, b)| close(*a, *b)),
-                    "{kind}: {way} plays other samples: {rust:?} {:?}",
-                    played.samples
-                );
-                best[i] = best[i].min(played.ns);
-                off[i] = off[i].min(played.off);
-            }
-        }
-        (0..WAYS.len()).for_each(|i| best[i] -= off[i]);
-        Row { kind, best }
+        Row { kind, best: best(&Bench::of(kind, 4000), WAYS, rounds) }
     }
 
     /// By value, by tick, by the exported call.
@@ -589,6 +618,27 @@ fn costs(rows: &[Row]) {
     line("dearest", "block", [0, 1, 2].map(|i| dearest(i).ours()[i]), &kinds);
 }
 
+/// The third table: the second edition, by kind and count, what a block takes and what of it a sample.
+fn long(rounds: usize) {
+    println!("Long blocks: the second edition, nanoseconds a block of n samples, and a sample (/n).");
+    println!("rust: the original's text in a crate whose RENDER_QUANTUM_SIZE is n; as it stands, its list has room for 128 values.");
+    println!(
+        "{:12} {:>5} {:>9} {:>9} {:>9} {:>9}   {:>7} {:>7} {:>7} {:>10}   value/rust  exported/rust",
+        "kind", "n", "rust", "value", "tick", "exported", "rust/n", "value/n", "tick/n", "exported/n"
+    );
+    for kind in LONG_KINDS {
+        for count in LONG_COUNTS {
+            let block = best(&Bench::long(kind, count), LONG_WAYS, rounds);
+            let ([r, v, t, e], [rs, vs, ts, es]) = (block, block.map(|ns| ns / count as f64));
+            println!(
+                "{kind:12} {count:5} {r:9.1} {v:9.1} {t:9.1} {e:9.1}   {rs:7.3} {vs:7.3} {ts:7.3} {es:10.3}   {:10.2} {:14.2}",
+                v / r,
+                e / r
+            );
+        }
+    }
+}
+
 fn head(rounds: usize) {
     println!("Nanoseconds a block of 128 samples (short: 64), sample period 1/48000 s, silence; best of {rounds} rounds, interleaved.");
     println!("Machine: {}. Nobody clears a buffer between blocks: the output is written over, in the port and in the Rust;", std::env::consts::ARCH);
@@ -616,6 +666,8 @@ fn main() {
     println!("alone: zeros over the whole curve store {zeros:.1} ns; one copy of the parameter {copy:.1} ns");
     println!();
     costs(&rows);
+    println!();
+    long(rounds);
     println!();
     for row in rows {
         for (way, ns) in WAYS[2..].iter().zip(row.ours()) {

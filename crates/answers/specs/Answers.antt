@@ -7,6 +7,8 @@ use lib.Ieee as Ieee
 use lib.Ieee.{Float, binary32, binary64, ofBits, toBits}
 use Rattle.rules.specs.declared.AutomationRate.{AutomationRate}
 use Rattle.rules.specs.declared.AutomationRate.the-variants as Rate
+use Rattle.rules.specs.declared.Edition.{Edition}
+use Rattle.rules.specs.declared.Edition.the-variants as Edition
 use Rattle.rules.specs.declared.Bounds.{Bounds}
 use Rattle.rules.specs.declared.Event.{Event}
 use Rattle.rules.specs.declared.Event.the-variants as Event
@@ -67,6 +69,14 @@ unfoldable pub rateText : AutomationRate → List ℕ
 rateText Rate.A = 32 ∷ 97 ∷ []
 rateText Rate.K = 32 ∷ 107 ∷ []
 
+-- "RATE is `a2` or `k2` under the second edition"
+unfoldable pub editionText : Edition → List ℕ
+editionText Edition.First = []
+editionText Edition.Second = 50 ∷ []
+
+unfoldable pub kindText : AutomationRate → Edition → List ℕ
+kindText rate edition = rateText rate ++ editionText edition
+
 -- "LAST is `TIME:VALUE` of the last finished event or `-`"
 unfoldable pub lastText : LastEvent → List ℕ
 lastText Last.None = 32 ∷ 45 ∷ []
@@ -85,10 +95,10 @@ unfoldable pub spanText : MaybeTime → MaybeTime → List ℕ
 spanText block end = (32 ∷ timeText block) ++ endText end
 
 -- `state RATE MIN DEFAULT MAX INTRINSIC BLOCK LAST COUNT`
-unfoldable pub stateText : AutomationRate → Bounds → Float → MaybeTime → MaybeTime → LastEvent → ℕ → List ℕ
-stateText rate b v block end last n =
+unfoldable pub stateText : AutomationRate → Edition → Bounds → Float → MaybeTime → MaybeTime → LastEvent → ℕ → List ℕ
+stateText rate edition b v block end last n =
     (115 ∷ 116 ∷ 97 ∷ 116 ∷ 101 ∷ [])
-    ++ (rateText rate ++ (boundsText b ++ (single 32 v ++ (spanText block end ++ (lastText last ++ count 32 n)))))
+    ++ (kindText rate edition ++ (boundsText b ++ (single 32 v ++ (spanText block end ++ (lastText last ++ count 32 n)))))
 
 -- ---- a waiting event, behind a space and its word
 

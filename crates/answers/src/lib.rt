@@ -7,10 +7,11 @@ ghost use lib.Ieee.{binary32, binary64};
 ghost use Rattle.text.specs.Digits.{decimalOf};
 ghost use Rattle.text.specs.Floats.{floatText};
 ghost use Rattle.text.specs.Put.{Put};
-ghost use Rattle.answers.specs.Answers.{timeText, lastText, rateText, eventText, listText, verdictText, blockText, restText, zerosText, boundsText, endText, spanText, stateText, stepText, rampText, targetText, curveText, areMarks, areZeros};
+ghost use Rattle.answers.specs.Answers.{timeText, lastText, rateText, editionText, kindText, eventText, listText, verdictText, blockText, restText, zerosText, boundsText, endText, spanText, stateText, stepText, rampText, targetText, curveText, areMarks, areZeros};
 use refusals::number_of;
 use rules::AutomationRate;
 use rules::Bounds;
+use rules::Edition;
 use rules::Event;
 use rules::Finished;
 use rules::LastEvent;
@@ -147,6 +148,28 @@ fn put_rate(out: &mut [u8], at: usize, rate: AutomationRate) -> usize
     }
 }
 
+// What is behind the rate: nothing under the first edition.
+fn put_edition(out: &mut [u8], at: usize, edition: Edition) -> usize
+    requires { ⌜ at + 1 ≤ length (now out) ⌝ }
+    ensures { λ r. ⌜ Put (now (out .entry)) at (editionText edition) (now (out .exit)) r ⌝ }
+    ensures { λ r. ⌜ r ≤ at + 1 ⌝ }
+{
+    match edition {
+        Edition::First => at,
+        Edition::Second => put_word(out, at, b"2"),
+    }
+}
+
+// The rate, and the edition where it is the second.
+fn put_kind(out: &mut [u8], at: usize, rate: AutomationRate, edition: Edition) -> usize
+    requires { ⌜ at + 3 ≤ length (now out) ⌝ }
+    ensures { λ r. ⌜ Put (now (out .entry)) at (kindText rate edition) (now (out .exit)) r ⌝ }
+    ensures { λ r. ⌜ r ≤ at + 3 ⌝ }
+{
+    let next = put_rate(out, at, rate);
+    put_edition(out, next, edition)
+}
+
 // The last finished event's time and value, or `-`.
 fn put_last(out: &mut [u8], at: usize, last: LastEvent) -> usize
     requires { ⌜ at + 26 ≤ length (now out) ⌝ }
@@ -199,6 +222,7 @@ pub fn put_state(
     out: &mut [u8],
     at: usize,
     rate: AutomationRate,
+    edition: Edition,
     bounds: Bounds,
     intrinsic: f32,
     block: MaybeTime,
@@ -206,12 +230,12 @@ pub fn put_state(
     last: LastEvent,
     count: u64,
 ) -> usize
-    requires { ⌜ at + 124 ≤ length (now out) ⌝ }
-    ensures { λ r. ⌜ Put (now (out .entry)) at (stateText rate bounds intrinsic block end last count) (now (out .exit)) r ⌝ }
-    ensures { λ r. ⌜ r ≤ at + 124 ⌝ }
+    requires { ⌜ at + 125 ≤ length (now out) ⌝ }
+    ensures { λ r. ⌜ Put (now (out .entry)) at (stateText rate edition bounds intrinsic block end last count) (now (out .exit)) r ⌝ }
+    ensures { λ r. ⌜ r ≤ at + 125 ⌝ }
 {
     let next = put_word(out, at, b"state");
-    let next = put_rate(out, next, rate);
+    let next = put_kind(out, next, rate, edition);
     let next = put_bounds(out, next, bounds);
     let next = put_single_behind(out, next, b' ', intrinsic);
     let next = put_span(out, next, block, end);

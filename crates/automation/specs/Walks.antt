@@ -1,4 +1,4 @@
--- How the code's walk stands for the rules': the filled places of the block buffer are the walk's values.
+-- How the code's walk stands for the rules': the filled places of the block are the walk's values.
 use mathlib.Core.Path.{_≡_}
 use mathlib.Core.List.{List}
 use Prim.Native.Nat.{ℕ, _+_, _≤_, _<_, _^_}

@@ -24,7 +24,7 @@ use rules::MaybeTime;
 use timeline::AudioParamEventTimeline;
 use timeline::hold_or;
 
-// What a walk carries from head to head, beside the block buffer, of which the first `filled` places are filled (at K-rate: the block's one value).
+// What a walk carries from head to head, beside the places of the block, of which the first `filled` places are filled (at K-rate: the block's one value).
 pub struct Walk {
     pub intrinsic: f32,
     pub last: LastEvent,

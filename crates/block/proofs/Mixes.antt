@@ -2,9 +2,10 @@
 use mathlib.Core.Path.{_≡_, refl, sym, ap, _∙_}
 use mathlib.Core.Bool.{Bool, true, false}
 use mathlib.Core.List.{List, [], _∷_, _++_}
-use Prim.Native.Nat.{ℕ, zero, suc, _≤_}
+use Prim.Native.Nat.{ℕ, zero, suc, _≤_, _<_}
 use native.Mathlib.Omega.{arith}
-use lib.ListN.{length, drop, getD, replicate, length-replicate}
+use lib.ListN.{length, take, drop, getD, replicate, length-replicate}
+use lib.Seq.{getD-take}
 use lib.Ieee.{Float, nan}
 use Rattle.rules.specs.declared.Bounds.{Bounds}
 use Rattle.rules.specs.declared.BlockInfos.{BlockInfos}
@@ -16,7 +17,7 @@ use Rattle.rules.specs.Block.{isSilent, saysOne}
 use Rattle.laws.proofs.Tests.{never}
 use Rattle.laws.proofs.Within.{mixed-length}
 use Rattle.mix.specs.Mixed.{over}
-use Rattle.block.specs.Asked.{Fitting, Given, written}
+use Rattle.block.specs.Asked.{Fitting, Given, mixedIn, written}
 use Rattle.block.proofs.Tests.{fits-whole}
 
 -- the samples are as many as the block has places
@@ -77,25 +78,12 @@ module _ (b : Bounds) (f : BlockInfos) (input output : List Float) (fits : Fitti
   pub each-room : isSilent input ≡ false → length input ≤ length output
   each-room h = let r : n ≤ length output = fits .room in omega (arith, fits-whole input n (fits .lent) h)
 
-  -- ---- a value for each place
+-- ---- a value for each place
 
-  module _ (vs : List Float) {out : List Float} (rate : f .rate ≡ Rate.A) (whole : length vs ≡ n) where
-    pub each-silent : isSilent input ≡ true → out ≡ over (mixedAll b (replicate (length vs) plusZero) vs) output → out ≡ written b f input vs output
-    each-silent h o =
-        writes b f input vs output o (go input h) (mixed-length b (replicate (length vs) plusZero) vs (length-replicate (length vs) plusZero) ∙ whole)
-      where
-        go : (xs : List Float) → isSilent xs ≡ true → mixedAll b (replicate (length vs) plusZero) vs ≡ mixedAll b (inputs (f .rate) n xs) (spread (f .rate) n vs)
-        go [] h = unfold inputs spread in rw (rate, whole)
-        go (x ∷ xs) h = never (unfold isSilent in h)
-
-    pub each-input : isSilent input ≡ false → out ≡ over (mixedAll b input vs) output → out ≡ written b f input vs output
-    each-input h o =
-        let l : length input ≡ n = fits-whole input n (fits .lent) h in
-        writes b f input vs output o (go input h) (mixed-length b input vs (l ∙ sym whole) ∙ whole)
-      where
-        go : (xs : List Float) → isSilent xs ≡ false → mixedAll b xs vs ≡ mixedAll b (inputs (f .rate) n xs) (spread (f .rate) n vs)
-        go [] h = never (sym (unfold isSilent in h))
-        go (x ∷ xs) h = unfold inputs spread in rw rate
+pub each-in : (b : Bounds) (f : BlockInfos) (input vs output : List Float) {out : List Float} → f .rate ≡ Rate.A → length vs ≡ f .count → take (f .count) output ≡ vs
+    → out ≡ mixedIn b input (take (f .count) output) ++ drop (f .count) output → out ≡ written b f input vs output
+unfolding written mixedIn
+each-in b f input vs output rate whole there o = o ∙ rw (there, whole, rate) (unfold spread in refl)
 
 -- ---- how many values a walk gives
 
@@ -111,6 +99,12 @@ pub first-at : (vs : List Float) → 1 ≤ length vs → getD vs 0 nan ≡ first
 unfolding firstOf
 first-at [] h = absurd (omega arith)
 first-at (v ∷ vs) h = refl
+
+-- the first of the values that stand in the output
+pub first-taken : (output vs : List Float) → take (length vs) output ≡ vs → 1 ≤ length vs → getD output 0 nan ≡ firstOf vs
+first-taken output vs e h =
+    let some : 0 < length vs = omega arith in
+    sym (getD-take (length vs) output 0 nan some) ∙ ap (λ (l : List Float). getD l 0 nan) e ∙ first-at vs h
 
 pub silent-first : (xs : List Float) → length xs ≡ 0 → plusZero ≡ firstOf xs
 unfolding firstOf

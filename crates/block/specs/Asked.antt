@@ -6,6 +6,7 @@ use Prim.Native.Nat.{ℕ, _≤_}
 use lib.ListN.{length, drop}
 use lib.Ieee.{Float}
 use Rattle.rules.specs.declared.Bounds.{Bounds}
+use Rattle.rules.specs.declared.AutomationRate.the-variants as Rate
 use Rattle.rules.specs.declared.BlockInfos.{BlockInfos}
 use Rattle.rules.specs.Refusals.{fitsCount}
 use Rattle.rules.specs.Mix.{mixedAll, spread, inputs}
@@ -24,6 +25,10 @@ pub record Fitting (f : BlockInfos) (input output : List Float) : Type 0 where
 -- the values of a walk: one for each place at A-rate, one at K-rate
 abbrev pub Given : BlockInfos → List Float → Type 0
 Given f vs = FilledAll (f .rate) (f .count) (length vs)
+
+-- values where they stand at A-rate, mixed with their inputs, or with silence
+unfoldable pub mixedIn : Bounds → List Float → List Float → List Float
+mixedIn b input vs = mixedAll b (inputs Rate.A (length vs) input) vs
 
 -- the samples, then what the output held behind them: `outputOf`, by the block's infos
 unfoldable pub written : Bounds → BlockInfos → List Float → List Float → List Float → List Float

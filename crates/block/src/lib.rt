@@ -1,12 +1,14 @@
 // What a block is and what it writes: its times, whether it needs a walk, its samples mixed with the input.
 ghost use mathlib.Core.Path.{_≡_};
+ghost use mathlib.Core.Bool.{true};
 ghost use mathlib.Core.List.{List};
-ghost use Prim.Native.Nat.{ℕ, _≤_};
-ghost use lib.ListN.{length, replicate};
+ghost use Prim.Native.Nat.{ℕ, _+_, _≤_, _<_};
+ghost use lib.ListN.{length, take, replicate};
 ghost use lib.Ieee.{Float};
+ghost use Rattle.rules.specs.Refusals.{fitsCount};
 ghost use Rattle.rules.specs.Mix.{firstOf};
 ghost use Rattle.rules.specs.Block.{infosOf, restsFor, saysOne};
-ghost use Rattle.block.specs.Asked.{asked, Fitting, Given, written};
+ghost use Rattle.block.specs.Asked.{asked, Fitting, Given, mixedIn, written};
 use floats::taken_time;
 use rules::AutomationRate;
 use rules::BlockInfos;
@@ -51,6 +53,21 @@ pub fn says_one(rate: AutomationRate, rests: bool, input: usize) -> bool
 
 // ---- its samples
 
+// The smaller of two.
+fn up_to(i: usize, n: usize) -> usize
+    ensures { λ r. ⌜ (r ≤ i) × (r ≤ n) × (i ≤ n → r ≡ i) × (n ≤ i → r ≡ n) ⌝ }
+{
+    if i < n { i } else { n }
+}
+
+// Where the part ends that begins at a place.
+fn part_end(i: usize, n: usize) -> usize
+    requires { ⌜ i < n ⌝ }
+    ensures { λ r. ⌜ (i < r) × (r ≤ n) × (r ≤ i + 128) ⌝ }
+{
+    if n - i > 128 { i + 128 } else { n }
+}
+
 fn first_of(input: &[f32]) -> f32
     ensures { λ r. ⌜ r ≡ firstOf (now (input .entry)) ⌝ }
 {
@@ -74,26 +91,49 @@ pub fn mix_value(bounds: Bounds, infos: BlockInfos, value: f32, input: &[f32], o
     }
 }
 
-// A value for each place at A-rate; at K-rate one.
-pub fn mix_values(
-    bounds: Bounds,
-    infos: BlockInfos,
-    values: &[f32],
-    input: &[f32],
-    output: &mut [f32],
-)
-    requires { ⌜ Fitting infos (now input) (now output) × Given infos (now values) ⌝ }
-    ensures { λ _. ⌜ now (output .exit) ≡ written bounds infos (now (input .entry)) (now (values .entry)) (now (output .entry)) ⌝ }
+// Up to 128 values that stand in the output: they are taken into the block buffer, and mixed from there with their inputs, or with silence.
+fn mix_part(bounds: Bounds, input: &[f32], output: &mut [f32])
+    requires { ⌜ (length (now output) ≤ 128) × (fitsCount (now input) (length (now output)) ≡ true) ⌝ }
+    ensures { λ _. ⌜ now (output .exit) ≡ mixedIn bounds (now (input .entry)) (now (output .entry)) ⌝ }
+{
+    let mut buffer = [0.0f32; 128];
+    let n = output.len();
+    mix::put_values(&mut buffer, &output[..]);
+    if input.len() == 0 {
+        mix::mix_silence(bounds, &buffer[..n], output);
+    } else {
+        mix::mix_input(bounds, input, &buffer[..n], output);
+    }
+}
+
+// Any number of values, by such parts.
+fn mix_parts(bounds: Bounds, input: &[f32], output: &mut [f32])
+    requires { ⌜ fitsCount (now input) (length (now output)) ≡ true ⌝ }
+    ensures { λ _. ⌜ now (output .exit) ≡ mixedIn bounds (now (input .entry)) (now (output .entry)) ⌝ }
+{
+    let n = output.len();
+    let lent = input.len();
+    let mut i = 0usize;
+    while i < n {
+        let e = part_end(i, n);
+        // where there is no input, the part's is as empty
+        mix_part(
+            bounds,
+            &input[up_to(i, lent)..up_to(e, lent)],
+            &mut output[i..e],
+        );
+        i = e;
+    }
+}
+
+// The walk's values, which stand in the output: at A-rate one at each place, at K-rate one at the first.
+pub fn mix_values(bounds: Bounds, infos: BlockInfos, input: &[f32], output: &mut [f32])
+    requires { ⌜ Fitting infos (now input) (now output) ⌝ }
+    ensures { λ _. ⌜ ((vs : List Float) → Given infos vs → take (length vs) (now (output .entry)) ≡ vs → now (output .exit) ≡ written bounds infos (now (input .entry)) vs (now (output .entry))) ⌝ }
 {
     let rate = infos.rate;
     match rate {
-        AutomationRate::K => mix_value(bounds, infos, values[0], input, output),
-        AutomationRate::A => {
-            if input.len() == 0 {
-                mix::mix_silence(bounds, values, output);
-            } else {
-                mix::mix_input(bounds, input, values, output);
-            }
-        }
+        AutomationRate::K => mix_value(bounds, infos, output[0], input, output),
+        AutomationRate::A => mix_parts(bounds, input, &mut output[..infos.count]),
     }
 }

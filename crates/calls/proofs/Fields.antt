@@ -16,7 +16,7 @@ use Rattle.text.specs.declared.words.NextDouble.the-variants as NextDouble
 use Rattle.rules.specs.declared.AutomationRate.{AutomationRate}
 use Rattle.calls.specs.declared.NextRate.{NextRate}
 use Rattle.calls.specs.declared.NextRate.the-variants as NextRate
-use Rattle.calls.specs.Language.{withTaken, withSingle, withDouble, withCount, ending, rateIn, rateAt}
+use Rattle.calls.specs.Language.{withTaken, withSingle, withDouble, withCount, ending, rateIn, rateAt, editionTaken}
 
 module _ {B : Type 0} where
   -- what was taken, or that nothing was
@@ -68,6 +68,16 @@ module _ {B : Type 0} where
         → rateAt s r ≡ taken rateIn (wordsFrom s at) → r ≡ NextRate.Unread → withTaken (taken rateIn (wordsFrom s at)) then ≡ none
     unfolding rateAt
     rate-not then e g = not-taken then (sym e ∙ ap (rateAt s) g)
+
+    pub edition-is : {r : NextCount} {n next : ℕ} (then : ℕ → List Word → Option B)
+        → countAt s r ≡ editionTaken (wordsFrom s at) → r ≡ NextCount.Is n next → withTaken (editionTaken (wordsFrom s at)) then ≡ then n (wordsFrom s next)
+    unfolding countAt
+    edition-is then e g = is-taken then (sym e ∙ ap (countAt s) g)
+
+    pub edition-not : {r : NextCount} (then : ℕ → List Word → Option B)
+        → countAt s r ≡ editionTaken (wordsFrom s at) → r ≡ NextCount.Unread → withTaken (editionTaken (wordsFrom s at)) then ≡ none
+    unfolding countAt
+    edition-not then e g = not-taken then (sym e ∙ ap (countAt s) g)
 
     -- r says whether the line is over
     pub ends : {r : Bool} (b : B) → r ≡ isOver (wordsFrom s at) → r ≡ true → ending (wordsFrom s at) b ≡ some b

@@ -51,6 +51,10 @@ module _ {B : Type 0} where
 unfoldable pub rateIn : Word → Option AutomationRate
 rateIn w = cond (sameWord w (97 ∷ [])) (some Rate.A) (cond (sameWord w (107 ∷ [])) (some Rate.K) none)
 
+-- EDITION, "a decimal from 0 to 255"; "without the fifth word, the first"
+unfoldable pub editionTaken : List Word → Option (ℕ × List Word)
+editionTaken ws = cond (isOver ws) (some (1, ws)) (taken (countIn 255) ws)
+
 -- n values
 unfoldable pub andMore : Float → Option (List Float × List Word) → Option (List Float × List Word)
 andMore x none = none
@@ -66,11 +70,11 @@ counted most ws = withCount most ws (λ n ws. withTaken (singles n ws) (λ xs ws
 
 -- ---- the calls, by the words behind the first
 
--- `make MIN DEFAULT MAX RATE`
+-- `make MIN DEFAULT MAX RATE`, `make MIN DEFAULT MAX RATE EDITION`
 unfoldable pub makeOf : List Word → Option Call
 makeOf ws =
     withSingle ws (λ min ws. withSingle ws (λ default ws. withSingle ws (λ max ws. withTaken (taken rateIn ws) (λ rate ws.
-    ending ws (Call.Make (record { min = min; default = default; max = max }) rate)))))
+    withTaken (editionTaken ws) (λ edition ws. ending ws (Call.Make (record { min = min; default = default; max = max }) rate edition))))))
 
 -- `set V`
 unfoldable pub setOf : List Word → Option Call

@@ -2,8 +2,8 @@
 ghost use mathlib.Core.Path.{_≡_};
 ghost use Prim.Native.Nat.{ℕ, _≤_};
 ghost use lib.ListN.{length, take};
-ghost use Rattle.text.specs.Words.{wordsFrom, taken};
-ghost use Rattle.calls.specs.Language.{heard, Heard, rateIn, rateAt, numbersAt, countedAt, singles, counted, makeOf, setOf, timed, targetOf, curveOf, cancelling, blockOf, lendOf, pokeOf, stateOf, found, scheduling, callOf};
+ghost use Rattle.text.specs.Words.{wordsFrom, taken, countAt};
+ghost use Rattle.calls.specs.Language.{heard, Heard, rateIn, rateAt, editionTaken, numbersAt, countedAt, singles, counted, makeOf, setOf, timed, targetOf, curveOf, cancelling, blockOf, lendOf, pokeOf, stateOf, found, scheduling, callOf};
 use rules::AutomationRate;
 use rules::Bounds;
 use text::words::NextCount;
@@ -23,6 +23,8 @@ pub enum Call {
     Make {
         bounds: Bounds,
         rate: AutomationRate,
+        // by its number
+        edition: u64,
     },
     Set {
         value: f32,
@@ -124,6 +126,17 @@ fn next_rate(line: &[u8], at: usize) -> NextRate
     NextRate::Unread
 }
 
+// The edition's number, or that of the first where the line ends here.
+fn next_edition(line: &[u8], at: usize) -> NextCount
+    ensures { λ r. ⌜ countAt (now (line .entry)) r ≡ editionTaken (wordsFrom (now (line .entry)) at) ⌝ }
+{
+    if over(line, at) {
+        NextCount::Is { value: 1, next: at }
+    } else {
+        next_count(line, at, 255)
+    }
+}
+
 // As many numbers as are said, into the front of the slice.
 fn next_numbers(line: &[u8], at: usize, count: usize, numbers: &mut [f32]) -> NextNumbers
     requires { ⌜ count ≤ length (now numbers) ⌝ }
@@ -176,10 +189,18 @@ fn read_make(line: &[u8], at: usize) -> Call
     let NextRate::Is { rate, next } = next_rate(line, next) else {
         return Call::Unread;
     };
+    let NextCount::Is {
+        value: edition,
+        next,
+    } = next_edition(line, next)
+    else {
+        return Call::Unread;
+    };
     if over(line, next) {
         Call::Make {
             bounds: Bounds { min, default, max },
             rate,
+            edition,
         }
     } else {
         Call::Unread

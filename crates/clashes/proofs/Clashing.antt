@@ -33,7 +33,7 @@ pub no-clash : (q : List Event) (call : Call) → OneOf others (tagOf the-type c
 unfolding clashOf
 no-clash q Call.Nothing h = refl
 no-clash q Call.Unread h = refl
-no-clash q (Call.Make b rate) h = refl
+no-clash q (Call.Make b rate n) h = refl
 no-clash q (Call.Set v) h = absurd (miss others 3 tt h)
 no-clash q (Call.Step v t) h = absurd (miss others 4 tt h)
 no-clash q (Call.Linear v t) h = absurd (miss others 5 tt h)

@@ -55,7 +55,7 @@ holding q t d = let start = takenTime t in eventIn (firstOf (those (isFiledInsid
 unfoldable pub clashOf : List Event → Call → Clash
 clashOf q Call.Nothing = Clash.None
 clashOf q Call.Unread = Clash.None
-clashOf q (Call.Make b rate) = Clash.None
+clashOf q (Call.Make b rate n) = Clash.None
 clashOf q (Call.Set v) = coveredBy q plusZero
 clashOf q (Call.Step v t) = coveredBy q t
 clashOf q (Call.Linear v t) = coveredBy q t

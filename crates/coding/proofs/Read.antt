@@ -10,10 +10,12 @@ use borrow.Author.Tests.{leb-true, le-leb, lt-leb, eq-eqb, ne-eqb}
 use Rattle.rules.specs.declared.Bounds.{Bounds}
 use Rattle.rules.specs.declared.AutomationRate.{AutomationRate}
 use Rattle.rules.specs.declared.AutomationRate.the-variants as Rate
+use Rattle.rules.specs.declared.Edition.{Edition}
+use Rattle.rules.specs.declared.Edition.the-variants as Edition
 use Rattle.rules.specs.declared.Event.{Event}
 use Rattle.rules.specs.declared.Verdict.the-variants as Verdict
 use Rattle.rules.specs.Numbers.{mostEvents}
-use Rattle.rules.specs.Refusals.{lowest, areBounds, makingRows}
+use Rattle.rules.specs.Refusals.{lowest, areBounds, isEdition, makingRows}
 use Rattle.rules.specs.Block.{Param, made, madeAs, withQueue}
 use Rattle.laws.specs.Sound.{Sound, isSound}
 use Rattle.laws.proofs.Tests.{both, and}
@@ -23,14 +25,14 @@ use Rattle.param.specs.declared.AudioParam.{AudioParam}
 use Rattle.param.specs.declared.Outcome.{Outcome}
 use Rattle.param.specs.Param.{paramOf, structOf, SoundParam, Makes, unmade, partsOf, isWhole, Restores}
 use Rattle.param.proofs.Calls.{whole}
-use Rattle.coding.specs.Coding.{stateLength, stateVersion, isRate, rateWord, paramIn, isState, stateOf, Queues, Decodes, Encodes}
+use Rattle.coding.specs.Coding.{stateLength, stateVersion, isRate, rateWord, editionWord, paramIn, isState, stateOf, Queues, Decodes, Encodes}
 
 -- ---- refused
 
 same : {a b : Outcome} → a .verdict ≡ b .verdict → a .param ≡ b .param → a ≡ b
 same v p = rw (v, p)
 
-pub nothing-made : (b : Bounds) {r : Outcome} → areBounds b ≡ false → Makes b Rate.A r → r ≡ unmade
+pub nothing-made : (b : Bounds) {r : Outcome} → areBounds b ≡ false → Makes b Rate.A 1 r → r ≡ unmade
 unfolding made madeAs makingRows lowest
 nothing-made b h m = same (m .verdict ∙ rw h) (m .param ∙ rw h)
 
@@ -50,12 +52,20 @@ module _ (s : List ℕ) where
   decodes-no-rate long v h e f =
       record { gives = rw (eq-eqb (length s) stateLength long, eq-eqb (getD s 0 0) stateVersion v, lt-leb (getD s 4 0) 1 h) e; sound = f }
 
+  -- an edition that is none
+  pub decodes-no-edition : {r : Outcome} → length s ≡ stateLength → getD s 0 0 ≡ stateVersion → getD s 4 0 ≤ 1 → isEdition (getD s 5 0) ≡ false → r ≡ unmade
+      → SoundParam (r .param) → Decodes s r
+  unfolding isState isRate
+  decodes-no-edition long v rated h e f =
+      record { gives = rw (eq-eqb (length s) stateLength long, eq-eqb (getD s 0 0) stateVersion v, le-leb (getD s 4 0) 1 rated, h) e; sound = f }
+
   -- ---- accepted where the parts are
 
-  module _ (q : AudioParamEventTimeline) (long : length s ≡ stateLength) (known : getD s 0 0 ≡ stateVersion) (rated : getD s 4 0 ≤ 1) (h : Queues s q) where
+  module _ (q : AudioParamEventTimeline) (long : length s ≡ stateLength) (known : getD s 0 0 ≡ stateVersion) (rated : getD s 4 0 ≤ 1)
+      (edited : isEdition (getD s 5 0) ≡ true) (h : Queues s q) where
     abbrev parts : AudioParam
     parts =
-        partsOf (paramIn s .bounds) (paramIn s .rate) (paramIn s .intrinsic) q (paramIn s .lastBlock) (paramIn s .lastEnd) (paramIn s .last)
+        partsOf (paramIn s .bounds) (paramIn s .rate) (paramIn s .edition) (paramIn s .intrinsic) q (paramIn s .lastBlock) (paramIn s .lastEnd) (paramIn s .last)
 
     read : leb (q .len) mostEvents ≡ true → paramOf parts ≡ paramIn s
     read t = ap (λ (es : List Event). withQueue es (paramIn s)) (h .events (leb-true (q .len) mostEvents t))
@@ -64,7 +74,7 @@ module _ (s : List ℕ) where
     unfolding isWhole isState isRate
     accepted =
         go (leb (q .len) mostEvents) refl
-        ∙ rw (eq-eqb (length s) stateLength long, eq-eqb (getD s 0 0) stateVersion known, le-leb (getD s 4 0) 1 rated) (ap (λ (n : ℕ). leb n mostEvents && isSound (paramIn s)) (h .many))
+        ∙ rw (eq-eqb (length s) stateLength long, eq-eqb (getD s 0 0) stateVersion known, le-leb (getD s 4 0) 1 rated, edited) (ap (λ (n : ℕ). leb n mostEvents && isSound (paramIn s)) (h .many))
       where
         go : (b : Bool) → leb (q .len) mostEvents ≡ b → (b && isSound (paramOf parts)) ≡ (b && isSound (paramIn s))
         go true e = ap isSound (read e)
@@ -88,9 +98,10 @@ accepted-sound s h =
     let a = both (eqb (length s) stateLength) _ h in
     let v = both (eqb (getD s 0 0) stateVersion) _ (a .1) in
     let b = both (isRate (getD s 4 0)) _ (v .1) in
-    tested (paramIn s) (both (leb (getD s 13 0) mostEvents) _ (b .1) .1)
+    let e = both (isEdition (getD s 5 0)) _ (b .1) in
+    tested (paramIn s) (both (leb (getD s 14 0) mostEvents) _ (e .1) .1)
 
-count-in : (p : Param) (s : List ℕ) → getD (stateOf p s) 13 0 ≡ length (p .queue)
+count-in : (p : Param) (s : List ℕ) → getD (stateOf p s) 14 0 ≡ length (p .queue)
 unfolding stateOf
 count-in p s = refl
 
@@ -106,11 +117,19 @@ rate-in p s = go (p .rate)
     go Rate.A = unfold isRate rateWord in refl
     go Rate.K = unfold isRate rateWord in refl
 
+edition-in : (p : Param) (s : List ℕ) → isEdition (getD (stateOf p s) 5 0) ≡ true
+unfolding stateOf
+edition-in p s = go (p .edition)
+  where
+    go : (e : Edition) → isEdition (editionWord e) ≡ true
+    go Edition.First = unfold isEdition editionWord in refl
+    go Edition.Second = unfold isEdition editionWord in refl
+
 pub encoded-accepted : {p : AudioParam} {s after : List ℕ} → SoundParam p → length after ≡ stateLength → Encodes p s after → isState after ≡ true
 unfolding isState
 encoded-accepted {p} {s} {after} f long e =
     let few : length (paramOf p .queue) ≤ mostEvents = f .sound .waiting .few in
-    let many : getD after 13 0 ≡ length (paramOf p .queue) = ap (λ (l : List ℕ). getD l 13 0) (e .is) ∙ count-in (paramOf p) s in
+    let many : getD after 14 0 ≡ length (paramOf p .queue) = ap (λ (l : List ℕ). getD l 14 0) (e .is) ∙ count-in (paramOf p) s in
     let version : getD after 0 0 ≡ stateVersion = ap (λ (l : List ℕ). getD l 0 0) (e .is) ∙ version-in (paramOf p) s in
     and
     (eq-eqb (length after) stateLength long)
@@ -118,7 +137,9 @@ encoded-accepted {p} {s} {after} f long e =
     (eq-eqb (getD after 0 0) stateVersion version)
     (and
     (ap (λ (l : List ℕ). isRate (getD l 4 0)) (e .is) ∙ rate-in (paramOf p) s)
-    (and (le-leb (getD after 13 0) mostEvents (omega arith)) (rw (e .back) (passes-test (paramOf p) (f .sound))))))
+    (and
+    (ap (λ (l : List ℕ). isEdition (getD l 5 0)) (e .is) ∙ edition-in (paramOf p) s)
+    (and (le-leb (getD after 14 0) mostEvents (omega arith)) (rw (e .back) (passes-test (paramOf p) (f .sound)))))))
 
 pub decoded-encoded : {p : AudioParam} {s after : List ℕ} {r : Outcome} → SoundParam p → length after ≡ stateLength → Encodes p s after → Decodes after r
     → r ≡ record { verdict = Verdict.Answered; param = p }

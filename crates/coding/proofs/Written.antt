@@ -11,13 +11,15 @@ use Rattle.rules.specs.declared.MaybeTime.{MaybeTime}
 use Rattle.rules.specs.declared.LastEvent.{LastEvent}
 use Rattle.rules.specs.declared.AutomationRate.{AutomationRate}
 use Rattle.rules.specs.declared.AutomationRate.the-variants as Rate
+use Rattle.rules.specs.declared.Edition.{Edition}
+use Rattle.rules.specs.declared.Edition.the-variants as Edition
 use Rattle.rules.specs.declared.Event.{Event}
-use Rattle.rules.specs.Block.{Param}
+use Rattle.rules.specs.Block.{Param, editionOf}
 use Rattle.timeline.specs.declared.AudioParamEvent.{AudioParamEvent}
 use Rattle.timeline.specs.declared.AudioParamEventTimeline.{AudioParamEventTimeline}
 use Rattle.timeline.specs.Timeline.{made}
 use Rattle.timeline.proofs.Laws.{Filled, filled-made, waits-of}
-use Rattle.coding.specs.Coding.{headWords, stateLength, stateVersion, placeOf, rateIn, rateWord, eventAt, eventsIn, paramIn, wordsOf, wordsFor, headOf, stateOf, flagOf, lastFlag, lastTime, lastValue, SingleBits, TimeBits, PutsEvent, PutsLast, PutsHead, Queues}
+use Rattle.coding.specs.Coding.{headWords, stateLength, stateVersion, placeOf, rateIn, rateWord, editionWord, eventAt, eventsIn, paramIn, wordsOf, wordsFor, headOf, stateOf, flagOf, lastFlag, lastTime, lastValue, SingleBits, TimeBits, PutsEvent, PutsLast, PutsHead, Queues}
 use Rattle.coding.proofs.Words.{six, event-behind, events-front, events-more, words-more, words-length}
 
 -- ---- the queue of a state
@@ -26,7 +28,7 @@ pub filled-empty : {q : AudioParamEventTimeline} → q ≡ made [] → Filled (q
 unfolding made
 filled-empty e = record { many = refl; held = ap (λ (u : AudioParamEventTimeline). u .slots) e }
 
-pub queues : (s : List ℕ) {slots : List AudioParamEvent} {len i : ℕ} → Filled slots i (eventsIn s i) → i ≡ len → len ≡ getD s 13 0
+pub queues : (s : List ℕ) {slots : List AudioParamEvent} {len i : ℕ} → Filled slots i (eventsIn s i) → i ≡ len → len ≡ getD s 14 0
     → Queues s (record { slots = slots; len = len })
 queues s {slots} {len} {i} f e m =
     record { many = m; events = λ h. rw (← m, ← e) (waits-of (record { slots = slots; len = i }) (eventsIn s i) (filled-made f)) }
@@ -85,22 +87,22 @@ module _ {q : List Event} {s₀ s : List ℕ} {i : ℕ} (w : Wrote q s₀ i s) (
 -- ---- the head
 
 pub last-length : {s after : List ℕ} {l : LastEvent} → PutsLast s l after → length after ≡ length s
-last-length {s} {after} {l} p = ap length (p .is) ∙ length-sets s 10 (lastFlag l ∷ lastTime l ∷ lastValue l ∷ [])
+last-length {s} {after} {l} p = ap length (p .is) ∙ length-sets s 11 (lastFlag l ∷ lastTime l ∷ lastValue l ∷ [])
 
 pub head-length : {p : Param} {s after : List ℕ} → PutsHead s p after → length s ≡ stateLength → length after ≡ stateLength
 head-length {p} {s} h long = ap length (h .is) ∙ simp (length-append, length-drop) (omega arith)
 
-module _ (p : Param) (s : List ℕ) {b : Bounds} {r : AutomationRate} {x : Float} {t u : MaybeTime} {l : LastEvent} {min default max rate value flag time mark end n : ℕ}
-    {after : List ℕ} (last : PutsLast (sets s 0 (stateVersion ∷ min ∷ default ∷ max ∷ rate ∷ value ∷ flag ∷ time ∷ mark ∷ end ∷ [])) l after) where
-  pub puts-head : length s ≡ stateLength → b ≡ p .bounds → r ≡ p .rate → x ≡ p .intrinsic → t ≡ p .lastBlock → u ≡ p .lastEnd → l ≡ p .last → n ≡ length (p .queue)
-      → SingleBits (b .min) min → SingleBits (b .default) default → SingleBits (b .max) max → rate ≡ rateWord r → SingleBits x value → flag ≡ flagOf t → TimeBits t time
-      → mark ≡ flagOf u → TimeBits u end → PutsHead s p (set after 13 n)
-  puts-head long eb er ex et eu el en a d m ew v ef h eg k =
+module _ (p : Param) (s : List ℕ) {b : Bounds} {r : AutomationRate} {e : Edition} {x : Float} {t u : MaybeTime} {l : LastEvent} {min default max rate edition value flag time mark end n : ℕ}
+    {after : List ℕ} (last : PutsLast (sets s 0 (stateVersion ∷ min ∷ default ∷ max ∷ rate ∷ edition ∷ value ∷ flag ∷ time ∷ mark ∷ end ∷ [])) l after) where
+  pub puts-head : length s ≡ stateLength → b ≡ p .bounds → r ≡ p .rate → e ≡ p .edition → x ≡ p .intrinsic → t ≡ p .lastBlock → u ≡ p .lastEnd → l ≡ p .last → n ≡ length (p .queue)
+      → SingleBits (b .min) min → SingleBits (b .default) default → SingleBits (b .max) max → rate ≡ rateWord r → edition ≡ editionWord e → SingleBits x value → flag ≡ flagOf t → TimeBits t time
+      → mark ≡ flagOf u → TimeBits u end → PutsHead s p (set after 14 n)
+  puts-head long eb er ee ex et eu el en a d m ew ed v ef h eg k =
       record {
         is =
-            ap (λ (u : List ℕ). set u 13 n) (last .is)
-            ∙ sets-eq (stateVersion ∷ min ∷ default ∷ max ∷ rate ∷ value ∷ flag ∷ time ∷ mark ∷ end ∷ lastFlag l ∷ lastTime l ∷ lastValue l ∷ n ∷ []) s 0 (omega arith)
-            ∙ rw (a .is, d .is, m .is, ew, v .is, ef, h .is, eg, k .is, eb, er, ex, et, eu, el, en);
+            ap (λ (u : List ℕ). set u 14 n) (last .is)
+            ∙ sets-eq (stateVersion ∷ min ∷ default ∷ max ∷ rate ∷ edition ∷ value ∷ flag ∷ time ∷ mark ∷ end ∷ lastFlag l ∷ lastTime l ∷ lastValue l ∷ n ∷ []) s 0 (omega arith)
+            ∙ rw (a .is, d .is, m .is, ew, ed, v .is, ef, h .is, eg, k .is, eb, er, ee, ex, et, eu, el, en);
         min = rw (← eb) (a .back);
         default = rw (← eb) (d .back);
         max = rw (← eb) (m .back);
@@ -117,6 +119,11 @@ unfolding rateIn rateWord
 rate-back Rate.A = refl
 rate-back Rate.K = refl
 
+edition-back : (e : Edition) → editionOf (editionWord e) ≡ e
+unfolding editionOf editionWord
+edition-back Edition.First = refl
+edition-back Edition.Second = refl
+
 module _ (p : Param) {s s₀ after : List ℕ} {i : ℕ} (w : Wrote (p .queue) s₀ i after) (all : i ≡ length (p .queue)) (h : PutsHead s p s₀) where
   pub written : after ≡ stateOf p s
   unfolding stateOf
@@ -128,7 +135,7 @@ module _ (p : Param) {s s₀ after : List ℕ} {i : ℕ} (w : Wrote (p .queue) s
   events-back = let n : length (p .queue) ≤ i = omega arith in rw (← all) (w .back ∙ take-all i (p .queue) n)
 
   pub given-back : paramIn after ≡ p
-  given-back = rw (events-at, written) (unfold stateOf in rw (h .min, h .default, h .max, rate-back (p .rate), h .intrinsic, h .block, h .end, h .last))
+  given-back = rw (events-at, written) (unfold stateOf in rw (h .min, h .default, h .max, rate-back (p .rate), edition-back (p .edition), h .intrinsic, h .block, h .end, h .last))
     where
-      events-at : eventsIn after (getD after 13 0) ≡ p .queue
+      events-at : eventsIn after (getD after 14 0) ≡ p .queue
       events-at = ap (eventsIn after) (rw written (unfold stateOf in refl)) ∙ events-back

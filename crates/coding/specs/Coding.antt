@@ -13,11 +13,14 @@ use Rattle.rules.specs.declared.LastEvent.{LastEvent}
 use Rattle.rules.specs.declared.LastEvent.the-variants as LastEvent
 use Rattle.rules.specs.declared.AutomationRate.{AutomationRate}
 use Rattle.rules.specs.declared.AutomationRate.the-variants as Rate
+use Rattle.rules.specs.declared.Edition.{Edition}
+use Rattle.rules.specs.declared.Edition.the-variants as Edition
 use Rattle.rules.specs.declared.Event.{Event}
 use Rattle.rules.specs.declared.Event.the-variants as Event
 use Rattle.rules.specs.declared.Verdict.the-variants as Verdict
 use Rattle.rules.specs.Numbers.{mostEvents}
-use Rattle.rules.specs.Block.{Param}
+use Rattle.rules.specs.Refusals.{isEdition}
+use Rattle.rules.specs.Block.{Param, editionOf}
 use Rattle.laws.specs.Sound.{isSound}
 use Rattle.timeline.specs.declared.AudioParamEventTimeline.{AudioParamEventTimeline}
 use Rattle.timeline.specs.Timeline.{waiting}
@@ -29,17 +32,17 @@ use Rattle.param.specs.Param.{paramOf, structOf, unmade, SoundParam}
 
 -- the layout's version, the parameter's own numbers, then six for each waiting event, at most 64
 abbrev pub headWords : ℕ
-headWords = 14
+headWords = 15
 
 abbrev pub eventWords : ℕ
 eventWords = 6
 
 abbrev pub stateLength : ℕ
-stateLength = 398
+stateLength = 399
 
--- The first number of every state. The first layout, of 395 numbers, had none; the second has the last block's end (02, C-12).
+-- The first number of every state. The first layout, of 395 numbers, had none; the second has the last block's end (02, C-12), the third the edition (C-19).
 abbrev pub stateVersion : ℕ
-stateVersion = 2
+stateVersion = 3
 
 -- where the numbers of the i-th event begin
 abbrev pub placeOf : ℕ → ℕ
@@ -92,18 +95,19 @@ paramIn s =
     record {
       bounds = record { min = singleIn (getD s 1 0); default = singleIn (getD s 2 0); max = singleIn (getD s 3 0) };
       rate = rateIn (getD s 4 0);
-      intrinsic = singleIn (getD s 5 0);
-      queue = eventsIn s (getD s 13 0);
-      lastBlock = timeIn (getD s 6 0) (getD s 7 0);
-      lastEnd = timeIn (getD s 8 0) (getD s 9 0);
-      last = lastIn (getD s 10 0) (getD s 11 0) (getD s 12 0);
+      edition = editionOf (getD s 5 0);
+      intrinsic = singleIn (getD s 6 0);
+      queue = eventsIn s (getD s 14 0);
+      lastBlock = timeIn (getD s 7 0) (getD s 8 0);
+      lastEnd = timeIn (getD s 9 0) (getD s 10 0);
+      last = lastIn (getD s 11 0) (getD s 12 0) (getD s 13 0);
     }
 
--- whether a state is one of a parameter: it is of this version, its rate is known, and what it has passes the tests of the invariant
+-- whether a state is one of a parameter: it is of this version, its rate and its edition are known, and what it has passes the tests of the invariant
 unfoldable pub isState : List ℕ → Bool
 isState s =
     eqb (length s) stateLength
-    && (eqb (getD s 0 0) stateVersion && (isRate (getD s 4 0) && (leb (getD s 13 0) mostEvents && isSound (paramIn s))))
+    && (eqb (getD s 0 0) stateVersion && (isRate (getD s 4 0) && (isEdition (getD s 5 0) && (leb (getD s 14 0) mostEvents && isSound (paramIn s)))))
 
 -- ---- what is written
 
@@ -118,6 +122,11 @@ bitsOf (MaybeTime.At t) = toBits binary64 t
 unfoldable pub rateWord : AutomationRate → ℕ
 rateWord Rate.A = 0
 rateWord Rate.K = 1
+
+-- its number
+unfoldable pub editionWord : Edition → ℕ
+editionWord Edition.First = 1
+editionWord Edition.Second = 2
 
 unfoldable pub lastFlag : LastEvent → ℕ
 lastFlag LastEvent.None = 0
@@ -148,7 +157,7 @@ wordsFor (e ∷ q) = wordsOf e ++ wordsFor q
 abbrev pub headOf : Param → List ℕ
 headOf p =
     stateVersion ∷ toBits binary32 (p .bounds .min) ∷ toBits binary32 (p .bounds .default) ∷ toBits binary32 (p .bounds .max) ∷ rateWord (p .rate)
-    ∷ toBits binary32 (p .intrinsic) ∷ flagOf (p .lastBlock) ∷ bitsOf (p .lastBlock) ∷ flagOf (p .lastEnd) ∷ bitsOf (p .lastEnd)
+    ∷ editionWord (p .edition) ∷ toBits binary32 (p .intrinsic) ∷ flagOf (p .lastBlock) ∷ bitsOf (p .lastBlock) ∷ flagOf (p .lastEnd) ∷ bitsOf (p .lastEnd)
     ∷ lastFlag (p .last) ∷ lastTime (p .last) ∷ lastValue (p .last) ∷ length (p .queue) ∷ []
 
 -- the state s with a parameter written over it: the numbers behind its events stay
@@ -187,7 +196,7 @@ pub record PutsEvent (s : List ℕ) (at : ℕ) (e : Event) (after : List ℕ) : 
 
 -- the last event's three numbers
 pub record PutsLast (s : List ℕ) (l : LastEvent) (after : List ℕ) : Type 0 where
-  pub is : after ≡ sets s 10 (lastFlag l ∷ lastTime l ∷ lastValue l ∷ [])
+  pub is : after ≡ sets s 11 (lastFlag l ∷ lastTime l ∷ lastValue l ∷ [])
   pub back : lastIn (lastFlag l) (lastTime l) (lastValue l) ≡ l
 
 -- all but the events is written, and given back
@@ -203,8 +212,8 @@ pub record PutsHead (s : List ℕ) (p : Param) (after : List ℕ) : Type 0 where
 
 -- the events of a state, in a queue whose other slots do not count; more than 64 are not read
 pub record Queues (s : List ℕ) (q : AudioParamEventTimeline) : Type 0 where
-  pub many : q .len ≡ getD s 13 0
-  pub events : q .len ≤ mostEvents → waiting q ≡ eventsIn s (getD s 13 0)
+  pub many : q .len ≡ getD s 14 0
+  pub events : q .len ≤ mostEvents → waiting q ≡ eventsIn s (getD s 14 0)
 
 -- a state gives its parameter, or is refused as bad bounds are
 pub record Decodes (s : List ℕ) (r : Outcome) : Type 0 where

@@ -2,7 +2,7 @@
 ghost use mathlib.Core.Path.{_≡_};
 ghost use lib.ListN.{length};
 ghost use Rattle.param.specs.Param.{paramOf, SoundParam, unmade};
-ghost use Rattle.coding.specs.Coding.{stateLength, lastIn, rateIn, rateWord, PutsLast, PutsHead, Queues, Decodes, Encodes};
+ghost use Rattle.coding.specs.Coding.{stateLength, lastIn, rateIn, rateWord, editionWord, PutsLast, PutsHead, Queues, Decodes, Encodes};
 use bits::double_bits;
 use bits::double_in;
 use bits::single_bits;
@@ -14,8 +14,11 @@ use event::time_bits;
 use event::time_in;
 use param::AudioParam;
 use param::Outcome;
+use param::edition_of;
+use refusals::is_edition;
 use rules::AutomationRate;
 use rules::Bounds;
+use rules::Edition;
 use rules::Finished;
 use rules::LastEvent;
 use timeline::AudioParamEvent;
@@ -25,12 +28,12 @@ mod bits; // bits.rt: floats as numbers
 mod event; // event.rt: one waiting event
 
 // How many numbers a state has: its version, the parameter's own, then those of 64 events.
-pub const LENGTH: usize = 398;
+pub const LENGTH: usize = 399;
 
 // The first number of a state: which layout it has.
-const VERSION: u64 = 2;
+const VERSION: u64 = 3;
 
-const HEAD: usize = 14;
+const HEAD: usize = 15;
 
 const EVENT: usize = 6;
 
@@ -64,7 +67,7 @@ fn queue_in(state: &[u64]) -> AudioParamEventTimeline
 {
     let empty = AudioParamEventTimeline::new();
     let mut slots = empty.slots;
-    let len = state[13] as usize;
+    let len = state[14] as usize;
     if len <= AudioParam::EVENTS {
         let mut i = 0usize;
         while i < len {
@@ -101,18 +104,22 @@ pub fn decode(state: &[u64]) -> Outcome
     if 1 < state[4] {
         return none();
     }
+    if !is_edition(state[5]) {
+        return none();
+    }
     let bounds = Bounds {
         min: single_in(state[1]),
         default: single_in(state[2]),
         max: single_in(state[3]),
     };
     let rate = rate_in(state[4]);
-    let intrinsic = single_in(state[5]);
-    let block = time_in(state[6], state[7]);
-    let end = time_in(state[8], state[9]);
-    let last = last_in(state[10], state[11], state[12]);
+    let edition = edition_of(state[5]);
+    let intrinsic = single_in(state[6]);
+    let block = time_in(state[7], state[8]);
+    let end = time_in(state[9], state[10]);
+    let last = last_in(state[11], state[12], state[13]);
     let timeline = queue_in(state);
-    AudioParam::from_parts(bounds, rate, intrinsic, timeline, block, end, last)
+    AudioParam::from_parts(bounds, rate, edition, intrinsic, timeline, block, end, last)
 }
 
 fn rate_word(rate: AutomationRate) -> u64
@@ -124,20 +131,29 @@ fn rate_word(rate: AutomationRate) -> u64
     }
 }
 
+fn edition_word(edition: Edition) -> u64
+    ensures { λ r. ⌜ r ≡ editionWord edition ⌝ }
+{
+    match edition {
+        Edition::First => 1,
+        Edition::Second => 2,
+    }
+}
+
 fn put_last(state: &mut [u64], last: LastEvent)
     requires { ⌜ length (now state) ≡ stateLength ⌝ }
     ensures { λ _. ⌜ PutsLast (now (state .entry)) last (now (state .exit)) ⌝ }
 {
     match last {
         LastEvent::None => {
-            state[10] = 0;
             state[11] = 0;
             state[12] = 0;
+            state[13] = 0;
         }
         LastEvent::Done(l) => {
-            state[10] = 1;
-            state[11] = double_bits(l.time);
-            state[12] = single_bits(l.value);
+            state[11] = 1;
+            state[12] = double_bits(l.time);
+            state[13] = single_bits(l.value);
         }
     }
 }
@@ -155,13 +171,14 @@ fn put_head(state: &mut [u64], p: AudioParam)
     state[2] = single_bits(bounds.default);
     state[3] = single_bits(bounds.max);
     state[4] = rate_word(p.automation_rate());
-    state[5] = single_bits(p.intrinsic_value());
-    state[6] = flag_of(block);
-    state[7] = time_bits(block);
-    state[8] = flag_of(end);
-    state[9] = time_bits(end);
+    state[5] = edition_word(p.edition());
+    state[6] = single_bits(p.intrinsic_value());
+    state[7] = flag_of(block);
+    state[8] = time_bits(block);
+    state[9] = flag_of(end);
+    state[10] = time_bits(end);
     put_last(state, p.last_event());
-    state[13] = p.len() as u64;
+    state[14] = p.len() as u64;
 }
 
 // Writes a parameter over a state: the numbers behind its events stay.

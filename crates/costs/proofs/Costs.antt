@@ -21,7 +21,7 @@ use Rattle.laws.specs.Sound.{Sound}
 use Rattle.laws.proofs.Events.{events-length, events-attached, events-inserted, events-cancelled, put-length}
 use Rattle.laws.proofs.Store.{attached-length}
 use Rattle.laws.proofs.Counts.{rendered-counts}
-use Rattle.laws.proofs.Kept.{made-sound, called-sound, answered-sound}
+use Rattle.laws.proofs.Kept.{made-fresh, made-sound, called-sound, answered-sound}
 use Rattle.laws.proofs.Answers.{refused-block, answer-is}
 use Rattle.laws.proofs.Held.{when-a-hold-moves-a-time}
 use Rattle.costs.specs.declared.Totals.{Totals}
@@ -179,21 +179,13 @@ any-stretch p calls s =
     let t = session-balanced p calls s in
     omega (arith, t .steps, t .events, t .turned, weigh-exponentials (p .queue))
 
-made-as-empty : (v : Verdict) (b : Bounds) (r : AutomationRate) → madeAs v b r .queue ≡ []
-unfolding madeAs
-made-as-empty Verdict.Answered b r = refl
-made-as-empty (Verdict.Refused why) b r = refl
-
-pub made-empty : (b : Bounds) (r : AutomationRate) → made b r .queue ≡ []
-unfolding made
-made-empty b r = made-as-empty (lowest (makingRows b)) b r
-
-pub session-sums : (b : Bounds) (r : AutomationRate) (calls : List Asked) → Sums (totals (made b r) calls) (waitingIn (leftByAll (made b r) calls))
-unfolding mostSteps
-session-sums b r calls =
-    let t = session-balanced (made b r) calls (made-sound b r) in
-    let none : waitingIn (made b r) ≡ 0 = ap length (made-empty b r) in
-    let plain : turnable (made b r) ≡ 0 = unfold weigh in ap (weigh exponentials) (made-empty b r) in
+pub session-sums : (b : Bounds) (r : AutomationRate) (n : ℕ) (calls : List Asked) → Sums (totals (made b r n) calls) (waitingIn (leftByAll (made b r n) calls))
+unfolding mostSteps weigh
+session-sums b r n calls =
+    let t = session-balanced (made b r n) calls (made-sound b r n) in
+    let empty : made b r n .queue ≡ [] = ap (λ (p : Param). p .queue) (made-fresh b r n) in
+    let none : waitingIn (made b r n) ≡ 0 = ap length empty in
+    let plain : turnable (made b r n) ≡ 0 = ap (weigh exponentials) empty in
     record {
       steps = t .steps;
       events = omega (arith, none, t .events);
@@ -201,7 +193,7 @@ session-sums b r calls =
     }
 
 pub what-a-session-costs : SessionCosts
-what-a-session-costs b r calls k = session-sums b r (take k calls)
+what-a-session-costs b r n calls k = session-sums b r n (take k calls)
 
 -- ---- a session, and one call more
 

@@ -13,7 +13,7 @@ use Rattle.costs.specs.Costs as Costs
 use Rattle.costs.specs.Costs.{Asked, command, block, leftByAll, waitingIn, totals, mostSteps}
 
 abbrev start : Param
-start = made (bounds minus10 n0 n10) Rate.A
+start = made (bounds minus10 n0 n10) Rate.A 1
 
 abbrev zeros : List Float
 zeros = replicate storeLength plusZero

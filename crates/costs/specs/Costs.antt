@@ -108,7 +108,7 @@ pub record Sums (t : Totals) (waiting : ℕ) : Type 0 where
   pub events : t .stored ≡ t .finished + t .cancelled + waiting
   pub bound : t .steps ≤ mostSteps t
 
--- of every session, and so behind each of its first calls
+-- of every session, under the edition of any number n, and so behind each of its first calls
 abbrev pub SessionCosts : Type 0
 SessionCosts =
-    (b : Bounds) (r : AutomationRate) (calls : List Asked) (k : ℕ) → let first = take k calls in Sums (totals (made b r) first) (waitingIn (leftByAll (made b r) first))
+    (b : Bounds) (r : AutomationRate) (n : ℕ) (calls : List Asked) (k : ℕ) → let first = take k calls in Sums (totals (made b r n) first) (waitingIn (leftByAll (made b r n) first))

@@ -48,6 +48,7 @@ zero-answers (Verdict.Refused Refusal.StoreFull) h = absurd (omega (arith, h))
 zero-answers (Verdict.Refused Refusal.BadBlock) h = absurd (omega (arith, h))
 zero-answers (Verdict.Refused Refusal.OutOfOrder) h = absurd (omega (arith, h))
 zero-answers (Verdict.Refused Refusal.Inside) h = absurd (omega (arith, h))
+zero-answers (Verdict.Refused Refusal.UnknownEdition) h = absurd (omega (arith, h))
 zero-answers (Verdict.Refused Refusal.BadStore) h = absurd (omega (arith, h))
 
 -- ---- the state of a parameter
@@ -76,16 +77,16 @@ closes-refused (Verdict.Refused why) p s h z =
 
 -- ---- the constructor
 
-pub begins-bad : (s : List ℕ) (b : Bounds) (rate : AutomationRate) → (length s ≡ stateLength → ⊥) → Begins s b rate badState s
-begins-bad s b rate h =
+pub begins-bad : (s : List ℕ) (b : Bounds) (rate : AutomationRate) (edition : ℕ) → (length s ≡ stateLength → ⊥) → Begins s b rate edition badState s
+begins-bad s b rate edition h =
     let e : eqb (length s) stateLength ≡ false = ne-eqb (length s) stateLength h in
     record { number = rw e; state = rw e; reads = λ t. absurd (h t) }
 
-pub begins : {s after : List ℕ} {b : Bounds} {rate : AutomationRate} {m : Outcome} {n : ℕ} → length s ≡ stateLength → Makes b rate m → Encodes (m .param) s after
-    → n ≡ numberAs (m .verdict) → Begins s b rate n after
-begins {s} {after} {b} {rate} {m} long made-it e h =
+pub begins : {s after : List ℕ} {b : Bounds} {rate : AutomationRate} {edition : ℕ} {m : Outcome} {n : ℕ} → length s ≡ stateLength → Makes b rate edition m → Encodes (m .param) s after
+    → n ≡ numberAs (m .verdict) → Begins s b rate edition n after
+begins {s} {after} {b} {rate} {edition} {m} long made-it e h =
     let t : eqb (length s) stateLength ≡ true = eq-eqb (length s) stateLength long in
-    let is : paramOf (m .param) ≡ made b rate = ap paramOf (made-it .param) ∙ struct-back (made b rate) in
+    let is : paramOf (m .param) ≡ made b rate edition = ap paramOf (made-it .param) ∙ struct-back (made b rate edition) in
     let back = reads-back (made-it .sound) long e in
     record {
       number = rw t (h ∙ ap numberAs (made-it .verdict));

@@ -19,7 +19,7 @@ use Rattle.crackledray.specs.Exported.{badState, numberAs, Told, told, P
 
 -- ---- two results
 
-pub begins-settled : {s after other : List ℕ} {b : Bounds} {rate : AutomationRate} {n m : ℕ} → Begins s b rate n after → Begins s b rate m other
+pub begins-settled : {s after other : List ℕ} {b : Bounds} {rate : AutomationRate} {edition n m : ℕ} → Begins s b rate edition n after → Begins s b rate edition m other
     → (n ≡ m) × (after ≡ other)
 begins-settled x y = (x .number ∙ sym (y .number), x .state ∙ sym (y .state))
 

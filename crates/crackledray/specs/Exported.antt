@@ -17,9 +17,9 @@ use Rattle.coding.specs.Coding.{stateLength, paramIn, isState, stateOf}
 
 -- ---- numbers
 
--- 0.6.0 of the calls and of the state: 65,536 × major + 256 × minor + patch
+-- 0.7.0 of the calls and of the state: 65,536 × major + 256 × minor + patch
 abbrev pub version : ℕ
-version = 1536
+version = 1792
 
 -- the number for a state that fails the test: none of document 01's
 abbrev pub badState : ℕ
@@ -78,11 +78,11 @@ played true s a before =
 
 -- ---- what the functions ensure
 
--- The constructor. Nothing of the old state is read but its length; refused, what refusal 1 returns is written.
-pub record Begins (s : List ℕ) (b : Bounds) (rate : AutomationRate) (n : ℕ) (after : List ℕ) : Type 0 where
-  pub number : n ≡ cond (eqb (length s) stateLength) (numberAs (lowest (makingRows b))) badState
-  pub state : after ≡ cond (eqb (length s) stateLength) (stateOf (made b rate) s) s
-  pub reads : length s ≡ stateLength → (isState after ≡ true) × (paramIn after ≡ made b rate)
+-- The constructors. Nothing of the old state is read but its length; refused, what refusal 1 returns is written, and by 12 the same.
+pub record Begins (s : List ℕ) (b : Bounds) (rate : AutomationRate) (edition : ℕ) (n : ℕ) (after : List ℕ) : Type 0 where
+  pub number : n ≡ cond (eqb (length s) stateLength) (numberAs (lowest (makingRows b edition))) badState
+  pub state : after ≡ cond (eqb (length s) stateLength) (stateOf (made b rate edition) s) s
+  pub reads : length s ≡ stateLength → (isState after ≡ true) × (paramIn after ≡ made b rate edition)
 
 -- A call on the parameter of the state s, with a store: n is its number, and these are left. A good state stays one, of the call's parameter.
 pub record Tells (s : List ℕ) (store : List Float) (c : Command) (n : ℕ) (after : List ℕ) (left : List Float) : Type 0 where

@@ -1,6 +1,6 @@
 // The parameter for programs in Rust or C: each call over a state, an array of plain numbers that the caller keeps, and the curve store.
 // A call gives 0, document 01's number of its refusal, or 100 where the state fails its test (coding's isState). Refused, nothing changes,
-// but that a make refused by 1 writes its empty parameter, and a refused block its 0 steps, current value 0 and not one-valued.
+// but that a make refused by 1 or 12 writes its empty parameter, and a refused block its 0 steps, current value 0 and not one-valued.
 ghost use mathlib.Core.Path.{_≡_};
 ghost use mathlib.Core.List.{[]};
 ghost use lib.ListN.{length};
@@ -14,7 +14,7 @@ use rules::AutomationRate;
 use rules::Bounds;
 use rules::Verdict;
 
-const VERSION: u32 = 0x00_0600;
+const VERSION: u32 = 0x00_0700;
 
 const BAD_STATE: u32 = 100;
 
@@ -50,6 +50,20 @@ fn close(verdict: Verdict, p: AudioParam, state: &mut [u64]) -> u32
     number
 }
 
+// A parameter made and written over a state of the right length; refused, the empty one.
+fn begin(state: &mut [u64], bounds: Bounds, rate: AutomationRate, edition: u64) -> u32
+    ensures { λ r. ⌜ Begins (now (state .entry)) bounds rate edition r (now (state .exit)) ⌝ }
+{
+    if state.len() != coding::LENGTH {
+        return BAD_STATE;
+    }
+    let r = AudioParam::with_edition(bounds, rate, edition);
+    let p = r.param;
+    coding::encode(p, state);
+    let verdict = r.verdict;
+    number_of(verdict)
+}
+
 // The library's own version, for a caller to hold against the header that it was compiled with.
 #[no_mangle]
 pub extern "C" fn crackledray_version() -> u32
@@ -58,6 +72,7 @@ pub extern "C" fn crackledray_version() -> u32
     VERSION
 }
 
+// Under the first edition.
 #[no_mangle]
 pub extern "C" fn crackledray_make(
     state: &mut [u64],
@@ -66,17 +81,29 @@ pub extern "C" fn crackledray_make(
     max: f32,
     k_rate: bool,
 ) -> u32
-    ensures { λ r. ⌜ Begins (now (state .entry)) (record { min = min; default = default; max = max }) (rateOf «k_rate») r (now (state .exit)) ⌝ }
+    ensures { λ r. ⌜ Begins (now (state .entry)) (record { min = min; default = default; max = max }) (rateOf «k_rate») 1 r (now (state .exit)) ⌝ }
 {
-    if state.len() != coding::LENGTH {
-        return BAD_STATE;
-    }
-    let bounds = Bounds { min, default, max };
-    let r = AudioParam::new(bounds, rate_of(k_rate));
-    let p = r.param;
-    coding::encode(p, state);
-    let verdict = r.verdict;
-    number_of(verdict)
+    begin(state, Bounds { min, default, max }, rate_of(k_rate), 1)
+}
+
+// Under the edition of that number.
+#[no_mangle]
+pub extern "C" fn crackledray_make_under(
+    state: &mut [u64],
+    min: f32,
+    default: f32,
+    max: f32,
+    k_rate: bool,
+    edition: u64,
+) -> u32
+    ensures { λ r. ⌜ Begins (now (state .entry)) (record { min = min; default = default; max = max }) (rateOf «k_rate») edition r (now (state .exit)) ⌝ }
+{
+    begin(
+        state,
+        Bounds { min, default, max },
+        rate_of(k_rate),
+        edition,
+    )
 }
 
 #[no_mangle]

@@ -68,13 +68,13 @@ first-results (suc k) p [] [] none = none
 first-results (suc k) p (a ∷ calls) (g ∷ gs) (more m rest) = more m (first-results k (leftByGiven g) calls gs rest)
 
 -- behind each of its first calls
-pub what-a-session-costs-of-code : {b : Bounds} {rate : AutomationRate} {o : Outcome} → Makes b rate o → {calls : List Asked} {gs : List Given}
+pub what-a-session-costs-of-code : {b : Bounds} {rate : AutomationRate} {n : ℕ} {o : Outcome} → Makes b rate n o → {calls : List Asked} {gs : List Given}
     → Session (o .param) calls gs → (k : ℕ)
-    → (seenTotals (o .param) (take k gs) ≡ totals (made b rate) (take k calls))
+    → (seenTotals (o .param) (take k gs) ≡ totals (made b rate n) (take k calls))
     × Sums (seenTotals (o .param) (take k gs)) (waitingIn (paramOf (lastLeft leftByGiven (o .param) (take k gs))))
-what-a-session-costs-of-code {b} {rate} {o} makes {calls} {gs} results k =
+what-a-session-costs-of-code {b} {rate} {n} {o} makes {calls} {gs} results k =
     let all = session-settled (o .param) (take k calls) (take k gs) (makes .sound) (first-results k (o .param) calls gs results) in
-    let made-is : paramOf (o .param) ≡ made b rate = back (makes .param) in
-    let same : seenTotals (o .param) (take k gs) ≡ totals (made b rate) (take k calls) = all .0 ∙ ap (λ (p : Param). totals p (take k calls)) made-is in
-    let waits : paramOf (lastLeft leftByGiven (o .param) (take k gs)) ≡ leftByAll (made b rate) (take k calls) = all .1 ∙ ap (λ (p : Param). leftByAll p (take k calls)) made-is in
-    (same, subst (λ (q : Param). Sums (seenTotals (o .param) (take k gs)) (waitingIn q)) (sym waits) (rw same (session-sums b rate (take k calls))))
+    let made-is : paramOf (o .param) ≡ made b rate n = back (makes .param) in
+    let same : seenTotals (o .param) (take k gs) ≡ totals (made b rate n) (take k calls) = all .0 ∙ ap (λ (p : Param). totals p (take k calls)) made-is in
+    let waits : paramOf (lastLeft leftByGiven (o .param) (take k gs)) ≡ leftByAll (made b rate n) (take k calls) = all .1 ∙ ap (λ (p : Param). leftByAll p (take k calls)) made-is in
+    (same, subst (λ (q : Param). Sums (seenTotals (o .param) (take k gs)) (waitingIn q)) (sym waits) (rw same (session-sums b rate n (take k calls))))

@@ -84,20 +84,20 @@ pub code-schedules : {h : Held} {cs : List Command} {rs : List Done} → Ok h �
 code-schedules ok = results-scheduled stateOf leftByDone Ok calledBy MeetsCall (λ r. refl) call-settled ok
 
 -- a parameter just made is the rules' one
-code-begins : {b : Bounds} {rate : AutomationRate} {o : Outcome} → Makes b rate o → (store : List Float)
-    → stateOf (record { param = o .param; store = store }) ≡ begun b rate store
+code-begins : {b : Bounds} {rate : AutomationRate} {n : ℕ} {o : Outcome} → Makes b rate n o → (store : List Float)
+    → stateOf (record { param = o .param; store = store }) ≡ begun b rate n store
 unfolding begun
 code-begins makes store = rw (back (makes .param))
 
 -- ---- before the first block no event lies inside a curve (02, C-14)
 
-pub nothing-inside-of-code : {b : Bounds} {rate : AutomationRate} {o : Outcome} → Makes b rate o → (store : List Float) {xs : List Command} {ds : List Done}
+pub nothing-inside-of-code : {b : Bounds} {rate : AutomationRate} {n : ℕ} {o : Outcome} → Makes b rate n o → (store : List Float) {xs : List Command} {ds : List Done}
     → Results leftByDone MeetsCall (record { param = o .param; store = store }) xs ds
     → areApart (paramOf (lastLeft leftByDone (record { param = o .param; store = store }) ds .param) .queue) ≡ true
-nothing-inside-of-code {b} {rate} {o} makes store {xs} {ds} results =
-    let is : stateOf (lastLeft leftByDone (record { param = o .param; store = store }) ds) ≡ scheduled (begun b rate store) xs =
+nothing-inside-of-code {b} {rate} {n} {o} makes store {xs} {ds} results =
+    let is : stateOf (lastLeft leftByDone (record { param = o .param; store = store }) ds) ≡ scheduled (begun b rate n store) xs =
     code-schedules (makes .sound) results .0 ∙ ap (λ (s : State). scheduled s xs) (code-begins makes store) in
-    ap (λ (s : State). areApart (s .param .queue)) is ∙ nothing-inside b rate store xs
+    ap (λ (s : State). areApart (s .param .queue)) is ∙ nothing-inside b rate n store xs
 
 -- ---- demand 3 of the code
 
@@ -105,7 +105,7 @@ nothing-inside-of-code {b} {rate} {o} makes store {xs} {ds} results =
 -- before the first after which fewer than two shared events wait. There the first's state with the second's later events behind the shared ones makes a parameter:
 -- `from_parts` answers with that very struct. Lent any store that holds its curves' numbers first, it is played over the rest, with the results vs. Then rs and us agree
 -- over cs, waiting events apart, and over the rest vs is us.
-module _ (b : Bounds) (rate : AutomationRate) (one other : List Float) (long : length one ≡ storeLength) (long' : length other ≡ storeLength) (o : Outcome) (makes : Makes b rate o)
+module _ (b : Bounds) (rate : AutomationRate) (n : ℕ) (one other : List Float) (long : length one ≡ storeLength) (long' : length other ≡ storeLength) (o : Outcome) (makes : Makes b rate n o)
     (xs ys : List Command) (ds es : List Done)
     (first : Results leftByDone MeetsCall (record { param = o .param; store = one }) xs ds)
     (second : Results leftByDone MeetsCall (record { param = o .param; store = other }) ys es) where
@@ -115,16 +115,16 @@ module _ (b : Bounds) (rate : AutomationRate) (one other : List Float) (long : l
   abbrev y : Held
   y = lastLeft leftByDone (record { param = o .param; store = other }) es
 
-  x-is : stateOf x ≡ scheduled (begun b rate one) xs
+  x-is : stateOf x ≡ scheduled (begun b rate n one) xs
   x-is = code-schedules (makes .sound) first .0 ∙ ap (λ (s : State). scheduled s xs) (code-begins makes one)
 
-  y-is : stateOf y ≡ scheduled (begun b rate other) ys
+  y-is : stateOf y ≡ scheduled (begun b rate n other) ys
   y-is = code-schedules (makes .sound) second .0 ∙ ap (λ (s : State). scheduled s ys) (code-begins makes other)
 
   pub code-plays-the-same : (m : ℕ) → take m (waiting (stateOf x)) ≡ take m (waiting (stateOf y)) → (all : List Call)
       → PlayedTheSame m (stateOf x) (stateOf y) all (whileTwoWait (behind m (stateOf x)) (stateOf x) all)
   code-plays-the-same m agree all =
-      rw (x-is, y-is) (demand-3 b rate one other long long' xs ys m (rw (x-is, y-is) at agree) all)
+      rw (x-is, y-is) (demand-3 b rate n one other long long' xs ys m (rw (x-is, y-is) at agree) all)
 
   -- the first resumed as the second
   abbrev pub resumedParam : ℕ → List Call → AudioParam

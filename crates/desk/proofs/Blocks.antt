@@ -4,6 +4,7 @@ use mathlib.Core.Bool.{Bool}
 use mathlib.Core.List.{List, _++_}
 use Prim.Native.Nat.{ℕ, _+_, _-_, _≤_}
 use native.Mathlib.Omega.{arith}
+use native.Mathlib.Nat.{le-trans}
 use lib.ListN.{length, take, drop, replicate, length-replicate, replicate-append-replicate}
 use lib.Seq.{take-at, length-take-le}
 use lib.Ieee.{Float, binary32, ofBits}
@@ -12,6 +13,7 @@ use Rattle.rules.specs.declared.Verdict.{Verdict}
 use Rattle.rules.specs.declared.Verdict.the-variants as Verdict
 use Rattle.rules.specs.Block as rule
 use Rattle.rules.specs.Block.{Param, answered}
+use Rattle.laws.proofs.Rows.{ceiling-most}
 use Rattle.laws.proofs.Answers.{given}
 use Rattle.text.specs.Put.{Put}
 use Rattle.text.proofs.Writing.{put-same}
@@ -43,8 +45,8 @@ module _ {v : Verdict} (count steps : ℕ) (current : Float) (one : Bool) (outpu
   unfolding blockLine
   refused-line h e = rw (h, e)
 
--- its samples take no more than 1152 characters
-pub samples-room : (count : ℕ) (output : List Float) → (count ≤ 128) × (count ≤ length output) → (length (take count output) ≤ 128) × (length (listText 32 32 (take count output)) ≤ 1152)
+-- its samples take no more than 9216 characters
+pub samples-room : (count : ℕ) (output : List Float) → (count ≤ 1024) × (count ≤ length output) → (length (take count output) ≤ 1024) × (length (listText 32 32 (take count output)) ≤ 9216)
 samples-room count output h =
     let n = length-take-le count output (h .1) in
     (omega (arith, n, h .0), omega (arith, n, h .0, list-length 32 32 (take count output)))
@@ -56,11 +58,11 @@ module _ (time period : Float) (count : ℕ) (input output : List Float) (d : De
   abbrev asks : rule.Call
   asks = record { time = time; period = period; count = count; input = input; output = output }
 
-  -- where it is answered, its samples are no more than 128, and the output holds them
-  pub block-fits : r .verdict ≡ Verdict.Answered → (count ≤ 128) × (count ≤ length output′)
+  -- where it is answered, its samples are no more than 1,024, under either edition, and the output holds them
+  pub block-fits : r .verdict ≡ Verdict.Answered → (count ≤ 1024) × (count ≤ length output′)
   block-fits h =
       let g = given (paramOf (d .param)) (take (d .lent) s) asks (sym (verdict-is a) ∙ h) in
-      (g .few, rw (length-kept a h) (g .room))
+      (le-trans (g .few) (ceiling-most (d .param .edition)), rw (length-kept a h) (g .room))
 
   -- what is seen of it is what it costs
   counted : afterBlock d r ≡ kept (plus (d .totals) (blockCost (answered (paramOf (d .param)) (take (d .lent) s) asks)))
@@ -71,7 +73,7 @@ module _ (time period : Float) (count : ℕ) (input output : List Float) (d : De
       ∙ rw (a .verdict, a .steps) (ap (λ (u : Totals). kept (plus (d .totals) u)) (block-seen p (take (d .lent) s) asks))
 
   pub played : {l l′ : List ℕ} {at next : ℕ} {k : Desk} → SoundDesk d → k ≡ deskOf (r .param) (d .lent) (afterBlock d r)
-      → Put l at (blockLine (r .verdict) count (r .steps) (r .current) (r .one) output′) l′ next → next ≤ at + 1195
+      → Put l at (blockLine (r .verdict) count (r .steps) (r .current) (r .one) output′) l′ next → next ≤ at + 9259
       → Spoken 41999 (playing time period count input output) d s l at (record { desk = k; next = next }) (after ++ drop (d .lent) s) l′
   unfolding playing
   played ok e p near =

@@ -1,4 +1,4 @@
--- What a desk keeps is what its session has cost: the totals of the calls since the last `make`, so that C-20's sums hold of them. Assumes nothing.
+-- What a desk keeps are the totals of a session of calls on a parameter just made that left its parameter, so that C-20's sums hold of them. Assumes nothing.
 use mathlib.Core.Path.{_≡_, refl, sym, ap, _∙_}
 use mathlib.Core.List.{List, [], _∷_, _++_}
 use mathlib.Core.Option.{Option, none, some}
@@ -27,19 +27,21 @@ use Rattle.desk.proofs.Turns.{no-range}
 pub record Counts (t : Table) : Type 0 where
   pub bounds : Bounds
   pub rate : AutomationRate
+  pub edition : ℕ
   pub calls : List Asked
-  pub param : t .param ≡ leftByAll (made bounds rate) calls
-  pub totals : t .totals ≡ kept (totals (made bounds rate) calls)
+  pub param : t .param ≡ leftByAll (made bounds rate edition) calls
+  pub totals : t .totals ≡ kept (totals (made bounds rate edition) calls)
 
 -- ---- a call more
 
 module _ (t u : Table) (k : Counts t) where
   one-more : (a : Asked) → u .param ≡ left (t .param) a → u .totals ≡ kept (plus (t .totals) (costOf (t .param) a)) → Counts u
   one-more a p c =
-      let first : Param = made (k .bounds) (k .rate) in
+      let first : Param = made (k .bounds) (k .rate) (k .edition) in
       record {
         bounds = k .bounds;
         rate = k .rate;
+        edition = k .edition;
         calls = k .calls ++ (a ∷ []);
         param = p ∙ ap (λ (q : Param). left q a) (k .param) ∙ sym (one-more-left first (k .calls) a);
         totals =
@@ -52,7 +54,7 @@ module _ (t u : Table) (k : Counts t) where
 
   -- a line that is no call of the parameter
   same : u .param ≡ t .param → u .totals ≡ t .totals → Counts u
-  same p c = record { bounds = k .bounds; rate = k .rate; calls = k .calls; param = p ∙ k .param; totals = c ∙ k .totals }
+  same p c = record { bounds = k .bounds; rate = k .rate; edition = k .edition; calls = k .calls; param = p ∙ k .param; totals = c ∙ k .totals }
 
 asked-counts : (c : Command) (t : Table) → Counts t → Counts (asked c t .table)
 unfolding asked left costOf
@@ -64,9 +66,9 @@ playing-counts time period count input output t k =
     one-more t (playing time period count input output t .table) k
     (block (take (t .lent) (t .store)) (record { time = time; period = period; count = count; input = input; output = output })) refl refl
 
-making-counts : (b : Bounds) (r : AutomationRate) (t : Table) → Counts (making b r t .table)
+making-counts : (b : Bounds) (r : AutomationRate) (n : ℕ) (t : Table) → Counts (making b r n t .table)
 unfolding making leftByAll totals
-making-counts b r t = record { bounds = b; rate = r; calls = []; param = refl; totals = unfold kept capped in refl }
+making-counts b r n t = record { bounds = b; rate = r; edition = n; calls = []; param = refl; totals = unfold kept capped in refl }
 
 -- ---- every line
 
@@ -74,7 +76,7 @@ pub said-counts : (call : Call) (numbers : List Float) (t : Table) → Counts t 
 unfolding answerOf unread lending poking stating
 said-counts Call.Nothing numbers t k = k
 said-counts Call.Unread numbers t k = k
-said-counts (Call.Make b rate) numbers t k = making-counts b rate t
+said-counts (Call.Make b rate n) numbers t k = making-counts b rate n t
 said-counts (Call.Set v) numbers t k = asked-counts (rule.set v) t k
 said-counts (Call.Step v u) numbers t k = asked-counts (rule.step v u) t k
 said-counts (Call.Linear v u) numbers t k = asked-counts (rule.linear v u) t k
@@ -100,6 +102,7 @@ first-counts s =
     record {
       bounds = _;
       rate = Rate.A;
+      edition = 1;
       calls = [];
       param = struct-back _ ∙ sym no-range;
       totals = unfold kept capped in refl;
@@ -109,5 +112,5 @@ first-counts s =
 
 pub desk-sums : (t : Table) → Counts t → t .totals .steps < largest → t .totals .stored < largest → Sums (t .totals) (waitingIn (t .param))
 desk-sums t k steps stored =
-    let first : Param = made (k .bounds) (k .rate) in
-    rw (k .totals, k .param) (kept-sums (session-sums (k .bounds) (k .rate) (k .calls)) (rw (k .totals) at steps) (rw (k .totals) at stored))
+    let first : Param = made (k .bounds) (k .rate) (k .edition) in
+    rw (k .totals, k .param) (kept-sums (session-sums (k .bounds) (k .rate) (k .edition) (k .calls)) (rw (k .totals) at steps) (rw (k .totals) at stored))

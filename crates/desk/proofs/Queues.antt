@@ -9,6 +9,7 @@ use lib.Seq.{take-length, drop-drop, take-add}
 use lib.Ieee.{Float}
 use mathlib.Core.Bool.{Bool}
 use Rattle.rules.specs.declared.AutomationRate.{AutomationRate}
+use Rattle.rules.specs.declared.Edition.{Edition}
 use Rattle.rules.specs.declared.Bounds.{Bounds}
 use Rattle.rules.specs.declared.LastEvent.{LastEvent}
 use Rattle.rules.specs.declared.MaybeTime.{MaybeTime}
@@ -95,8 +96,8 @@ all-width q few room = omega arith
 
 -- ---- the state, as its parts were asked for
 
-pub state-line : (p : Param) (s : List Float) {rate : AutomationRate} {b : Bounds} {v : Float} {block end : MaybeTime} {last : LastEvent} {n from : ℕ} {zeros : Bool}
-    → rate ≡ p .rate → b ≡ p .bounds → v ≡ p .intrinsic → block ≡ p .lastBlock → end ≡ p .lastEnd → last ≡ p .last → n ≡ length (p .queue) → from ≡ lengthsOf (take n (p .queue)) → zeros ≡ areZeros (drop from (take 4096 s))
-    → stateText rate b v block end last n ++ (queueText (p .queue) s ++ zerosText zeros) ≡ stateLine p s
+pub state-line : (p : Param) (s : List Float) {rate : AutomationRate} {e : Edition} {b : Bounds} {v : Float} {block end : MaybeTime} {last : LastEvent} {n from : ℕ} {zeros : Bool}
+    → rate ≡ p .rate → e ≡ p .edition → b ≡ p .bounds → v ≡ p .intrinsic → block ≡ p .lastBlock → end ≡ p .lastEnd → last ≡ p .last → n ≡ length (p .queue) → from ≡ lengthsOf (take n (p .queue)) → zeros ≡ areZeros (drop from (take 4096 s))
+    → stateText rate e b v block end last n ++ (queueText (p .queue) s ++ zerosText zeros) ≡ stateLine p s
 unfolding stateLine
-state-line p s e₁ e₂ e₃ e₄ e₅ e₆ e₇ e₈ e₉ = rw (e₉, e₈, e₇, e₁, e₂, e₃, e₄, e₅, e₆, take-length (p .queue))
+state-line p s e₁ k e₂ e₃ e₄ e₅ e₆ e₇ e₈ e₉ = rw (e₉, e₈, e₇, e₁, k, e₂, e₃, e₄, e₅, e₆, take-length (p .queue))

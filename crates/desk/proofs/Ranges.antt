@@ -77,7 +77,7 @@ singles-in (suc n) ws = any (Long (suc n)) _ _ (λ x ws. one-more n x (singles n
 unfoldable saidLength : Call → ℕ
 saidLength Call.Nothing = 0
 saidLength Call.Unread = 0
-saidLength (Call.Make b rate) = 0
+saidLength (Call.Make b rate n) = 0
 saidLength (Call.Set v) = 0
 saidLength (Call.Step v t) = 0
 saidLength (Call.Linear v t) = 0
@@ -100,7 +100,7 @@ Plain c = Fit (c, [])
 
 in-make : (ws : List Word) → In Plain (makeOf ws)
 unfolding makeOf withSingle InRange saidLength
-in-make ws = any Plain _ _ (λ lo ws. any Plain _ _ (λ d ws. any Plain _ _ (λ hi ws. any Plain _ _ (λ r ws. ended Plain ws _ (tt, zero-le)))))
+in-make ws = any Plain _ _ (λ lo ws. any Plain _ _ (λ d ws. any Plain _ _ (λ hi ws. any Plain _ _ (λ r ws. any Plain _ _ (λ n ws. ended Plain ws _ (tt, zero-le))))))
 
 in-set : (ws : List Word) → In Plain (setOf ws)
 unfolding setOf withSingle InRange saidLength
@@ -215,7 +215,7 @@ same-turn : (c : Call) (xs numbers : List Float) → take (length xs) numbers �
 unfolding answerOf saidLength
 same-turn Call.Nothing xs numbers e h = refl
 same-turn Call.Unread xs numbers e h = refl
-same-turn (Call.Make b rate) xs numbers e h = refl
+same-turn (Call.Make b rate n) xs numbers e h = refl
 same-turn (Call.Set v) xs numbers e h = refl
 same-turn (Call.Step v t) xs numbers e h = refl
 same-turn (Call.Linear v t) xs numbers e h = refl

@@ -117,10 +117,10 @@ module _ (c : Command) (d : Desk) (s : List Float) (l : List ℕ) (at : ℕ) (o 
 
 -- ---- making
 
-pub made-spoken : (b : Bounds) (rate : AutomationRate) (o : Outcome) (s s′ : List Float) (l : List ℕ) (at : ℕ) (t : Answered) (l′ : List ℕ) → length s ≡ 8192
-    → s′ ≡ replicate (length s) plusZero → Makes b rate o → Told o 4096 nothing l at t l′ → (d : Desk) → Spoken 41999 (making b rate) d s l at t s′ l′
+pub made-spoken : (b : Bounds) (rate : AutomationRate) (n : ℕ) (o : Outcome) (s s′ : List Float) (l : List ℕ) (at : ℕ) (t : Answered) (l′ : List ℕ) → length s ≡ 8192
+    → s′ ≡ replicate (length s) plusZero → Makes b rate n o → Told o 4096 nothing l at t l′ → (d : Desk) → Spoken 41999 (making b rate n) d s l at t s′ l′
 unfolding making
-made-spoken b rate o s s′ l at t l′ long zeroed a told d =
+made-spoken b rate n o s s′ l at t l′ long zeroed a told d =
     record {
       param = ap (λ (x : Desk). x .param) (told .0) ∙ a .param;
       lent = ap (λ (x : Desk). x .lent) (told .0);
@@ -165,7 +165,7 @@ zero-is = refl
 -- ---- before the first `make`
 
 -- the range 1 to 0 is none
-pub no-range : made (record { min = ofBits binary32 1065353216; default = ofBits binary32 0; max = ofBits binary32 0 }) Rate.A ≡ nothingMade
+pub no-range : made (record { min = ofBits binary32 1065353216; default = ofBits binary32 0; max = ofBits binary32 0 }) Rate.A 1 ≡ nothingMade
 unfolding made madeAs lowest makingRows areBounds allFinite isFinite le lt eq ofBits ofFields odd trailingZeros
 no-range = refl
 
@@ -191,7 +191,7 @@ pub scheduling-by : (call : Call) → (OneOf theirs (tagOf the-type call) → is
 unfolding isScheduling
 scheduling-by Call.Nothing = (λ h. absurd (miss theirs 0 tt h), λ h. refl)
 scheduling-by Call.Unread = (λ h. absurd (miss theirs 1 tt h), λ h. refl)
-scheduling-by (Call.Make b rate) = (λ h. absurd (miss theirs 2 tt h), λ h. refl)
+scheduling-by (Call.Make b rate n) = (λ h. absurd (miss theirs 2 tt h), λ h. refl)
 scheduling-by (Call.Set v) = (λ h. refl, λ h. absurd (miss others 3 tt h))
 scheduling-by (Call.Step v t) = (λ h. refl, λ h. absurd (miss others 4 tt h))
 scheduling-by (Call.Linear v t) = (λ h. refl, λ h. absurd (miss others 5 tt h))

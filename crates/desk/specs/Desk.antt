@@ -60,11 +60,11 @@ unfoldable pub unread : Table → Turn
 unread = unchanged (117 ∷ 110 ∷ 114 ∷ 101 ∷ 97 ∷ 100 ∷ [])
 
 -- "A `make`, refused too, sets all 8192 numbers to +0 and lends 4096 again, and the parameter is then what it returned."
-unfoldable pub making : Bounds → AutomationRate → Table → Turn
-making b rate t =
+unfoldable pub making : Bounds → AutomationRate → ℕ → Table → Turn
+making b rate n t =
     record {
-      table = record { param = made b rate; lent = storeLength; store = replicate 8192 plusZero; totals = nothing };
-      text = verdictText (lowest (makingRows b));
+      table = record { param = made b rate n; lent = storeLength; store = replicate 8192 plusZero; totals = nothing };
+      text = verdictText (lowest (makingRows b n));
     }
 
 -- a scheduling or cancelling call; the numbers behind those that are lent stay
@@ -139,7 +139,7 @@ queueText (e ∷ es) s = waitingText e s ++ queueText es (drop (lengthOf e) s)
 -- "`zeros` where every number of the first 4096 behind the curves is +0"
 unfoldable pub stateLine : Param → List Float → List ℕ
 stateLine p s =
-    stateText (p .rate) (p .bounds) (p .intrinsic) (p .lastBlock) (p .lastEnd) (p .last) (length (p .queue))
+    stateText (p .rate) (p .edition) (p .bounds) (p .intrinsic) (p .lastBlock) (p .lastEnd) (p .last) (length (p .queue))
     ++ (queueText (p .queue) s ++ zerosText (areZeros (drop (lengthsOf (p .queue)) (take storeLength s))))
 
 unfoldable pub stating : Table → Turn
@@ -151,7 +151,7 @@ stating t = unchanged (stateLine (t .param) (t .store)) t
 unfoldable pub answerOf : Call → List Float → Table → Turn
 answerOf Call.Nothing numbers = unchanged []
 answerOf Call.Unread numbers = unread
-answerOf (Call.Make b rate) numbers = making b rate
+answerOf (Call.Make b rate n) numbers = making b rate n
 answerOf (Call.Set v) numbers = asked (rule.set v)
 answerOf (Call.Step v t) numbers = asked (rule.step v t)
 answerOf (Call.Linear v t) numbers = asked (rule.linear v t)
@@ -216,7 +216,7 @@ pub record Spoken (most : ℕ) (turn : Table → Turn) (d : Desk) (s : List Floa
 unfoldable pub InRange : Call → Type 0
 InRange Call.Nothing = Unit
 InRange Call.Unread = Unit
-InRange (Call.Make b rate) = Unit
+InRange (Call.Make b rate n) = Unit
 InRange (Call.Set v) = Unit
 InRange (Call.Step v t) = Unit
 InRange (Call.Linear v t) = Unit
@@ -234,7 +234,7 @@ InRange Call.State = Unit
 unfoldable pub isScheduling : Call → Bool
 isScheduling Call.Nothing = false
 isScheduling Call.Unread = false
-isScheduling (Call.Make b rate) = false
+isScheduling (Call.Make b rate n) = false
 isScheduling (Call.Set v) = true
 isScheduling (Call.Step v t) = true
 isScheduling (Call.Linear v t) = true

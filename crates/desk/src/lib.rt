@@ -6,7 +6,7 @@ ghost use Prim.Native.Nat.{ℕ, _+_, _*_, _≤_, _<_};
 ghost use lib.ListN.{length, take, drop, replicate};
 ghost use lib.Ieee.{Float};
 ghost use Rattle.rules.specs.declared.Verdict.the-variants as Verdict;
-ghost use Rattle.rules.specs.Numbers.{mostCount, plusZero};
+ghost use Rattle.rules.specs.Numbers.{plusZero};
 ghost use Rattle.rules.specs.Block.{set, step, linear, exponential, target, curve, cancel, hold};
 ghost use Rattle.text.specs.Put.{Put};
 ghost use Rattle.param.specs.Param.{SoundParam, paramOf};
@@ -118,15 +118,17 @@ fn clear(store: &mut [f32])
 fn make(
     bounds: Bounds,
     rate: AutomationRate,
+    edition: u64,
     store: &mut [f32],
     out: &mut [u8],
     at: usize,
 ) -> Answered
     requires { ⌜ (length (now store) ≡ 8192) × (at + 42000 ≤ length (now out)) ⌝ }
-    ensures { λ r. ⌜ ((d : Desk) → Spoken 41999 (making bounds rate) d (now (store .entry)) (now (out .entry)) at r (now (store .exit)) (now (out .exit))) ⌝ }
+    ensures { λ r. ⌜ ((d : Desk) → Spoken 41999 (making bounds rate edition) d (now (store .entry)) (now (out .entry)) at r (now (store .exit)) (now (out .exit))) ⌝ }
 {
     clear(store);
-    told(AudioParam::new(bounds, rate), 4096, none(), out, at)
+    let r = AudioParam::with_edition(bounds, rate, edition);
+    told(r, 4096, none(), out, at)
 }
 
 fn set(desk: Desk, value: f32, out: &mut [u8], at: usize) -> Answered
@@ -243,9 +245,9 @@ fn poke(
 
 // What a block says: its samples, and whether the places behind them still have the mark.
 fn put_processed(r: Processed, count: usize, output: &[f32], out: &mut [u8], at: usize) -> usize
-    requires { ⌜ (r .verdict ≡ Verdict.Answered → (count ≤ mostCount) × (count ≤ length (now output))) × (at + 42000 ≤ length (now out)) ⌝ }
+    requires { ⌜ (r .verdict ≡ Verdict.Answered → (count ≤ 1024) × (count ≤ length (now output))) × (at + 42000 ≤ length (now out)) ⌝ }
     ensures { λ n. ⌜ Put (now (out .entry)) at (blockLine (r .verdict) count (r .steps) (r .current) (r .one) (now (output .entry))) (now (out .exit)) n ⌝ }
-    ensures { λ n. ⌜ n ≤ at + 1195 ⌝ }
+    ensures { λ n. ⌜ n ≤ at + 9259 ⌝ }
 {
     let verdict = r.verdict;
     match verdict {
@@ -370,6 +372,7 @@ fn state(desk: Desk, store: &[f32], out: &mut [u8], at: usize) -> Answered
         out,
         at,
         p.automation_rate(),
+        p.edition(),
         p.bounds(),
         p.intrinsic_value(),
         p.last_block_time(),
@@ -431,7 +434,11 @@ fn answer(
     match call {
         Call::Nothing => Answered { desk, next: at },
         Call::Unread => word(desk, out, at, b"unread"),
-        Call::Make { bounds, rate } => make(bounds, rate, store, out, at),
+        Call::Make {
+            bounds,
+            rate,
+            edition,
+        } => make(bounds, rate, edition, store, out, at),
         Call::Block {
             time,
             period,

@@ -1,4 +1,4 @@
--- What is left of the block buffer: by a run that is lent the places to fill, and by a loop that writes one value. Assumes nothing.
+-- What is left of the places of a block: by a run that is lent the places to fill, and by a loop that writes one value. Assumes nothing.
 use mathlib.Core.Path.{_≡_, refl, sym, ap, _∙_}
 use mathlib.Core.Bool.{Bool, true, false}
 use mathlib.Core.List.{List, [], _∷_, _++_, append-assoc, append-nil}

@@ -1,4 +1,4 @@
--- What a run of samples leaves of the block buffer.
+-- What a run of samples leaves of a block's places.
 use mathlib.Core.Path.{_≡_}
 use mathlib.Core.Bool.{Bool, true}
 use mathlib.Core.List.{List}

@@ -1,4 +1,4 @@
-// Runs of samples into the block buffer: one value, a ramp, a target, a curve.
+// Runs of samples into the places of a block: one value, a ramp, a target, a curve.
 ghost use mathlib.Core.Path.{_≡_};
 ghost use mathlib.Core.Bool.{cond};
 ghost use Prim.Native.Nat.{ℕ, _≤_};

@@ -15,7 +15,7 @@ use Rattle.rules.specs.declared.Event.{Event}
 use Rattle.rules.specs.declared.Refusal.{Refusal}
 use Rattle.rules.specs.declared.Verdict.{Verdict}
 use Rattle.rules.specs.declared.Verdict.the-variants as Verdict
-use Rattle.rules.specs.Numbers.{mostEvents, storeLength, mostCount, plusZero}
+use Rattle.rules.specs.Numbers.{mostEvents, storeLength, ceilingOf, plusZero}
 use Rattle.rules.specs.Queue.{Waiting, lengthsOf, eventsOf, numbersOf, attached}
 use Rattle.rules.specs.Refusals.{fitsCount}
 use Rattle.rules.specs.Walk.{Walked}
@@ -68,9 +68,9 @@ inputs-length Rate.K count (x ∷ xs) h = length-replicate count (firstOf (x ∷
 
 module _ (p : Param) (store : List Float) (c : Call) (fine : verdictOf p store c ≡ Verdict.Answered) where
   -- what it was given
-  pub given : Played mostCount (p .lastBlock) store (c .time) (c .period) (c .count) (c .input) (c .output)
+  pub given : Played (ceilingOf (p .edition)) (p .lastBlock) store (c .time) (c .period) (c .count) (c .input) (c .output)
   unfolding verdictOf
-  given = block-answered mostCount (p .lastBlock) store (c .time) (c .period) (c .count) (c .input) (c .output) fine
+  given = block-answered (ceilingOf (p .edition)) (p .lastBlock) store (c .time) (c .period) (c .count) (c .input) (c .output) fine
 
   abbrev ws : List Waiting
   ws = attached (p .queue) store
@@ -158,11 +158,11 @@ at-most-129 p store c s = go (verdictOf p store c) refl
 -- ---- a parameter that comes from the calls
 
 pub data Reached : Param → Type 0 where
-  begun : (b : Bounds) (r : AutomationRate) → Reached (made b r)
+  begun : (b : Bounds) (r : AutomationRate) (n : ℕ) → Reached (made b r n)
   asked : (p : Param) (store : List Float) (c : Command) → Reached p → Reached (called p store c .param)
   played : (p : Param) (store : List Float) (c : Call) → Reached p → Reached (answered p store c .param)
 
 pub reached-sound : {p : Param} → Reached p → Sound p
-reached-sound (begun b r) = made-sound b r
+reached-sound (begun b r n) = made-sound b r n
 reached-sound (asked p store c h) = called-sound p store (reached-sound h) c
 reached-sound (played p store c h) = answered-sound p store (reached-sound h) c

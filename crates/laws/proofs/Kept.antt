@@ -1,9 +1,9 @@
 -- A parameter's invariant is kept by every call: made, scheduled, cancelled, held, and a block; and by all but the block, that no event lies inside a curve. Assumes
 -- nothing.
-use mathlib.Core.Path.{_≡_, refl, ap}
+use mathlib.Core.Path.{_≡_, refl, sym, ap, subst}
 use mathlib.Core.Bool.{Bool, true, false, cond, not}
 use mathlib.Core.List.{List, [], _∷_}
-use Prim.Native.Nat.{_+_, _≤_, _<_}
+use Prim.Native.Nat.{ℕ, _+_, _≤_, _<_}
 use native.Mathlib.Omega.{arith}
 use lib.ListN.{length}
 use borrow.Author.Tests.{le-leb}
@@ -15,15 +15,16 @@ use Rattle.rules.specs.declared.Event.{Event}
 use Rattle.rules.specs.declared.Event.the-variants as Event
 use Rattle.rules.specs.declared.Bounds.{Bounds}
 use Rattle.rules.specs.declared.AutomationRate.{AutomationRate}
+use Rattle.rules.specs.declared.Edition.{Edition}
 use Rattle.rules.specs.declared.BlockInfos.{BlockInfos}
 use Rattle.rules.specs.declared.Refusal.{Refusal}
 use Rattle.rules.specs.declared.Refusal.the-variants as Refusal
 use Rattle.rules.specs.declared.Verdict.{Verdict}
 use Rattle.rules.specs.declared.Verdict.the-variants as Verdict
-use Rattle.rules.specs.Numbers.{mostEvents, storeLength, mostCount, plusZero, isFinite, isZero, isPositive, isNegative, takenTime, wide}
+use Rattle.rules.specs.Numbers.{mostEvents, storeLength, ceilingOf, plusZero, isFinite, isZero, isPositive, isNegative, takenTime, wide}
 use Rattle.rules.specs.Queue.{Waiting, holdOr, filedUnder, covers, isFiledInside, anyInside, lengthOf, lengthsOf, eventsOf, attached, inserted, arrived, targetEvent}
-use Rattle.rules.specs.Refusals.{row, lowest, allFinite, areBounds, isPeriod, makingRows}
-use Rattle.rules.specs.Block.{Param, madeAs, made, calledAs, scheduledAs, Command, set, step, linear, exponential, target, curve, cancel, hold, called, Call, infosOf, answerOf, answeredAs, verdictOf, answered}
+use Rattle.rules.specs.Refusals.{Row, row, lowest, allFinite, areBounds, isPeriod, makingRows}
+use Rattle.rules.specs.Block.{Param, fresh, editionOf, madeAs, made, calledAs, scheduledAs, Command, set, step, linear, exponential, target, curve, cancel, hold, called, Call, infosOf, answerOf, answeredAs, verdictOf, answered}
 use Rattle.laws.specs.Sound.{isFromZero, isTaken, isTakenIfAny, isHeldBy, isHeldFrom, isSpan, isClear, isDue, all, areDue, SoundQueue, isLastClear, hasPlayed, isEndOf, areBlockTimes, Sound}
 use Rattle.laws.specs.Apart.{isApart, areApart}
 use Rattle.laws.proofs.Tests.{and}
@@ -60,15 +61,34 @@ module _ (r : AutomationRate) (c : Call) (h : isFinite (c .time) ≡ true) (z : 
 
 -- ---- making
 
-made-as-sound : (b : Bounds) (r : AutomationRate) (t : Bool) → areBounds b ≡ t → Sound (madeAs (lowest (row Refusal.Bounds (not t) ∷ [])) b r)
-unfolding madeAs lowest areBounds isLastClear areBlockTimes all
-made-as-sound b r true e = record { waiting = empty-sound; due = refl; bounded = e; last = refl; block = refl }
-made-as-sound b r false e =
-    record { waiting = empty-sound; due = refl; bounded = unfold allFinite isFinite Ieee.le Ieee.lt Ieee.eq in refl; last = refl; block = refl }
+-- whatever is made is fresh
+made-as-fresh : (v : Verdict) (b : Bounds) (r : AutomationRate) (e : Edition) → let p = madeAs v b r e in p ≡ fresh (p .bounds) (p .rate) (p .edition)
+unfolding madeAs
+made-as-fresh Verdict.Answered b r e = refl
+made-as-fresh (Verdict.Refused why) b r e = refl
 
-pub made-sound : (b : Bounds) (r : AutomationRate) → Sound (made b r)
-unfolding made makingRows
-made-sound b r = made-as-sound b r (areBounds b) refl
+pub made-fresh : (b : Bounds) (r : AutomationRate) (n : ℕ) → let p = made b r n in p ≡ fresh (p .bounds) (p .rate) (p .edition)
+unfolding made
+made-fresh b r n = made-as-fresh (lowest (makingRows b n)) b r (editionOf n)
+
+no-range : areBounds (record { min = plusZero; default = plusZero; max = plusZero }) ≡ true
+unfolding areBounds allFinite isFinite Ieee.le Ieee.lt Ieee.eq
+no-range = refl
+
+made-as-bounds : (b : Bounds) (r : AutomationRate) (e : Edition) (rows : List Row) (t : Bool) → areBounds b ≡ t
+    → areBounds (madeAs (lowest (row Refusal.Bounds (not t) ∷ rows)) b r e .bounds) ≡ true
+unfolding lowest madeAs
+made-as-bounds b r e rows true h = go (lowest rows)
+  where
+    go : (v : Verdict) → areBounds (madeAs v b r e .bounds) ≡ true
+    go Verdict.Answered = h
+    go (Verdict.Refused why) = no-range
+made-as-bounds b r e rows false h = no-range
+
+pub made-sound : (b : Bounds) (r : AutomationRate) (n : ℕ) → Sound (made b r n)
+unfolding made makingRows isLastClear areBlockTimes all
+made-sound b r n =
+    subst Sound (sym (made-fresh b r n)) (record { waiting = empty-sound; due = refl; bounded = made-as-bounds b r (editionOf n) _ (areBounds b) refl; last = refl; block = refl })
 
 -- ---- scheduling and cancelling
 
@@ -245,7 +265,7 @@ module _ (p : Param) (store : List Float) (s : Sound p) where
   played-as : (v : Verdict) (c : Call) → verdictOf p store c ≡ v → Sound (answeredAs v p store c .param)
   unfolding answeredAs answerOf verdictOf hasPlayed
   played-as Verdict.Answered c e =
-      let g = block-answered mostCount (p .lastBlock) store (c .time) (c .period) (c .count) (c .input) (c .output) e in
+      let g = block-answered (ceilingOf (p .edition)) (p .lastBlock) store (c .time) (c .period) (c .count) (c .input) (c .output) e in
       let f : BlockInfos = infosOf (p .rate) c in
       let now : isTaken (f .time) ≡ true = block-taken (p .rate) c (g .time) (g .from-zero) in
       let later : isFromZero (f .next) ≡ true = next-from-zero (p .rate) c (g .time) (g .from-zero) (g .period-finite) (g .period-positive) in

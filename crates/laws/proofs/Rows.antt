@@ -10,13 +10,15 @@ use borrow.Author.Tests.{leb-true, leb-false, ltb-true, ltb-false, eqb-true, eq-
 use lib.Ieee.{Float}
 use Rattle.rules.specs.declared.Bounds.{Bounds}
 use Rattle.rules.specs.declared.Event.{Event}
+use Rattle.rules.specs.declared.Edition.{Edition}
+use Rattle.rules.specs.declared.Edition.the-variants as Edition
 use Rattle.rules.specs.declared.MaybeTime.{MaybeTime}
 use Rattle.rules.specs.declared.MaybeTime.the-variants as MaybeTime
 use Rattle.rules.specs.declared.Refusal.{Refusal}
 use Rattle.rules.specs.declared.Refusal.the-variants as Refusal
 use Rattle.rules.specs.declared.Verdict.{Verdict}
 use Rattle.rules.specs.declared.Verdict.the-variants as Verdict
-use Rattle.rules.specs.Numbers.{mostEvents, storeLength, isFinite, isZero, isPositive, isNegative, takenTime}
+use Rattle.rules.specs.Numbers.{mostEvents, storeLength, ceilingOf, isFinite, isZero, isPositive, isNegative, takenTime}
 use Rattle.rules.specs.Queue.{lengthsOf, curveEnd, anyCovers, anyInside}
 use Rattle.rules.specs.Refusals.{Row, row, numberOf, rankOf, lowest, allFinite, isTime, isPeriod, isCount, fitsCount, isBlock, isEarlier, isCrossed, makingRows, valueRows, exponentialRows, targetRows, curveRows, cancelRows, blockRows}
 use Rattle.laws.proofs.Tests.{never, both, neither}
@@ -31,9 +33,9 @@ unfoldable pub ascends : List Row → Bool
 ascends [] = true
 ascends (row r b ∷ rows) = startsAbove (rankOf r) rows && ascends rows
 
-pub making-ascends : (b : Bounds) → ascends (makingRows b) ≡ true
+pub making-ascends : (b : Bounds) (n : ℕ) → ascends (makingRows b n) ≡ true
 unfolding ascends startsAbove makingRows rankOf
-making-ascends b = refl
+making-ascends b n = refl
 
 pub value-ascends : (q : List Event) (v t : Float) → ascends (valueRows q v t) ≡ true
 unfolding ascends startsAbove valueRows rankOf
@@ -102,7 +104,7 @@ given-lowest (row q false ∷ rows) r a h n l = given-lowest rows r (both (start
 refusals : List Refusal
 refusals =
     Refusal.Bounds ∷ Refusal.Bounds ∷ Refusal.NotFinite ∷ Refusal.BeforeZero ∷ Refusal.NotAbove ∷ Refusal.ZeroTarget ∷ Refusal.ShortCurve ∷ Refusal.QueueFull
-    ∷ Refusal.StoreFull ∷ Refusal.BadBlock ∷ Refusal.OutOfOrder ∷ Refusal.Inside ∷ Refusal.Bounds ∷ Refusal.Bounds ∷ Refusal.BadStore ∷ []
+    ∷ Refusal.StoreFull ∷ Refusal.BadBlock ∷ Refusal.OutOfOrder ∷ Refusal.Inside ∷ Refusal.UnknownEdition ∷ Refusal.Bounds ∷ Refusal.BadStore ∷ []
 
 numbered : (r : Refusal) → getD refusals (numberOf r) Refusal.Bounds ≡ r
 unfolding numberOf refusals
@@ -117,6 +119,7 @@ numbered Refusal.StoreFull = refl
 numbered Refusal.BadBlock = refl
 numbered Refusal.OutOfOrder = refl
 numbered Refusal.Inside = refl
+numbered Refusal.UnknownEdition = refl
 numbered Refusal.BadStore = refl
 
 pub number-settles : (q r : Refusal) → numberOf q ≡ numberOf r → q ≡ r
@@ -124,7 +127,7 @@ number-settles q r e = sym (numbered q) ∙ ap (λ (n : ℕ). getD refusals n Re
 
 -- and so is each rank: the numbers in the order in which they are given, 11 between 6 and 7
 numbersInOrder : List ℕ
-numbersInOrder = 0 ∷ 1 ∷ 2 ∷ 3 ∷ 4 ∷ 5 ∷ 6 ∷ 11 ∷ 7 ∷ 8 ∷ 9 ∷ 10 ∷ 14 ∷ []
+numbersInOrder = 0 ∷ 1 ∷ 2 ∷ 3 ∷ 4 ∷ 5 ∷ 6 ∷ 11 ∷ 7 ∷ 8 ∷ 9 ∷ 10 ∷ 12 ∷ 14 ∷ []
 
 ranked : (r : Refusal) → getD numbersInOrder (rankOf r) 0 ≡ numberOf r
 unfolding numberOf rankOf numbersInOrder
@@ -139,6 +142,7 @@ ranked Refusal.StoreFull = refl
 ranked Refusal.BadBlock = refl
 ranked Refusal.OutOfOrder = refl
 ranked Refusal.Inside = refl
+ranked Refusal.UnknownEdition = refl
 ranked Refusal.BadStore = refl
 
 pub rank-settles : (q r : Refusal) → rankOf q ≡ rankOf r → q ≡ r
@@ -217,6 +221,12 @@ pub record Played (most : ℕ) (last : MaybeTime) (store : List Float) (t period
   pub input-fits : fitsCount input count ≡ true
   pub in-order : isEarlier last t ≡ false
   pub lent : length store ≡ storeLength
+
+-- whatever the edition
+pub ceiling-most : (e : Edition) → ceilingOf e ≤ 1024
+unfolding ceilingOf
+ceiling-most Edition.First = omega arith
+ceiling-most Edition.Second = omega arith
 
 finite-parts : (x : Float) (xs : List Float) → not (allFinite (x ∷ xs)) ≡ false → (isFinite x ≡ true) × (not (allFinite xs) ≡ false)
 unfolding allFinite

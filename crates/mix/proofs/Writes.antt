@@ -97,6 +97,12 @@ module _ (b : Bounds) where
   silence-at vs i h =
       ap (λ (x : Float). mixed b x (getD vs i nan)) (sym (getD-replicate (length vs) i plusZero nan h)) ∙ mixed-at (replicate (length vs) plusZero) vs i (omega (arith, length-replicate (length vs) plusZero)) h
 
+-- a number that is there, whatever stands for one that is not
+pub any-default : (xs : List Float) (i : ℕ) → i < length xs → getD xs i nan ≡ getD xs i plusZero
+any-default [] i h = absurd (omega arith)
+any-default (x ∷ xs) zero h = refl
+any-default (x ∷ xs) (suc i) h = any-default xs i (omega arith)
+
 -- only a NaN is unequal to itself
 pub nan-test : (x : Float) → Ieee.isNan x ≡ Ieee.ne x x
 unfolding isNumber Ieee.ne

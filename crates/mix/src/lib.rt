@@ -37,6 +37,18 @@ pub fn put_sample(output: &mut [f32], count: usize, sample: f32)
     }
 }
 
+// These values at the first places.
+pub fn put_values(output: &mut [f32], values: &[f32])
+    requires { ⌜ length (now values) ≤ length (now output) ⌝ }
+    ensures { λ r. ⌜ now (output .exit) ≡ over (now (values .entry)) (now (output .entry)) ⌝ }
+{
+    let mut i = 0usize;
+    while i < values.len() {
+        output[i] = values[i];
+        i += 1;
+    }
+}
+
 // Whether a sum with 0.0 leaves x as it is: not where x is -0.
 fn stands(x: f32) -> bool
     ensures { λ r. ⌜ (r ≡ true → add binary32 plusZero x ≡ x) ⌝ }

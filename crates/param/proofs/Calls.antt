@@ -34,7 +34,7 @@ use Rattle.param.specs.Param.{paramOf, structOf, outcomeOf, answeredWith
 
 -- a sound parameter is the one struct that stands for what it is
 pub whole : (p : AudioParam) → SoundParam p → p ≡ structOf (paramOf p)
-whole p s = ap (λ (q : AudioParamEventTimeline). partsOf (p .bounds) (p .rate) (p .intrinsic) q (p .block) (p .end) (p .last)) (s .neat .clean)
+whole p s = ap (λ (q : AudioParamEventTimeline). partsOf (p .bounds) (p .rate) (p .edition) (p .intrinsic) q (p .block) (p .end) (p .last)) (s .neat .clean)
 
 pub struct-back : (p : Param) → paramOf (structOf p) ≡ p
 struct-back p = ap (λ (q : List Event). withQueue q p) (waits (p .queue))
@@ -47,8 +47,8 @@ counted p s = count (p .timeline) (s .neat)
 
 -- ---- what the calls ensure
 
-pub makes : {b : Bounds} {rate : AutomationRate} {r : Outcome} → r .verdict ≡ lowest (makingRows b) → r .param ≡ structOf (made b rate) → Makes b rate r
-makes {b} {rate} v p = record { verdict = v; param = p; sound = rw p (struct-sound (made b rate) (made-sound b rate)) }
+pub makes : {b : Bounds} {rate : AutomationRate} {n : ℕ} {r : Outcome} → r .verdict ≡ lowest (makingRows b n) → r .param ≡ structOf (made b rate n) → Makes b rate n r
+makes {b} {rate} {n} v p = record { verdict = v; param = p; sound = rw p (struct-sound (made b rate n) (made-sound b rate n)) }
 
 pub answers : {p : AudioParam} {store after : List Float} {c : Command} {r : Outcome} → SoundParam p → r ≡ outcomeOf (called (paramOf p) store c)
     → after ≡ called (paramOf p) store c .store → Answers p store c r after

@@ -16,8 +16,8 @@ use Rattle.rules.specs.declared.AutomationRate.the-variants as Rate
 use Rattle.rules.specs.declared.Verdict.the-variants as Verdict
 use Rattle.rules.specs.Numbers.{mostEvents, storeLength, plusZero, isFinite}
 use Rattle.rules.specs.Queue.{filedUnder, lengthOf, lengthsOf}
-use Rattle.rules.specs.Refusals.{lowest, allFinite, areBounds, makingRows}
-use Rattle.rules.specs.Block.{made, madeAs}
+use Rattle.rules.specs.Refusals.{lowest, allFinite, areBounds, isEdition, makingRows}
+use Rattle.rules.specs.Block.{made, madeAs, editionOf}
 use Rattle.laws.specs.Sound.{isNumber, isLastClear, reachOf, goesBefore, inOrder, isClear, isDue, all, areDue, SoundQueue, isSoundQueue, hasPlayed, areBlockTimes, Sound, isSound}
 use Rattle.laws.proofs.Tests.{clash, both, and}
 use Rattle.laws.proofs.Order.{bottom}
@@ -40,8 +40,8 @@ use Rattle.param.proofs.Calls.{struct-sound, same-test}
 -- ---- restored, or not
 
 nothing-sound : Sound nothingMade
-unfolding made madeAs makingRows lowest areBounds allFinite isFinite Ieee.le Ieee.lt Ieee.eq
-nothing-sound = made-sound (record { min = plusZero; default = plusZero; max = plusZero }) Rate.A
+unfolding made madeAs makingRows lowest areBounds isEdition editionOf allFinite isFinite Ieee.le Ieee.lt Ieee.eq
+nothing-sound = made-sound (record { min = plusZero; default = plusZero; max = plusZero }) Rate.A 1
 
 pub restores-whole : {parts : AudioParam} {r : Outcome} → isWhole parts ≡ true
     → r ≡ record { verdict = Verdict.Answered; param = structOf (paramOf parts) } → Restores parts r
@@ -192,7 +192,7 @@ module _ (parts : AudioParam) (few : parts .timeline .len ≤ mostEvents) {t : T
       (and-assoc (isSoundQueue (waiting (parts .timeline))) _ _)
 
   pub restores-all : {r : Outcome} → (t .sound && (bounds && (last && block))) ≡ true
-      → r ≡ record { verdict = Verdict.Answered; param = partsOf (parts .bounds) (parts .rate) (parts .intrinsic) (t .queue) (parts .block) (parts .end) (parts .last) } → Restores parts r
+      → r ≡ record { verdict = Verdict.Answered; param = partsOf (parts .bounds) (parts .rate) (parts .edition) (parts .intrinsic) (t .queue) (parts .block) (parts .end) (parts .last) } → Restores parts r
   restores-all h e = restores-whole (sym whole-is ∙ h) (e ∙ rw (k .queue (both (t .sound) _ h .0)))
 
   pub restores-none : {r : Outcome} → (t .sound && (bounds && (last && block))) ≡ false → r ≡ unmade → Restores parts r

@@ -1,11 +1,14 @@
 -- What a block's events leave, and what the whole block answers by that. Assumes nothing.
 use mathlib.Core.Path.{_≡_, refl, sym, ap, _∙_}
 use mathlib.Core.Bool.{Bool, true, false}
-use mathlib.Core.List.{List, [], _∷_}
+use mathlib.Core.List.{List, [], _∷_, _++_}
 use Prim.Native.Nat.{ℕ, _≤_}
 use native.Mathlib.Omega.{arith}
+use native.Mathlib.Nat.{le-trans}
 use lib.ListN.{length, take, drop, set, replicate, length-drop}
+use lib.Seq.{length-take-le, take-append-le, drop-at}
 use lib.Ieee.{Float}
+use Rattle.rules.specs.declared.Bounds.{Bounds}
 use Rattle.rules.specs.declared.AutomationRate.{AutomationRate}
 use Rattle.rules.specs.declared.AutomationRate.the-variants as Rate
 use Rattle.rules.specs.declared.BlockInfos.{BlockInfos}
@@ -16,14 +19,14 @@ use Rattle.rules.specs.declared.MaybeTime.the-variants as MaybeTime
 use Rattle.rules.specs.declared.Refusal.{Refusal}
 use Rattle.rules.specs.declared.Verdict.{Verdict}
 use Rattle.rules.specs.declared.Verdict.the-variants as Verdict
-use Rattle.rules.specs.Numbers.{mostCount, mostEvents, storeLength, plusZero}
+use Rattle.rules.specs.Numbers.{ceilingOf, mostEvents, storeLength, plusZero}
 use Rattle.rules.specs.Queue.{Waiting, headOf, eventsOf, lengthsOf, attached}
 use Rattle.rules.specs.Walk as Rules
 use Rattle.rules.specs.Block.{Call, Answer, infosOf, restsFor, walkFrom, valuesBefore, renderedAs, rendered, saysOne, outputOf, answerOf, verdictOf, answered}
 use Rattle.laws.proofs.Places.{FilledSoFar, walk-fills}
 use Rattle.laws.proofs.Events.{events-attached, events-drop}
 use Rattle.laws.proofs.Kept.{answered-sound}
-use Rattle.laws.proofs.Rows.{Played as Given}
+use Rattle.laws.proofs.Rows.{Played as Given, ceiling-most}
 use Rattle.laws.proofs.Answers.{given, answer-is, refused-block}
 use Rattle.timeline.specs.declared.AudioParamEventTimeline.{AudioParamEventTimeline}
 use Rattle.timeline.specs.Timeline.{Neat, made, waiting, firstOf, headAs}
@@ -111,6 +114,14 @@ pub walk-given : (p : AudioParam) (f : BlockInfos) (part : List Float) {b c : Li
     → Walks f (walkFrom (p .intrinsic) (p .last) (valuesBefore (f .rate) (p .intrinsic)) 0) (paramOf p .queue) part b done c → FilledFor f (take (done .walk .filled) c)
 walk-given p f part w = rw (ap (λ (x : Rules.Walk). x .values) (w .walk)) (walk-fills f _ _ (before-few (f .count) (f .rate) (p .intrinsic)))
 
+-- its values stand in the output, in front of what was behind the block
+pub values-stand : (n : ℕ) (c rest : List Float) → n ≤ length c → take (length (take n c)) (c ++ rest) ≡ take n c
+values-stand n c rest h = rw (length-take-le n c h) (take-append-le n c rest h)
+
+pub behind-same : (b : Bounds) (f : BlockInfos) (input vs c output : List Float) → length c ≡ f .count → written b f input vs (c ++ drop (f .count) output) ≡ written b f input vs output
+unfolding written
+behind-same b f input vs c output h = rw (drop-at c (drop (f .count) output) (f .count) h)
+
 -- ---- the block
 
 module _ (p : AudioParam) (store : List Float) (c : Call) (s : SoundParam p) where
@@ -140,11 +151,11 @@ module _ (p : AudioParam) (store : List Float) (c : Call) (s : SoundParam p) whe
     fine : verdictOf (paramOf p) store c ≡ Verdict.Answered
     fine = sym e ∙ h
 
-    asked-for : Given mostCount (p .block) store (c .time) (c .period) (c .count) (c .input) (c .output)
+    asked-for : Given (ceilingOf (p .edition)) (p .block) store (c .time) (c .period) (c .count) (c .input) (c .output)
     asked-for = given (paramOf p) store c fine
 
-    pub few : c .count ≤ mostCount
-    few = asked-for .few
+    pub few : c .count ≤ 1024
+    few = le-trans (asked-for .few) (ceiling-most (p .edition))
 
     module _ {f : BlockInfos} (is : f ≡ infosOf (p .rate) c) where
       pub playable : Playable p f (c .input) (c .output) store

@@ -10,6 +10,7 @@ use lib.Ieee.{Float}
 use borrow.Author.Tests.{le-leb}
 use Rattle.rules.specs.declared.Bounds.{Bounds}
 use Rattle.rules.specs.declared.AutomationRate.{AutomationRate}
+use Rattle.rules.specs.declared.Edition.{Edition}
 use Rattle.rules.specs.declared.Refusal.{Refusal}
 use Rattle.rules.specs.declared.Verdict.the-variants as Verdict
 use Rattle.rules.specs.declared.Event.{Event}
@@ -32,7 +33,7 @@ use Rattle.param.proofs.Calls.{whole, struct-back}
 same : {a b : Outcome} → a .verdict ≡ b .verdict → a .param ≡ b .param → a ≡ b
 same {a} {b} v p = rw (v, p)
 
-pub makes-settled : {b : Bounds} {rate : AutomationRate} {r s : Outcome} → Makes b rate r → Makes b rate s → r ≡ s
+pub makes-settled : {b : Bounds} {rate : AutomationRate} {edition : ℕ} {r s : Outcome} → Makes b rate edition r → Makes b rate edition s → r ≡ s
 makes-settled m n = same (m .verdict ∙ sym (n .verdict)) (m .param ∙ sym (n .param))
 
 pub answers-settled : {p : AudioParam} {store left other : List Float} {c : Command} {r s : Outcome} → Answers p store c r left → Answers p store c s other
@@ -49,10 +50,10 @@ restores-own {p} s a =
     let h : isWhole p ≡ true = and (le-leb (p .timeline .len) mostEvents (s .neat .few)) (passes-test (paramOf p) (s .sound)) in
     a .gives ∙ rw h (ap (λ (x : AudioParam). record { verdict = Verdict.Answered; param = x }) (sym (whole p s)))
 
--- what parts are refused with is what refusal 1 returns
-pub unmade-is : (why : Refusal) (b : Bounds) (rate : AutomationRate) → madeAs (Verdict.Refused why) b rate ≡ nothingMade
+-- what parts are refused with is what refusal 1 returns, and 12
+pub unmade-is : (why : Refusal) (b : Bounds) (rate : AutomationRate) (e : Edition) → madeAs (Verdict.Refused why) b rate e ≡ nothingMade
 unfolding madeAs
-unmade-is why b rate = refl
+unmade-is why b rate e = refl
 
 -- ---- "Any other refusal returns the parameter unchanged .. and touches neither output nor curve store."
 

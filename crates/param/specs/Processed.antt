@@ -11,7 +11,7 @@ use Rattle.rules.specs.declared.Head.the-variants as Head
 use Rattle.rules.specs.declared.MaybeTime.the-variants as MaybeTime
 use Rattle.rules.specs.declared.Verdict.{Verdict}
 use Rattle.rules.specs.declared.Verdict.the-variants as Verdict
-use Rattle.rules.specs.Numbers.{plusZero, mostCount}
+use Rattle.rules.specs.Numbers.{plusZero, ceilingOf}
 use Rattle.rules.specs.Queue.{lengthOf, lengthsOf, attached}
 use Rattle.rules.specs.Mix.{mixed}
 use Rattle.rules.specs.Walk.{Walked}
@@ -41,7 +41,7 @@ abbrev pub afterwards : AudioParam → BlockInfos → AudioParamEventTimeline �
 afterwards p f q l =
     record {
       verdict = Verdict.Answered;
-      param = partsOf (p .bounds) (p .rate) (l .intrinsic) q (MaybeTime.At (f .time)) (MaybeTime.At (f .next)) (l .last);
+      param = partsOf (p .bounds) (p .rate) (p .edition) (l .intrinsic) q (MaybeTime.At (f .time)) (MaybeTime.At (f .next)) (l .last);
       steps = l .steps;
       current = mixed (p .bounds) plusZero (p .intrinsic);
       one = l .one;
@@ -53,7 +53,7 @@ afterwards p f q l =
 pub record Playable (p : AudioParam) (f : BlockInfos) (input output part : List Float) : Type 0 where
   pub param : SoundParam p
   pub fits : Fitting f input output
-  pub few : f .count ≤ mostCount
+  pub few : f .count ≤ ceilingOf (p .edition)
   pub room : lengthsOf (paramOf p .queue) ≤ length part
 
 -- one-valued or not

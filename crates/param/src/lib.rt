@@ -4,12 +4,12 @@ ghost use mathlib.Core.Bool.{cond};
 ghost use mathlib.Core.List.{[]};
 ghost use lib.Dec.{leb};
 ghost use lib.ListN.{length, take, drop};
-ghost use Rattle.rules.specs.Numbers.{mostEvents};
 ghost use Rattle.rules.specs.Queue.{lengthsOf, anyCovers, isBy, hasStarted, losesHead, losesCurve, returned, targetEvent};
 ghost use Rattle.rules.specs.Refusals.{isCrossed};
-ghost use Rattle.rules.specs.Block.{fresh, scheduledAs, set, step, linear, exponential, target, curve, cancel, hold};
+ghost use Rattle.rules.specs.Numbers.{mostEvents, ceilingOf};
+ghost use Rattle.rules.specs.Block.{fresh, editionOf, scheduledAs, set, step, linear, exponential, target, curve, cancel, hold};
 ghost use Rattle.timeline.specs.Timeline.{made, firstOf};
-ghost use Rattle.param.specs.Param.{paramOf, structOf, outcomeOf, SoundParam, HasRoom, unmade, answeredWith, Makes, Answers, partsOf, Restores};
+ghost use Rattle.param.specs.Param.{paramOf, structOf, outcomeOf, SoundParam, HasRoom, unmadeBy, answeredWith, Makes, Answers, partsOf, Restores};
 use floats::is_zero64;
 use floats::taken_time;
 use refusals::sound::are_block_times;
@@ -17,6 +17,7 @@ use refusals::sound::has_played;
 use refusals::sound::is_last_clear;
 use rules::AutomationRate;
 use rules::Bounds;
+use rules::Edition;
 use rules::Event;
 use rules::Head;
 use rules::LastEvent;
@@ -35,6 +36,7 @@ mod process; // process.rt: the block
 pub struct AudioParam {
     bounds: Bounds,
     rate: AutomationRate,
+    edition: Edition,
     intrinsic: f32,
     timeline: AudioParamEventTimeline,
     // the time of the last answered block, and its end
@@ -57,6 +59,27 @@ pub struct Processed {
     pub steps: usize,
     pub current: f32,
     pub one: bool,
+}
+
+// The edition of a number that is one's.
+pub fn edition_of(number: u64) -> Edition
+    ensures { λ r. ⌜ r ≡ editionOf number ⌝ }
+{
+    if number == 2 {
+        Edition::Second
+    } else {
+        Edition::First
+    }
+}
+
+// How many samples a block can have under an edition.
+fn ceiling_of(edition: Edition) -> usize
+    ensures { λ r. ⌜ r ≡ ceilingOf edition ⌝ }
+{
+    match edition {
+        Edition::First => AudioParam::COUNT,
+        Edition::Second => AudioParam::LONG_COUNT,
+    }
 }
 
 // A target with time constant 0 is a step.
@@ -137,16 +160,19 @@ impl AudioParam {
     pub const EVENTS: usize = timeline::EVENTS;
     // How many numbers all waiting curves can have, and the curve store does.
     pub const STORE: usize = 4096;
-    // How many samples a block can have.
+    // How many samples a block can have under the first edition, and under the second.
     pub const COUNT: usize = 128;
 
+    pub const LONG_COUNT: usize = 1024;
+
     // A parameter for which nothing waits, and no block is answered.
-    fn fresh(bounds: Bounds, rate: AutomationRate) -> AudioParam
-        ensures { λ r. ⌜ r ≡ structOf (fresh bounds rate) ⌝ }
+    fn fresh(bounds: Bounds, rate: AutomationRate, edition: Edition) -> AudioParam
+        ensures { λ r. ⌜ r ≡ structOf (fresh bounds rate edition) ⌝ }
     {
         AudioParam {
             bounds,
             rate,
+            edition,
             intrinsic: bounds.default,
             timeline: AudioParamEventTimeline::new(),
             block: MaybeTime::Missing,
@@ -155,32 +181,39 @@ impl AudioParam {
         }
     }
 
+    // Under the first edition.
     pub fn new(bounds: Bounds, rate: AutomationRate) -> Outcome
-        ensures { λ r. ⌜ Makes bounds rate r ⌝ }
+        ensures { λ r. ⌜ Makes bounds rate 1 r ⌝ }
     {
-        if refusals::are_bounds(bounds) {
-            let param = AudioParam::fresh(bounds, rate);
-            Outcome {
-                verdict: Verdict::Answered,
-                param,
+        AudioParam::with_edition(bounds, rate, 1)
+    }
+
+    // Under the edition of that number.
+    pub fn with_edition(bounds: Bounds, rate: AutomationRate, edition: u64) -> Outcome
+        ensures { λ r. ⌜ Makes bounds rate edition r ⌝ }
+    {
+        let verdict = refusals::making(bounds, edition);
+        match verdict {
+            Verdict::Answered => {
+                let param = AudioParam::fresh(bounds, rate, edition_of(edition));
+                Outcome { verdict, param }
             }
-        } else {
-            AudioParam::refused()
+            Verdict::Refused(why) => AudioParam::refused(why),
         }
     }
 
-    // What refusal 1 gives back: an empty A-rate parameter with all numbers 0.
-    fn refused() -> Outcome
-        ensures { λ r. ⌜ r ≡ unmade ⌝ }
+    // What a refused make gives back: an empty A-rate parameter of the first edition with all numbers 0.
+    fn refused(why: Refusal) -> Outcome
+        ensures { λ r. ⌜ r ≡ unmadeBy why ⌝ }
     {
         let zero = Bounds {
             min: 0.0,
             default: 0.0,
             max: 0.0,
         };
-        let param = AudioParam::fresh(zero, AutomationRate::A);
+        let param = AudioParam::fresh(zero, AutomationRate::A, Edition::First);
         Outcome {
-            verdict: Verdict::Refused(Refusal::Bounds),
+            verdict: Verdict::Refused(why),
             param,
         }
     }
@@ -195,6 +228,12 @@ impl AudioParam {
         ensures { λ r. ⌜ r ≡ paramOf self .rate ⌝ }
     {
         self.rate
+    }
+
+    pub fn edition(self) -> Edition
+        ensures { λ r. ⌜ r ≡ paramOf self .edition ⌝ }
+    {
+        self.edition
     }
 
     pub fn intrinsic_value(self) -> f32
@@ -446,16 +485,17 @@ impl AudioParam {
     pub fn from_parts(
         bounds: Bounds,
         rate: AutomationRate,
+        edition: Edition,
         intrinsic: f32,
         timeline: AudioParamEventTimeline,
         block: MaybeTime,
         end: MaybeTime,
         last: LastEvent,
     ) -> Outcome
-        ensures { λ r. ⌜ Restores (partsOf bounds rate intrinsic timeline block end last) r ⌝ }
+        ensures { λ r. ⌜ Restores (partsOf bounds rate edition intrinsic timeline block end last) r ⌝ }
     {
         if AudioParam::EVENTS < timeline.len {
-            return AudioParam::refused();
+            return AudioParam::refused(Refusal::Bounds);
         }
         let taken = taking::take(timeline, has_played(block));
         let sound = taken.sound;
@@ -465,6 +505,7 @@ impl AudioParam {
             let param = AudioParam {
                 bounds,
                 rate,
+                edition,
                 intrinsic,
                 timeline,
                 block,
@@ -476,7 +517,7 @@ impl AudioParam {
                 param,
             }
         } else {
-            AudioParam::refused()
+            AudioParam::refused(Refusal::Bounds)
         }
     }
 }

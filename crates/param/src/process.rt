@@ -13,6 +13,7 @@ ghost use Rattle.param.specs.Param.{paramOf, SoundParam};
 ghost use Rattle.param.specs.Processed.{lengthOfHead, unplayed, afterwards, Playable, Plays, Gives, Processes};
 use crate::AudioParam;
 use crate::Processed;
+use crate::ceiling_of;
 use rules::BlockInfos;
 use rules::Head;
 use rules::LastEvent;
@@ -78,10 +79,12 @@ impl AudioParam {
     {
         let bounds = self.bounds;
         let rate = self.rate;
+        let edition = self.edition;
         let last = played.last;
         let param = AudioParam {
             bounds,
             rate,
+            edition,
             intrinsic: played.intrinsic,
             timeline,
             block: MaybeTime::At(infos.time),
@@ -139,18 +142,17 @@ impl AudioParam {
         }
     }
 
-    // A block into which heads reach: they are taken in turn.
+    // A block into which heads reach: they are taken in turn, and leave their values in the output, to be mixed there.
     fn walk(self, infos: BlockInfos, input: &[f32], output: &mut [f32], part: &[f32]) -> Played
         requires { ⌜ Playable self infos (now input) (now output) (now part) ⌝ }
         ensures { λ r. ⌜ Plays self infos false (now (input .entry)) (now (output .entry)) (now (part .entry)) r (now (output .exit)) ⌝ }
     {
         let q = self.timeline;
         let last = self.last;
-        let mut buffer = [0.0f32; AudioParam::COUNT];
-        let done = automation::compute_buffer(infos, self.intrinsic, last, &mut buffer, q, part);
+        let values = &mut output[..infos.count];
+        let done = automation::compute_buffer(infos, self.intrinsic, last, values, q, part);
         let walk = done.walk;
-        let filled = walk.filled;
-        block::mix_values(self.bounds, infos, &buffer[..filled], input, output);
+        block::mix_values(self.bounds, infos, input, output);
         let rate = self.rate;
         let last = walk.last;
         let head = done.head;
@@ -190,9 +192,10 @@ impl AudioParam {
         requires { ⌜ SoundParam self ⌝ }
         ensures { λ r. ⌜ Processes self (now (store .entry)) (asked «block_time» period count (now (input .entry)) (now (output .entry))) r (now (output .exit)) (now (store .exit)) ⌝ }
     {
+        let under = self.edition;
         let block = self.block;
         let verdict = refusals::block::verdict(
-            AudioParam::COUNT,
+            ceiling_of(under),
             block,
             block_time,
             period,

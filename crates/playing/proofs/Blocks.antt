@@ -36,7 +36,8 @@ pub same-verdict : {a b shared : List Waiting} {s t : State} → Beside a b shar
 unfolding verdictOf blockRows
 same-verdict {s} {t} h c =
     let b : s .param .lastBlock ≡ t .param .lastBlock = ap (λ (p : Param). p .lastBlock) (h .same) in
-    rw (h .sound-first .long, h .sound-second .long, b)
+    let e : s .param .edition ≡ t .param .edition = ap (λ (p : Param). p .edition) (h .same) in
+    rw (h .sound-first .long, h .sound-second .long, b, e)
 
 -- ---- one block
 

@@ -99,15 +99,15 @@ module _ (m : ℕ) (s t : State) (same : bare s ≡ bare t) (sound-first : Sound
 -- ---- of two schedules
 
 pub demand-3 : Demand3
-demand-3 b r one other long long' xs ys m agree all =
-    let s : State = scheduled (begun b r one) xs in
-    let t : State = scheduled (begun b r other) ys in
-    let first : Ready (withQueue [] (made b r)) s = begun-ready b r one long xs in
-    let second : Ready (withQueue [] (made b r)) t = begun-ready b r other long' ys in
+demand-3 b r n one other long long' xs ys m agree all =
+    let s : State = scheduled (begun b r n one) xs in
+    let t : State = scheduled (begun b r n other) ys in
+    let first : Ready (withQueue [] (made b r n)) s = begun-ready b r n one long xs in
+    let second : Ready (withQueue [] (made b r n)) t = begun-ready b r n other long' ys in
     demand-3-of-states m s t (first .same ∙ sym (second .same)) (first .sound) (second .sound) agree all
 
 -- the same after each of those blocks
 pub demand-3-each : Demand3Each
-demand-3-each b r one other long long' xs ys m agree all k =
-    let s : State = scheduled (begun b r one) xs in
-    rw (each-block (behind m s) s all k) at (demand-3 b r one other long long' xs ys m agree (take k (whileTwoWait (behind m s) s all)))
+demand-3-each b r n one other long long' xs ys m agree all k =
+    let s : State = scheduled (begun b r n one) xs in
+    rw (each-block (behind m s) s all k) at (demand-3 b r n one other long long' xs ys m agree (take k (whileTwoWait (behind m s) s all)))

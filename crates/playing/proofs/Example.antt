@@ -19,7 +19,7 @@ use Rattle.playing.proofs.Demand.{demand-3}
 
 -- a parameter just made with a store that holds x everywhere, then these calls
 abbrev pub start : Float → List Command → State
-start x cs = scheduled (begun (bounds minus10 n0 n10) Rate.A (replicate storeLength x)) cs
+start x cs = scheduled (begun (bounds minus10 n0 n10) Rate.A 1 (replicate storeLength x)) cs
 
 -- two places from t on, with silence
 abbrev block : Float → Call
@@ -71,7 +71,7 @@ example : PlayedTheSame 3 first second blocks (take 2 blocks)
 example =
     rw
     two-blocks
-    at (demand-3 (bounds minus10 n0 n10) Rate.A _ _ (length-replicate storeLength n9) (length-replicate storeLength nan) _ _ 3 agree blocks)
+    at (demand-3 (bounds minus10 n0 n10) Rate.A 1 _ _ (length-replicate storeLength n9) (length-replicate storeLength nan) _ _ 3 agree blocks)
 
 -- ---- with one it fails: a target looks at the event behind it
 

@@ -23,7 +23,7 @@ use Rattle.laws.specs.Fits.{AllFit}
 use Rattle.laws.specs.Sound.{Sound}
 use Rattle.laws.specs.Apart.{areApart}
 use Rattle.laws.proofs.Store.{fit-inserted, fit-cancelled, fit-held, numbers-length, packed-length}
-use Rattle.laws.proofs.Kept.{made-sound, called-sound, called-apart}
+use Rattle.laws.proofs.Kept.{made-fresh, made-sound, called-sound, called-apart}
 use Rattle.playing.specs.Play.{State, waiting, begun, asked, leftByCall, afterCall, scheduled, acceptedIf, accepted, AllAccepted}
 use Rattle.playing.proofs.States.{bare, SoundState, waiting-fit}
 
@@ -109,22 +109,17 @@ unfolding scheduled
 schedule-ready p none [] s r = r
 schedule-ready p none (c ∷ cs) s r = schedule-ready p none cs (afterCall s c) (call-ready p s none r c)
 
-no-last : (v : Verdict) (b : Bounds) (r : AutomationRate) → madeAs v b r .last ≡ LastEvent.None
-unfolding madeAs
-no-last Verdict.Answered b r = refl
-no-last (Verdict.Refused why) b r = refl
-
 -- from a parameter just made and a store of 4,096 numbers, whatever they are
-pub begun-ready : (b : Bounds) (r : AutomationRate) (store : List Float) → length store ≡ storeLength → (cs : List Command)
-    → Ready (withQueue [] (made b r)) (scheduled (begun b r store) cs)
-unfolding begun made
-begun-ready b r store long cs =
+pub begun-ready : (b : Bounds) (r : AutomationRate) (n : ℕ) (store : List Float) → length store ≡ storeLength → (cs : List Command)
+    → Ready (withQueue [] (made b r n)) (scheduled (begun b r n store) cs)
+unfolding begun
+begun-ready b r n store long cs =
     schedule-ready
-    (withQueue [] (made b r))
-    (no-last (lowest (makingRows b)) b r)
+    (withQueue [] (made b r n))
+    (ap (λ (p : Param). p .last) (made-fresh b r n))
     cs
-    (begun b r store)
-    record { same = refl; sound = record { sound = made-sound b r; long = long } }
+    (begun b r n store)
+    record { same = refl; sound = record { sound = made-sound b r n; long = long } }
 
 -- ---- before the first block no event lies inside a curve (02, C-14)
 
@@ -133,14 +128,10 @@ unfolding scheduled afterCall asked
 apart-scheduled [] s h a = a
 apart-scheduled (c ∷ cs) s h a = unfold scheduled afterCall asked in apart-scheduled cs (afterCall s c) (called-sound (s .param) (s .store) h c) (called-apart (s .param) (s .store) h c a)
 
-none-made : (v : Verdict) (b : Bounds) (r : AutomationRate) → areApart (madeAs v b r .queue) ≡ true
-unfolding madeAs areApart
-none-made Verdict.Answered b r = refl
-none-made (Verdict.Refused why) b r = refl
-
-pub nothing-inside : (b : Bounds) (r : AutomationRate) (store : List Float) (cs : List Command) → areApart (scheduled (begun b r store) cs .param .queue) ≡ true
-unfolding begun made
-nothing-inside b r store cs = apart-scheduled cs (begun b r store) (made-sound b r) (none-made (lowest (makingRows b)) b r)
+pub nothing-inside : (b : Bounds) (r : AutomationRate) (n : ℕ) (store : List Float) (cs : List Command) → areApart (scheduled (begun b r n store) cs .param .queue) ≡ true
+unfolding begun
+nothing-inside b r n store cs =
+    apart-scheduled cs (begun b r n store) (made-sound b r n) (ap (λ (p : Param). areApart (p .queue)) (made-fresh b r n) ∙ (unfold areApart in refl))
 
 -- ---- a refused call changes nothing, so any calls are a schedule of those that are accepted
 

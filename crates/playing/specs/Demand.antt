@@ -81,11 +81,12 @@ pub record PlayedTheSame (m : ℕ) (s t : State) (all cs : List Call) : Type 0 w
 -- "two complete schedules for one parameter, accepted before the first block, whose first m events in playing order agree, curves included; .. each store lent again
 -- as the call before left it". A refused call changes nothing, so any calls are a schedule of those that are accepted (`accepted-alone`): "both
 -- schedules are now ones accepted under this rule" (02, C-14), since 11 is among the refusals. The stores first lent hold 4,096 numbers each, whatever these are.
+-- "Demand 3 compares two schedules under one edition" (02, C-19): n is its number.
 abbrev pub TwoSchedules : (ℕ → State → State → Type 0) → Type 0
 TwoSchedules Claim =
-    (b : Bounds) (r : AutomationRate) (one other : List Float) → length one ≡ storeLength → length other ≡ storeLength → (xs ys : List Command) (m : ℕ)
-    → take m (waiting (scheduled (begun b r one) xs)) ≡ take m (waiting (scheduled (begun b r other) ys))
-    → Claim m (scheduled (begun b r one) xs) (scheduled (begun b r other) ys)
+    (b : Bounds) (r : AutomationRate) (n : ℕ) (one other : List Float) → length one ≡ storeLength → length other ≡ storeLength → (xs ys : List Command) (m : ℕ)
+    → take m (waiting (scheduled (begun b r n one) xs)) ≡ take m (waiting (scheduled (begun b r n other) ys))
+    → Claim m (scheduled (begun b r n one) xs) (scheduled (begun b r n other) ys)
 
 abbrev pub Demand3 : Type 0
 Demand3 = TwoSchedules (λ m s t. (all : List Call) → PlayedTheSame m s t all (whileTwoWait (behind m s) s all))

@@ -2,6 +2,7 @@
 use mathlib.Core.Path.{_≡_}
 use mathlib.Core.Bool.{Bool, true, false, _||_}
 use mathlib.Core.List.{List, [], _∷_}
+use Prim.Native.Nat.{ℕ}
 use lib.Ieee.{Float}
 use Rattle.rules.specs.declared.Bounds.{Bounds}
 use Rattle.rules.specs.declared.AutomationRate.{AutomationRate}
@@ -29,9 +30,9 @@ tidied s = loaded (s .param) (waiting s)
 
 -- ---- scheduling and cancelling, before the first block or between blocks
 
--- a parameter just made, and a store of which nothing is said
-unfoldable pub begun : Bounds → AutomationRate → List Float → State
-begun b r store = record { param = made b r; store = store }
+-- a parameter just made, n the number of its edition, and a store of which nothing is said
+unfoldable pub begun : Bounds → AutomationRate → ℕ → List Float → State
+begun b r n store = record { param = made b r n; store = store }
 
 unfoldable pub asked : State → Command → Called
 asked s c = called (s .param) (s .store) c

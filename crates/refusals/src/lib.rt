@@ -8,7 +8,7 @@ ghost use lib.ListN.{length};
 ghost use lib.Ieee.{Float};
 ghost use Rattle.rules.specs.Numbers.{mostEvents, storeLength, takenTime};
 ghost use Rattle.rules.specs.Queue.{lengthsOf, anyCovers};
-ghost use Rattle.rules.specs.Refusals.{numberOf, lowest, allFinite, areBounds, isCrossed, makingRows, valueRows, exponentialRows, targetRows, curveRows, cancelRows};
+ghost use Rattle.rules.specs.Refusals.{numberOf, lowest, allFinite, areBounds, isEdition, isCrossed, makingRows, valueRows, exponentialRows, targetRows, curveRows, cancelRows};
 ghost use Rattle.refusals.specs.Rows.{withRow};
 use floats::is_finite32;
 use floats::is_finite64;
@@ -38,6 +38,7 @@ pub fn number_of(r: Refusal) -> u8
         Refusal::BadBlock => 9,
         Refusal::OutOfOrder => 10,
         Refusal::Inside => 11,
+        Refusal::UnknownEdition => 12,
         Refusal::BadStore => 14,
     }
 }
@@ -77,6 +78,22 @@ pub fn are_bounds(b: Bounds) -> bool
 {
     let finite = is_finite32(b.min) & (is_finite32(b.default) & is_finite32(b.max));
     finite & ((b.min <= b.default) & (b.default <= b.max))
+}
+
+// Whether a number is one of the two editions'.
+pub fn is_edition(number: u64) -> bool
+    ensures { λ r. ⌜ r ≡ isEdition number ⌝ }
+{
+    (number == 1) | (number == 2)
+}
+
+// Of making a parameter, under the edition of that number.
+pub fn making(b: Bounds, edition: u64) -> Verdict
+    ensures { λ r. ⌜ r ≡ lowest (makingRows b edition) ⌝ }
+{
+    let v = Verdict::Answered;
+    let v = row(v, Refusal::Bounds, !are_bounds(b));
+    row(v, Refusal::UnknownEdition, !is_edition(edition))
 }
 
 // Of a step or a linear ramp; `inside` says whether its time lies inside a waiting curve, `full` whether as many events wait as can.

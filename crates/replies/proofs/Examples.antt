@@ -22,5 +22,6 @@ pub examples :
     × means "refused 3" "refused 3: a scheduled or cancel time is below 0"
     × means "refused 9 clean" "refused 9 clean: block time, period or count out of range, or output or input of a wrong length"
     × means "refused 11" "refused 11: inside a waiting curve, or with a waiting event inside"
+    × means "refused 12" "refused 12: the edition is neither 1 nor 2"
 unfolding isMark parts shownOr plainField plainFields table meaningIn meaningOf reason reply plainText textOf shownText placesText signText shown shownAs millionths wordsOf joined sameWord taken beside countIn upTo floatIn floatOf floatText bitsIn numberIn numberFrom areDigits valueFrom digitOf digitsOf glyphOf decimalOf placesOf round ofBits toBits
-examples = (refl, refl, refl, refl, refl, refl, refl, refl)
+examples = (refl, refl, refl, refl, refl, refl, refl, refl, refl)

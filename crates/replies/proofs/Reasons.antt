@@ -38,7 +38,7 @@ module _ (s : List ℕ) (end : ℕ) (e : end ≡ endOf s 0) where
 
 -- ---- the table by its numbers
 
-pub no-meaning : (n : ℕ) → (n ≡ 1 → ⊥) → (n ≡ 2 → ⊥) → (n ≡ 3 → ⊥) → (n ≡ 4 → ⊥) → (n ≡ 5 → ⊥) → (n ≡ 6 → ⊥) → (n ≡ 7 → ⊥) → (n ≡ 8 → ⊥) → (n ≡ 9 → ⊥) → (n ≡ 10 → ⊥) → (n ≡ 11 → ⊥) → (n ≡ 14 → ⊥) → meaningIn table n ≡ []
+pub no-meaning : (n : ℕ) → (n ≡ 1 → ⊥) → (n ≡ 2 → ⊥) → (n ≡ 3 → ⊥) → (n ≡ 4 → ⊥) → (n ≡ 5 → ⊥) → (n ≡ 6 → ⊥) → (n ≡ 7 → ⊥) → (n ≡ 8 → ⊥) → (n ≡ 9 → ⊥) → (n ≡ 10 → ⊥) → (n ≡ 11 → ⊥) → (n ≡ 12 → ⊥) → (n ≡ 14 → ⊥) → meaningIn table n ≡ []
 unfolding table meaningIn
-no-meaning n a b c d e f g h i j k l =
-    rw (ne-eqb n 1 a, ne-eqb n 2 b, ne-eqb n 3 c, ne-eqb n 4 d, ne-eqb n 5 e, ne-eqb n 6 f, ne-eqb n 7 g, ne-eqb n 8 h, ne-eqb n 9 i, ne-eqb n 10 j, ne-eqb n 11 k, ne-eqb n 14 l)
+no-meaning n a b c d e f g h i j k l m =
+    rw (ne-eqb n 1 a, ne-eqb n 2 b, ne-eqb n 3 c, ne-eqb n 4 d, ne-eqb n 5 e, ne-eqb n 6 f, ne-eqb n 7 g, ne-eqb n 8 h, ne-eqb n 9 i, ne-eqb n 10 j, ne-eqb n 11 k, ne-eqb n 12 l, ne-eqb n 14 m)

@@ -59,6 +59,7 @@ table =
     ∷ row 9 (codes ": block time, period or count out of range, or output or input of a wrong length")
     ∷ row 10 (codes ": block time below that of the last answered block")
     ∷ row 11 (codes ": inside a waiting curve, or with a waiting event inside")
+    ∷ row 12 (codes ": the edition is neither 1 nor 2")
     ∷ row 14 (codes ": the curve store lent is not 4096 numbers long") ∷ []
 
 unfoldable pub meaningIn : List Row → ℕ → List ℕ

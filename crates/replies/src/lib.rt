@@ -120,6 +120,7 @@ pub fn put_meaning(out: &mut [u8], at: usize, number: u64) -> usize
             at,
             b": inside a waiting curve, or with a waiting event inside",
         ),
+        12 => put_word(out, at, b": the edition is neither 1 nor 2"),
         14 => put_word(out, at, b": the curve store lent is not 4096 numbers long"),
         _ => at,
     }

@@ -1,7 +1,7 @@
 -- A second table beside the bench sheet, which has no target, no true exponential, no second hold and no walk at K-rate. What is expected does not come from the
 -- definitions: C1 to C26 are from a program written from document 01 alone, C27 to C49 from an interpreter of 01 in exact fractions by the second reader, who had read
--- the definitions, C50 to C52, C54 to C58, C61 to C66, C68 to C74, C78 and what 02 changes of C25 and C65 from a program written from 01 and 02 (cases-02), C53, C59,
--- C60, C67, C75 to C77 and what 02 changes of C39, C42 and C46 by hand; the oracle's reference interpreter gives the same. Under each case's name stand its calls in
+-- the definitions, C50 to C52, C54 to C58, C61 to C66, C68 to C74, C78, C79 and what 02 changes of C25 and C65 from a program written from 01 and 02 (cases-02), C53, C59,
+-- C60, C67, C75 to C77, C80 and what 02 changes of C39, C42 and C46 by hand; the oracle's reference interpreter gives the same. Under each case's name stand its calls in
 -- plain numbers.
 use mathlib.Core.Path.{_≡_, refl}
 use mathlib.Core.Bool.{true, false}
@@ -14,9 +14,10 @@ use Rattle.rules.specs.declared.MaybeTime.the-variants as MaybeTime
 use Rattle.rules.specs.declared.LastEvent.the-variants as LastEvent
 use Rattle.rules.specs.declared.Event.the-variants as Event
 use Rattle.rules.specs.declared.AutomationRate.the-variants as Rate
+use Rattle.rules.specs.declared.Edition.the-variants as Edition
 use Rattle.rules.specs.Queue.{alone}
 use Rattle.rules.specs.Block.{set, step, linear, exponential, target, curve, cancel, hold}
-use Rattle.rules.proofs.Table.{Act, make, ask, block, lend, look, Said, ok, refused, turned, output, state, Case, results, expected, bounds, done, n0, n1, n2, n3, n4, n5, n6, n7, n8, n9, n10, half, minus0, minus1, minus10, mark}
+use Rattle.rules.proofs.Table.{Act, make, makeUnder, ask, block, lend, look, kind, Said, ok, refused, turned, output, state, of, Case, results, expected, bounds, done, n0, n1, n2, n3, n4, n5, n6, n7, n8, n9, n10, half, minus0, minus1, minus10, mark}
 
 unfoldable pub cases : List Case
 cases =
@@ -2062,6 +2063,61 @@ cases =
           ∷ refused 11
           ∷ ok
           ∷ state (fin false 14799527 (negsuc 21)) (MaybeTime.At n0) (MaybeTime.At n4) (done n0 n1) [] true
+          ∷ [];
+    }
+    -- ---- 02, C-19: blocks of up to 1,024 under the second edition (C79 is cases-02's)
+    -- C79 1,024 places under the second edition, 128 under the first; an unknown edition is refused by 12, after 1, and leaves the empty parameter of the first edition, as 1 does
+    -- make -10 0 10 a 2; state; block 0 1 1025; make -10 0 10 k 1; block 0 1 129; make -10 0 10 a 3; state; make 1 0 10 a 3; make 1 0 10 k 2; state
+    ∷ record {
+      acts =
+          makeUnder (bounds minus10 n0 n10) Rate.A 2
+          ∷ look
+          ∷ kind
+          ∷ block n0 n1 1025 1025 []
+          ∷ makeUnder (bounds minus10 n0 n10) Rate.K 1
+          ∷ block n0 n1 129 129 []
+          ∷ makeUnder (bounds minus10 n0 n10) Rate.A 3
+          ∷ look
+          ∷ kind
+          ∷ makeUnder (bounds n1 n0 n10) Rate.A 3
+          ∷ makeUnder (bounds n1 n0 n10) Rate.K 2
+          ∷ look
+          ∷ kind
+          ∷ [];
+      said =
+          ok
+          ∷ state n0 MaybeTime.Missing MaybeTime.Missing LastEvent.None [] true
+          ∷ of (bounds minus10 n0 n10) Rate.A Edition.Second
+          ∷ turned 9 0 n0 false (replicate 1025 mark)
+          ∷ ok
+          ∷ turned 9 0 n0 false (replicate 129 mark)
+          ∷ refused 12
+          ∷ state n0 MaybeTime.Missing MaybeTime.Missing LastEvent.None [] true
+          ∷ of (bounds n0 n0 n0) Rate.A Edition.First
+          ∷ refused 1
+          ∷ refused 1
+          ∷ state n0 MaybeTime.Missing MaybeTime.Missing LastEvent.None [] true
+          ∷ of (bounds n0 n0 n0) Rate.A Edition.First
+          ∷ [];
+    }
+    -- C80 1,024 places are taken under the second edition, and a step behind the 128th is played in that block; the edition is kept
+    -- make -10 0 10 a 2; step 3 130; block 0 1 1024; state; block 1024 1 129
+    ∷ record {
+      acts =
+          makeUnder (bounds minus10 n0 n10) Rate.A 2
+          ∷ ask (step n3 (fin false 65 (pos 1)))
+          ∷ block n0 n1 1024 1024 []
+          ∷ look
+          ∷ kind
+          ∷ block (fin false 1 (pos 10)) n1 129 129 []
+          ∷ [];
+      said =
+          ok
+          ∷ ok
+          ∷ output 2 n0 false (replicate 130 n0 ++ replicate 894 n3)
+          ∷ state n3 (MaybeTime.At n0) (MaybeTime.At (fin false 1 (pos 10))) (done (fin false 65 (pos 1)) n3) [] true
+          ∷ of (bounds minus10 n0 n10) Rate.A Edition.Second
+          ∷ output 1 n3 true (replicate 129 n3)
           ∷ [];
     }
     ∷ []

@@ -1,7 +1,8 @@
 -- Document 01's calls, whole: the parameter, and what each call answers, refused or not.
-use mathlib.Core.Bool.{Bool, true, false, not, _&&_}
+use mathlib.Core.Bool.{Bool, true, false, cond, not, _&&_}
 use mathlib.Core.List.{List, [], _∷_, _++_}
 use Prim.Native.Nat.{ℕ, zero, suc}
+use lib.Dec.{eqb}
 use lib.ListN.{length, drop, replicate}
 use lib.Ieee as Ieee
 use lib.Ieee.{Float, binary64}
@@ -14,12 +15,14 @@ use Rattle.rules.specs.declared.Head.the-variants as Head
 use Rattle.rules.specs.declared.Bounds.{Bounds}
 use Rattle.rules.specs.declared.AutomationRate.{AutomationRate}
 use Rattle.rules.specs.declared.AutomationRate.the-variants as Rate
+use Rattle.rules.specs.declared.Edition.{Edition}
+use Rattle.rules.specs.declared.Edition.the-variants as Edition
 use Rattle.rules.specs.declared.LastEvent.{LastEvent}
 use Rattle.rules.specs.declared.LastEvent.the-variants as LastEvent
 use Rattle.rules.specs.declared.BlockInfos.{BlockInfos}
 use Rattle.rules.specs.declared.Verdict.{Verdict}
 use Rattle.rules.specs.declared.Verdict.the-variants as Verdict
-use Rattle.rules.specs.Numbers.{plusZero, mostCount, takenTime, wide, fused}
+use Rattle.rules.specs.Numbers.{plusZero, ceilingOf, takenTime, wide, fused}
 use Rattle.rules.specs.Queue.{Waiting, attached, packed, eventsOf, headOf, filedUnder, isRamp, inserted, arrived, cancelled, valueAfterCancel, held, valueAfterHold, targetEvent}
 use Rattle.rules.specs.Refusals.{lowest, makingRows, valueRows, exponentialRows, targetRows, curveRows, cancelRows, blockRows}
 use Rattle.rules.specs.Walk.{Walk, Walked, walked}
@@ -28,10 +31,12 @@ use Rattle.rules.specs.Mix.{mixed, mixedAll, spread, inputs}
 -- ---- the parameter
 
 -- "A parameter holds minimum, default, maximum, rate (A or K), the intrinsic value .., the waiting events in order, the time of the last answered block if any,
--- and the last finished event"; and "the last answered block's end, which the parameter now keeps" (02, C-12)
+-- and the last finished event"; "the last answered block's end, which the parameter now keeps" (02, C-12); and it "is made under one of the two editions and keeps it"
+-- (02, C-19)
 pub record Param : Type 0 where
   pub bounds : Bounds
   pub rate : AutomationRate
+  pub edition : Edition
   pub intrinsic : Float
   pub queue : List Event
   pub lastBlock : MaybeTime
@@ -39,11 +44,12 @@ pub record Param : Type 0 where
   pub last : LastEvent
 
 -- "the intrinsic value (at first the default)"
-abbrev pub fresh : Bounds → AutomationRate → Param
-fresh b r =
+abbrev pub fresh : Bounds → AutomationRate → Edition → Param
+fresh b r e =
     record {
       bounds = b;
       rate = r;
+      edition = e;
       intrinsic = b .default;
       queue = [];
       lastBlock = MaybeTime.Missing;
@@ -51,13 +57,18 @@ fresh b r =
       last = LastEvent.None;
     }
 
--- "Refusal 1 returns an empty A-rate parameter with all numbers 0."
-unfoldable pub madeAs : Verdict → Bounds → AutomationRate → Param
-madeAs Verdict.Answered b r = fresh b r
-madeAs (Verdict.Refused why) b r = fresh (record { min = plusZero; default = plusZero; max = plusZero }) Rate.A
+-- the edition of a number that is one's
+unfoldable pub editionOf : ℕ → Edition
+editionOf n = cond (eqb n 2) Edition.Second Edition.First
 
-unfoldable pub made : Bounds → AutomationRate → Param
-made b r = madeAs (lowest (makingRows b)) b r
+-- "Refusal 1 returns an empty A-rate parameter with all numbers 0"; 12 "the same empty parameter, of the first edition", and so 1 under either (reading 25 of 02)
+unfoldable pub madeAs : Verdict → Bounds → AutomationRate → Edition → Param
+madeAs Verdict.Answered b r e = fresh b r e
+madeAs (Verdict.Refused why) b r e = fresh (record { min = plusZero; default = plusZero; max = plusZero }) Rate.A Edition.First
+
+-- under the edition of the number n
+unfoldable pub made : Bounds → AutomationRate → ℕ → Param
+made b r n = madeAs (lowest (makingRows b n)) b r (editionOf n)
 
 -- a parameter as an answered call leaves it: these events wait, and this is the intrinsic value
 abbrev pub leftWith : List Event → Float → Param → Param
@@ -65,6 +76,7 @@ leftWith q v p =
     record {
       bounds = p .bounds;
       rate = p .rate;
+      edition = p .edition;
       intrinsic = v;
       queue = q;
       lastBlock = p .lastBlock;
@@ -214,6 +226,7 @@ answerOf p ws c done =
           record {
             bounds = p .bounds;
             rate = p .rate;
+            edition = p .edition;
             intrinsic = done .walk .intrinsic;
             queue = eventsOf (done .queue);
             lastBlock = MaybeTime.At (f .time);
@@ -248,7 +261,7 @@ answeredAs (Verdict.Refused r) p store c =
     }
 
 unfoldable pub verdictOf : Param → List Float → Call → Verdict
-verdictOf p store c = lowest (blockRows mostCount (p .lastBlock) store (c .time) (c .period) (c .count) (c .input) (c .output))
+verdictOf p store c = lowest (blockRows (ceilingOf (p .edition)) (p .lastBlock) store (c .time) (c .period) (c .count) (c .input) (c .output))
 
 unfoldable pub answered : Param → List Float → Call → Answer
 answered p store c = answeredAs (verdictOf p store c) p store c

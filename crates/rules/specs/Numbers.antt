@@ -11,6 +11,8 @@ use lib.Ieee.{Float, nan, inf, fin, Format, binary32, binary64}
 use Rattle.rules.specs.declared.BlockInfos.{BlockInfos}
 use Rattle.rules.specs.declared.AutomationRate.{AutomationRate}
 use Rattle.rules.specs.declared.AutomationRate.the-variants as Rate
+use Rattle.rules.specs.declared.Edition.{Edition}
+use Rattle.rules.specs.declared.Edition.the-variants as Edition
 
 -- ---- the ceilings
 
@@ -22,9 +24,11 @@ mostEvents = 64
 abbrev pub storeLength : ℕ
 storeLength = 4096
 
--- "block count 1 to 128": the ceiling. What is said over count takes it as a parameter; `Block.verdictOf` alone names it.
-abbrev pub mostCount : ℕ
-mostCount = 128
+-- "block count 1 to 128"; "Under the second, counts go from 1 to 1,024" (02, C-19). What is said over count takes the ceiling as a parameter; `Block.verdictOf` alone
+-- names an edition's.
+unfoldable pub ceilingOf : Edition → ℕ
+ceilingOf Edition.First = 128
+ceilingOf Edition.Second = 1024
 
 -- ---- floats
 

@@ -30,6 +30,7 @@ numberOf Refusal.StoreFull = 8
 numberOf Refusal.BadBlock = 9
 numberOf Refusal.OutOfOrder = 10
 numberOf Refusal.Inside = 11
+numberOf Refusal.UnknownEdition = 12
 numberOf Refusal.BadStore = 14
 
 -- the order in which they are given: that of their numbers, but 11 "after 6 and before 7 and 8" (02, C-14)
@@ -45,7 +46,8 @@ rankOf Refusal.QueueFull = 8
 rankOf Refusal.StoreFull = 9
 rankOf Refusal.BadBlock = 10
 rankOf Refusal.OutOfOrder = 11
-rankOf Refusal.BadStore = 12
+rankOf Refusal.UnknownEdition = 12
+rankOf Refusal.BadStore = 13
 
 -- one row of the table: a refusal, and whether it applies
 pub data Row : Type 0 where
@@ -93,8 +95,13 @@ storeRow store = row Refusal.BadStore (not (eqb (length store) storeLength))
 unfoldable pub areBounds : Bounds → Bool
 areBounds b = allFinite (b .min ∷ b .default ∷ b .max ∷ []) && (Ieee.le (b .min) (b .default) && Ieee.le (b .default) (b .max))
 
-unfoldable pub makingRows : Bounds → List Row
-makingRows b = row Refusal.Bounds (not (areBounds b)) ∷ []
+-- "made under one of the two editions", by its number
+unfoldable pub isEdition : ℕ → Bool
+isEdition n = eqb n 1 || eqb n 2
+
+-- 12: "an unknown edition gets 12, after 1" (02, C-19)
+unfoldable pub makingRows : Bounds → ℕ → List Row
+makingRows b n = row Refusal.Bounds (not (areBounds b)) ∷ row Refusal.UnknownEdition (not (isEdition n)) ∷ []
 
 -- a step or a linear ramp
 unfoldable pub valueRows : List Event → Float → Float → List Row
@@ -128,7 +135,7 @@ isTime t = isFinite t && not (isNegative t)
 unfoldable pub isPeriod : Float → Bool
 isPeriod t = isFinite t && isPositive t
 
--- "count not 1 to 128": 1 to the ceiling
+-- "count not 1 to 128": "9 uses the edition's ceiling" (02, C-19)
 unfoldable pub isCount : ℕ → ℕ → Bool
 isCount most n = leb 1 n && leb n most
 

@@ -48,6 +48,12 @@ pub enum AutomationRate {
     K,
 }
 
+// Which edition of the Web Audio API a parameter is made under: 1.0, or 1.1 with its longer blocks.
+pub enum Edition {
+    First,
+    Second,
+}
+
 // The range of a parameter's samples, and the value that it starts with.
 pub struct Bounds {
     pub min: f32,
@@ -89,6 +95,7 @@ pub enum Refusal {
     BadBlock,
     OutOfOrder,
     Inside,
+    UnknownEdition,
     BadStore,
 }
 

@@ -85,11 +85,11 @@ after-calls {c = c} a here there =
     (ap paramOf (a .param) ∙ struct-back _ ∙ ap₂ (λ (x : Param) (y : List Float). applied x y c .param) here there, a .left ∙ ap₂ (λ (x : Param) (y : List Float). applied x y c .store) here there)
 
 module _ {row : Row} {s s₁ s₂ s₃ : List Float} {m r₁ r₂ r₃ : Outcome} where
-  pub sets-up : Makes (row .bounds) (row .rate) m → Applies (m .param) s (row .first) r₁ s₁ → Applies (r₁ .param) s₁ (row .second) r₂ s₂
+  pub sets-up : Makes (row .bounds) (row .rate) 1 m → Applies (m .param) s (row .first) r₁ s₁ → Applies (r₁ .param) s₁ (row .second) r₂ s₂
       → Applies (r₂ .param) s₂ (row .third) r₃ s₃ → SetsUp row s (r₃ .param) s₃
   unfolding setUp
   sets-up as-made a b c =
-      let p₀ : paramOf (m .param) ≡ made (row .bounds) (row .rate) = ap paramOf (as-made .param) ∙ struct-back _ in
+      let p₀ : paramOf (m .param) ≡ made (row .bounds) (row .rate) 1 = ap paramOf (as-made .param) ∙ struct-back _ in
       let one = after-calls a p₀ refl in
       let two = after-calls b (one .0) (one .1) in
       let three = after-calls c (two .0) (two .1) in

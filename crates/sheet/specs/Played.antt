@@ -35,7 +35,7 @@ applied p s (Call.Cancel t) = called p s (cancel t)
 -- the parameter of a row after the calls before its first block, and the store
 unfoldable pub setUp : Row → List Float → Called
 setUp row s =
-    let a = applied (made (row .bounds) (row .rate)) s (row .first) in
+    let a = applied (made (row .bounds) (row .rate) 1) s (row .first) in
     let b = applied (a .param) (a .store) (row .second) in
     applied (b .param) (b .store) (row .third)
 

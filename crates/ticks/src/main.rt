@@ -7,6 +7,7 @@ use param::AudioParam;
 use param::Processed;
 use rules::AutomationRate;
 use rules::Bounds;
+use rules::Edition;
 use rules::Event;
 use rules::Head;
 use rules::LastEvent;
@@ -60,6 +61,13 @@ fn is_k(rate: AutomationRate) -> bool {
     match rate {
         AutomationRate::A => false,
         AutomationRate::K => true,
+    }
+}
+
+fn is_second(edition: Edition) -> bool {
+    match edition {
+        Edition::First => false,
+        Edition::Second => true,
     }
 }
 
@@ -155,19 +163,32 @@ fn same_bounds(a: Bounds, b: Bounds) -> bool {
     same_value(a.min, b.min) & same_value(a.default, b.default) & same_value(a.max, b.max)
 }
 
+// What they were made with.
+fn same_made(p: AudioParam, q: AudioParam) -> bool {
+    let rate = p.automation_rate();
+    let other = q.automation_rate();
+    let rates = is_k(rate) == is_k(other);
+    let edition = p.edition();
+    let another = q.edition();
+    let editions = is_second(edition) == is_second(another);
+    same_bounds(p.bounds(), q.bounds()) & rates & editions
+}
+
 // Two parameters, as the read-only calls show them.
 fn same_param(p: AudioParam, q: AudioParam) -> bool
     requires { ⌜ SoundParam p × SoundParam q ⌝ }
 {
-    let rate = p.automation_rate();
-    let other = q.automation_rate();
-    let made = same_bounds(p.bounds(), q.bounds()) & (is_k(rate) == is_k(other));
     let value = same_value(p.intrinsic_value(), q.intrinsic_value());
     let time = time_or_none(p.last_block_time());
     let block = same_time(time, time_or_none(q.last_block_time()));
     let end = time_or_none(p.last_block_end());
     let ends = same_time(end, time_or_none(q.last_block_end()));
-    made & value & block & ends & same_last(p.last_event(), q.last_event()) & same_queue(p, q)
+    same_made(p, q)
+        & value
+        & block
+        & ends
+        & same_last(p.last_event(), q.last_event())
+        & same_queue(p, q)
 }
 
 // Two answers to a block.

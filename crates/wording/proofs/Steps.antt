@@ -32,7 +32,7 @@ use Rattle.wording.specs.declared.Field.{Field}
 use Rattle.wording.specs.declared.Field.the-variants as Field
 use Rattle.wording.specs.declared.Told.{Told}
 use Rattle.wording.specs.declared.Told.the-variants as Told
-use Rattle.wording.specs.Plain.{wordsAt, Fields, inFront, spaced, bitsOf, fieldOf, withField, fields, tailOf, andThen, formed, numbers, cappedAt, lengthFor, lengthAnd, blockFields, Row, row, formIn, rows, whole, translated, translation}
+use Rattle.wording.specs.Plain.{wordsAt, Fields, inFront, spaced, bitsOf, fieldOf, withField, fields, tailOf, andThen, formed, numbers, cappedAt, lengthFor, lengthAnd, blockFields, editionFields, madeFields, Row, row, formIn, rows, whole, translated, translation}
 use Rattle.wording.specs.Walked.{firstOf, nextAt, Behind, Wrote, Ran, Passed, Inside, Room}
 
 -- ---- the next word
@@ -234,6 +234,31 @@ length-for w = by-number (numberIn 10 w)
     by-number : (o : Option ℕ) → length (cappedAt w o) ≤ length w + 4
     by-number none = omega arith
     by-number (some n) = by-test (leb n 4096)
+
+-- ---- what is made: its rate, and the edition behind it
+
+module _ {ws : List Word} where
+  pub no-edition : ws ≡ [] → editionFields ws ≡ some ([], ws)
+  unfolding editionFields
+  no-edition e = ap editionFields e ∙ ap (λ (vs : List Word). some ([], vs)) (sym e)
+
+  module _ {vs : List Word} (w : Word) (e : ws ≡ w ∷ vs) where
+    pub not-edition : sameWord w (codes "edition") ≡ false → editionFields ws ≡ none
+    unfolding editionFields
+    not-edition h = ap editionFields e ∙ rw h
+
+    pub an-edition : sameWord w (codes "edition") ≡ true → editionFields ws ≡ fields Kind.AsItIs 1 vs
+    unfolding editionFields
+    an-edition h = ap editionFields e ∙ rw h
+
+module _ (ws : List Word) where
+  pub made-none : fields Kind.AsItIs 1 ws ≡ none → madeFields ws ≡ none
+  unfolding madeFields andThen
+  made-none e = ap (λ (o : Fields). andThen o editionFields) e
+
+  pub made-then : {u : List ℕ} {vs : List Word} → fields Kind.AsItIs 1 ws ≡ some (u, vs) → madeFields ws ≡ inFront u (editionFields vs)
+  unfolding madeFields andThen
+  made-then e = ap (λ (o : Fields). andThen o editionFields) e
 
 -- two words, each behind a space, leave the room that the words behind them want
 pub room-left : (at from begin end first last len room w v p q : ℕ) → (from ≤ begin) × (begin < end) × (end ≤ len) → (end ≤ first) × (first < last) × (last ≤ len)

@@ -105,16 +105,25 @@ unfoldable pub blockFields : List Word → Fields
 blockFields [] = none
 blockFields (n ∷ ws) = inFront (spaced n) (lengthAnd n ws)
 
+unfoldable pub andThen : Fields → (List Word → Fields) → Fields
+andThen none next = none
+andThen (some p) next = inFront (p .0) (next (p .1))
+
+-- behind a rate: nothing, or `edition` and its number
+unfoldable pub editionFields : List Word → Fields
+editionFields [] = some ([], [])
+editionFields (w ∷ ws) = cond (sameWord w (codes "edition")) (fields Kind.AsItIs 1 ws) none
+
+unfoldable pub madeFields : List Word → Fields
+madeFields ws = andThen (fields Kind.AsItIs 1 ws) editionFields
+
 -- ---- a call's fields
 
 unfoldable pub tailOf : Tail → List Word → Fields
 tailOf (Tail.Fields k n) ws = fields k n ws
 tailOf Tail.Numbers ws = numbers ws
 tailOf Tail.Block ws = blockFields ws
-
-unfoldable pub andThen : Fields → (List Word → Fields) → Fields
-andThen none next = none
-andThen (some p) next = inFront (p .0) (next (p .1))
+tailOf Tail.Made ws = madeFields ws
 
 unfoldable pub formed : Form → List Word → Fields
 formed (Form.Is k n t) ws = andThen (fields k n ws) (tailOf t)
@@ -138,7 +147,7 @@ scheduling =
 
 unfoldable pub rows : List Row
 rows =
-    row (codes "make") (Form.Is Kind.Value 3 (Tail.Fields Kind.AsItIs 1))
+    row (codes "make") (Form.Is Kind.Value 3 Tail.Made)
     ∷ row (codes "block") (Form.Is Kind.Time 2 Tail.Block)
     ∷ row (codes "state") (Form.Is Kind.AsItIs 0 (Tail.Fields Kind.AsItIs 0))
     ∷ row (codes "lend") (Form.Is Kind.AsItIs 1 (Tail.Fields Kind.AsItIs 0))

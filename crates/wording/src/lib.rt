@@ -3,7 +3,7 @@ ghost use mathlib.Core.Path.{_≡_};
 ghost use Prim.Native.Nat.{ℕ, _+_, _-_, _*_, _≤_, _<_};
 ghost use lib.ListN.{length, drop};
 ghost use Rattle.text.specs.Put.{Put};
-ghost use Rattle.wording.specs.Plain.{isBlank, isSmall, wordsAt, spaced, fieldOf, fields, numbers, lengthFor, blockFields, tailOf, formed, formIn, scheduling, rows, translated, translation};
+ghost use Rattle.wording.specs.Plain.{isBlank, isSmall, wordsAt, spaced, fieldOf, fields, numbers, lengthFor, blockFields, editionFields, madeFields, tailOf, formed, formIn, scheduling, rows, translated, translation};
 ghost use Rattle.wording.specs.Walked.{runOf, firstOf, nextAt, Behind, Wrote, Ran, Passed, Inside, Room};
 use decimal::read::time_in;
 use decimal::read::value_in;
@@ -25,11 +25,12 @@ pub enum Kind {
     AsItIs,
 }
 
-// The last words of a call: so many of a kind; all that are left, as values; or those of a block.
+// The last words of a call: so many of a kind; all that are left, as values; those of a block; or a rate and what is behind it.
 pub enum Tail {
     Fields(Kind, usize),
     Numbers,
     Block,
+    Made,
 }
 
 // The words behind a call's name: so many of a kind, then the last ones.
@@ -263,6 +264,35 @@ fn put_block(out: &mut [u8], at: usize, line: &[u8], from: usize) -> Told
     }
 }
 
+// What may stand behind a rate: `edition` and its number.
+fn put_edition(out: &mut [u8], at: usize, line: &[u8], from: usize) -> Told
+    requires { ⌜ (from ≤ length (now line)) × (at + 17 * (length (now line) - from) ≤ length (now out)) ⌝ }
+    ensures { λ r. ⌜ Ran (now (line .entry)) (editionFields (wordsAt (now (line .entry)) from)) (now (out .entry)) at r (now (out .exit)) × Inside (now (line .entry)) (now (out .entry)) r ⌝ }
+{
+    let Next::Word {
+        from: begin,
+        to: end,
+    } = next_word(line, from)
+    else {
+        return Told::At { next: from, to: at };
+    };
+    if !same(&line[begin..end], b"edition") {
+        return Told::Unread;
+    }
+    put_fields(out, at, Kind::AsItIs, 1, line, end)
+}
+
+// A rate, and what may stand behind it.
+fn put_made(out: &mut [u8], at: usize, line: &[u8], from: usize) -> Told
+    requires { ⌜ (from ≤ length (now line)) × (at + 17 * (length (now line) - from) ≤ length (now out)) ⌝ }
+    ensures { λ r. ⌜ Ran (now (line .entry)) (madeFields (wordsAt (now (line .entry)) from)) (now (out .entry)) at r (now (out .exit)) × Inside (now (line .entry)) (now (out .entry)) r ⌝ }
+{
+    let Told::At { next, to } = put_fields(out, at, Kind::AsItIs, 1, line, from) else {
+        return Told::Unread;
+    };
+    put_edition(out, to, line, next)
+}
+
 fn put_tail(out: &mut [u8], at: usize, tail: Tail, line: &[u8], from: usize) -> Told
     requires { ⌜ (from ≤ length (now line)) × (at + 21 + 17 * (length (now line) - from) ≤ length (now out)) ⌝ }
     ensures { λ r. ⌜ Ran (now (line .entry)) (tailOf tail (wordsAt (now (line .entry)) from)) (now (out .entry)) at r (now (out .exit)) × Inside (now (line .entry)) (now (out .entry)) r ⌝ }
@@ -271,6 +301,7 @@ fn put_tail(out: &mut [u8], at: usize, tail: Tail, line: &[u8], from: usize) -> 
         Tail::Fields(kind, n) => put_fields(out, at, kind, n, line, from),
         Tail::Numbers => put_numbers(out, at, line, from),
         Tail::Block => put_block(out, at, line, from),
+        Tail::Made => put_made(out, at, line, from),
     }
 }
 
@@ -337,7 +368,11 @@ fn form_of(word: &[u8]) -> Form
     ensures { λ r. ⌜ r ≡ formIn rows (now (word .entry)) ⌝ }
 {
     if same(word, b"make") {
-        return two_kinds(Kind::Value, 3, Kind::AsItIs, 1);
+        return Form::Is {
+            kind: Kind::Value,
+            many: 3,
+            tail: Tail::Made,
+        };
     }
     if same(word, b"block") {
         return Form::Is {

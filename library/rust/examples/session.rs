@@ -28,15 +28,19 @@ fn said(number: u32) -> String {
 impl Desk {
     fn new() -> Self {
         let mut desk = Desk { state: [0; raw::STATE], store: vec![0.0; LENT], lent: raw::STORE };
-        desk.make(0.0, 0.0, 0.0, true);
+        desk.make([0.0; 3], false, None);
         desk
     }
 
-    fn make(&mut self, min: f32, default: f32, max: f32, a_rate: bool) -> u32 {
+    fn make(&mut self, bounds: [f32; 3], k_rate: bool, edition: Option<u8>) -> u32 {
         self.store.fill(0.0);
         self.lent = raw::STORE;
+        let (s, n, [min, default, max]) = (self.state.as_mut_ptr(), raw::STATE, bounds);
         unsafe {
-            raw::crackledray_make(self.state.as_mut_ptr(), raw::STATE, min, default, max, !a_rate)
+            match edition {
+                None => raw::crackledray_make(s, n, min, default, max, k_rate),
+                Some(e) => raw::crackledray_make_under(s, n, min, default, max, k_rate, e.into()),
+            }
         }
     }
 
@@ -45,8 +49,8 @@ impl Desk {
         let (store, lent) = (self.store.as_mut_ptr(), self.lent);
         said(unsafe {
             match call {
-                Call::Make { min, default, max, a_rate } => {
-                    self.make(*min, *default, *max, *a_rate)
+                Call::Make { min, default, max, a_rate, edition } => {
+                    self.make([*min, *default, *max], !*a_rate, *edition)
                 }
                 Call::Set(v) => raw::crackledray_set(s, n, *v),
                 Call::Step(v, t) => raw::crackledray_step(s, n, *v, *t),
@@ -111,6 +115,7 @@ impl Desk {
     fn state(&self) -> String {
         let w = &self.state;
         let rate = if w[4] == 0 { "a" } else { "k" };
+        let edition = if w[5] == 1 { "" } else { "2" };
         let bounds = list32(&[single(w[1]), single(w[2]), single(w[3])], " ");
         let time = |flag: u64, bits: u64| {
             if flag == 0 {
@@ -119,19 +124,19 @@ impl Desk {
                 hex64(f64::from_bits(bits))
             }
         };
-        let block = if w[6] == 0 {
+        let block = if w[7] == 0 {
             "-".to_string()
         } else {
-            format!("{}:{}", time(1, w[7]), time(w[8], w[9]))
+            format!("{}:{}", time(1, w[8]), time(w[9], w[10]))
         };
-        let last = if w[10] == 0 {
+        let last = if w[11] == 0 {
             "-".to_string()
         } else {
-            format!("{}:{}", time(1, w[11]), hex32(single(w[12])))
+            format!("{}:{}", time(1, w[12]), hex32(single(w[13])))
         };
         let mut from = 0;
         let mut events = String::new();
-        for e in w[14..].chunks(6).take(w[13] as usize) {
+        for e in w[15..].chunks(6).take(w[14] as usize) {
             let (value, at, other) = (hex32(single(e[1])), time(1, e[2]), time(1, e[3]));
             let hold = time(e[4], e[5]);
             events += &match e[0] {
@@ -150,9 +155,9 @@ impl Desk {
         let zeros = self.store[from..raw::STORE].iter().all(|v| v.to_bits() == 0);
         let behind = if zeros { "zeros" } else { "dirty" };
         format!(
-            "state {rate}{bounds} {} {block} {last} {}{events} {behind}",
-            hex32(single(w[5])),
-            w[13]
+            "state {rate}{edition}{bounds} {} {block} {last} {}{events} {behind}",
+            hex32(single(w[6])),
+            w[14]
         )
     }
 }

@@ -4,13 +4,37 @@
 
 pub mod raw;
 
-use raw::{STATE, STORE};
+use raw::{COUNT, LONG_COUNT, STATE, STORE};
 
 /// Whether a block has a value for each sample (A) or one for all (K).
 #[derive(Clone, Copy, Debug, PartialEq, Eq)]
 pub enum AutomationRate {
     A,
     K,
+}
+
+/// How many samples a block can have. A parameter is made under an edition and keeps it; all else is the same under both.
+#[derive(Clone, Copy, Debug, PartialEq, Eq)]
+#[repr(u64)]
+pub enum Edition {
+    /// Web Audio API 1.0: 1 to 128
+    First = 1,
+    /// Web Audio API 1.1: 1 to 1,024
+    Second = 2,
+}
+
+impl Edition {
+    pub fn number(self) -> u64 {
+        self as u64
+    }
+
+    /// Samples of a block, at most.
+    pub fn ceiling(self) -> usize {
+        match self {
+            Edition::First => COUNT,
+            Edition::Second => LONG_COUNT,
+        }
+    }
 }
 
 /// Why a call is refused, with document 01's numbers; the last is the library's own.
@@ -33,12 +57,14 @@ pub enum Error {
     QueueFull = 7,
     /// the waiting curves and this one have more than 4,096 numbers
     StoreFull = 8,
-    /// block time, sample period, count, or the lengths of input and output
+    /// block time, sample period, count (by the edition's ceiling), or the lengths of input and output
     BadBlock = 9,
     /// a block before the last answered one
     OutOfOrder = 10,
     /// inside a waiting curve, or a curve with a waiting event's time inside; given before 7 and 8
     Inside = 11,
+    /// an edition that is neither 1 nor 2; an `Edition` never is
+    UnknownEdition = 12,
     /// the curve store has not 4,096 numbers
     BadStore = 14,
     /// the state fails its test; that of an `AudioParam`, which calls left, never does
@@ -46,7 +72,7 @@ pub enum Error {
 }
 
 impl Error {
-    pub const ALL: [Error; 13] = [
+    pub const ALL: [Error; 14] = [
         Error::Bounds,
         Error::NotFinite,
         Error::BeforeZero,
@@ -58,6 +84,7 @@ impl Error {
         Error::BadBlock,
         Error::OutOfOrder,
         Error::Inside,
+        Error::UnknownEdition,
         Error::BadStore,
         Error::BadState,
     ];
@@ -106,12 +133,40 @@ fn answer(number: u32) -> Result<(), Error> {
 }
 
 impl AudioParam {
+    /// Under the first edition.
     pub fn new(min: f32, default: f32, max: f32, rate: AutomationRate) -> Result<Self, Error> {
-        let mut p = AudioParam { state: [0; STATE], store: vec![0.0; STORE].into_boxed_slice() };
+        let mut p = Self::unmade();
         let k = rate == AutomationRate::K;
         // SAFETY: here and below, each pointer and length are of one slice, and no two overlap.
         let n = unsafe { raw::crackledray_make(p.state.as_mut_ptr(), STATE, min, default, max, k) };
         answer(n).map(|_| p)
+    }
+
+    pub fn with_edition(
+        min: f32,
+        default: f32,
+        max: f32,
+        rate: AutomationRate,
+        edition: Edition,
+    ) -> Result<Self, Error> {
+        let mut p = Self::unmade();
+        let n = unsafe {
+            raw::crackledray_make_under(
+                p.state.as_mut_ptr(),
+                STATE,
+                min,
+                default,
+                max,
+                rate == AutomationRate::K,
+                edition.number(),
+            )
+        };
+        answer(n).map(|_| p)
+    }
+
+    /// Memory that a make writes over.
+    fn unmade() -> Self {
+        AudioParam { state: [0; STATE], store: vec![0.0; STORE].into_boxed_slice() }
     }
 
     pub fn set_value(&mut self, value: f32) -> Result<(), Error> {
@@ -198,7 +253,8 @@ impl AudioParam {
         })
     }
 
-    /// `count` samples from `block_time` on into the first places of the output, mixed with the input (empty: silence).
+    /// `count` samples, from 1 to the edition's ceiling, from `block_time` on into the first places of the output, mixed
+    /// with the input (empty: silence).
     pub fn process(
         &mut self,
         block_time: f64,
@@ -248,8 +304,15 @@ impl AudioParam {
         }
     }
 
+    pub fn edition(&self) -> Edition {
+        match self.state[5] {
+            2 => Edition::Second,
+            _ => Edition::First,
+        }
+    }
+
     /// How many events wait.
     pub fn waiting(&self) -> usize {
-        self.state[13] as usize
+        self.state[14] as usize
     }
 }

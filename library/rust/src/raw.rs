@@ -1,11 +1,15 @@
 //! The exported functions as they are: ../crackledray.h has the words of each. A slice is a pointer and a length.
 
 /// What crackledray_version() gives where the archive is this one's: major, minor and patch, 8 bits each.
-pub const VERSION: u32 = 0x00_0600;
-pub const STATE: usize = 398;
+pub const VERSION: u32 = 0x00_0700;
+pub const STATE: usize = 399;
 /// The first number of a state: which layout it has.
-pub const STATE_VERSION: u64 = 2;
+pub const STATE_VERSION: u64 = 3;
 pub const STORE: usize = 4096;
+/// Samples of a block, at most, under the first edition.
+pub const COUNT: usize = 128;
+/// And under the second.
+pub const LONG_COUNT: usize = 1024;
 
 extern "C" {
     pub fn crackledray_version() -> u32;
@@ -16,6 +20,15 @@ extern "C" {
         default: f32,
         max: f32,
         k_rate: bool,
+    ) -> u32;
+    pub fn crackledray_make_under(
+        state: *mut u64,
+        state_length: usize,
+        min: f32,
+        default: f32,
+        max: f32,
+        k_rate: bool,
+        edition: u64,
     ) -> u32;
     pub fn crackledray_set(state: *mut u64, state_length: usize, value: f32) -> u32;
     pub fn crackledray_step(state: *mut u64, state_length: usize, value: f32, time: f64) -> u32;

@@ -99,11 +99,11 @@ impl Owned {
     }
 
     fn waiting(&self) -> u64 {
-        self.state[13]
+        self.state[14]
     }
 
     fn value(&self) -> f32 {
-        f32::from_bits(self.state[5] as u32)
+        f32::from_bits(self.state[6] as u32)
     }
 
     /// The number that a cancel at this time is answered with.
@@ -345,6 +345,6 @@ fn a_hold_between_them_breaks_it() {
     let (earlier, later) = (between(7.0, 20.0), between(20.0, 7.0));
     assert_eq!((earlier.waiting(), later.waiting()), (0, 1));
     let held = [1, 8.0f32.to_bits() as u64, 10.0f64.to_bits(), 0, 1, 5.0f64.to_bits()];
-    assert_eq!(later.state[14..20], held);
+    assert_eq!(later.state[15..21], held);
     assert_eq!(same(&ramp(), &[20.0, 7.0], 2.0), same(&ramp(), &[7.0, 20.0], 2.0));
 }

@@ -1,5 +1,5 @@
-//! The bench sheet of document 01, cancelled curves (02, C-12), every refusal, the version and the layout, through the library.
-use crackledray::{raw, version, AudioParam, AutomationRate, Block, Error};
+//! The bench sheet of document 01, cancelled curves (02, C-12), every refusal, the version, the layout and the numbers, through the library.
+use crackledray::{raw, version, AudioParam, AutomationRate, Block, Edition, Error};
 use AutomationRate::{A, K};
 
 type Made = Result<AudioParam, Error>;
@@ -200,13 +200,37 @@ fn one_version_everywhere() {
     assert_eq!(named(cargo, "version ="), format!("\"{major}.{minor}.{patch}\""));
 }
 
+/// The number of a name in an enum of the header.
+fn in_header(name: &str) -> u64 {
+    let number = named(include_str!("../../crackledray.h"), &format!("    {name} = "));
+    number.split([',', ' ']).next().unwrap().parse().unwrap()
+}
+
 #[test]
 fn one_layout_everywhere() {
-    let header = include_str!("../../crackledray.h");
-    let says = |name: &str, number: u64| header.contains(&format!("    {name} = {number}, "));
-    assert!(says("CRACKLEDRAY_STATE", raw::STATE as u64));
-    assert!(says("CRACKLEDRAY_STATE_VERSION", raw::STATE_VERSION));
+    assert_eq!(in_header("CRACKLEDRAY_STATE"), raw::STATE as u64);
+    assert_eq!(in_header("CRACKLEDRAY_STATE_VERSION"), raw::STATE_VERSION);
+    assert_eq!(in_header("CRACKLEDRAY_STORE"), raw::STORE as u64);
+    assert_eq!(in_header("CRACKLEDRAY_COUNT"), raw::COUNT as u64);
+    assert_eq!(in_header("CRACKLEDRAY_LONG_COUNT"), raw::LONG_COUNT as u64);
     let mut state = [0; raw::STATE];
     let n = unsafe { raw::crackledray_make(state.as_mut_ptr(), raw::STATE, 0.0, 0.0, 1.0, false) };
     assert_eq!((n, state[0]), (0, raw::STATE_VERSION));
+}
+
+/// An error's name in the header: `NotFinite` is CRACKLEDRAY_NOT_FINITE.
+fn in_capitals(error: Error) -> String {
+    format!("{error:?}").chars().fold("CRACKLEDRAY".to_string(), |name, c| {
+        let parted = if c.is_uppercase() { "_" } else { "" };
+        name + parted + &c.to_ascii_uppercase().to_string()
+    })
+}
+
+#[test]
+fn one_number_everywhere() {
+    for error in Error::ALL {
+        assert_eq!(in_header(&in_capitals(error)), error.number() as u64);
+    }
+    assert_eq!(in_header("CRACKLEDRAY_FIRST_EDITION"), Edition::First.number());
+    assert_eq!(in_header("CRACKLEDRAY_SECOND_EDITION"), Edition::Second.number());
 }

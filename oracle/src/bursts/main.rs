@@ -10,9 +10,10 @@ mod tally;
 mod times;
 mod wrong;
 
+use comparing::family::run_length;
 use comparing::out;
 use comparing::side::Side;
-use pair::{drawn, Pair};
+use pair::{drawn, of_editions, Pair};
 use played::play;
 use reference::session::Call;
 use tally::Tally;
@@ -25,12 +26,21 @@ const SHOWN: usize = 5;
 const LINES: usize = 20;
 const BYTES: usize = 2000;
 
+/// The pair at this place of a run: N, then those of both editions.
+fn at(seed: u64, place: usize, n: usize) -> Pair {
+    match place.checked_sub(n) {
+        None => drawn(seed, place),
+        Some(number) => of_editions(seed, number),
+    }
+}
+
 /// Plays the pairs in batches; stops early once enough is wrong.
 fn run(port: &Side, n: usize, seed: u64) -> Tally {
     let mut tally = Tally::default();
-    while tally.pairs < n && tally.differed < SHOWN {
+    let all = run_length(n);
+    while tally.pairs < all && tally.differed < SHOWN {
         let from = tally.pairs;
-        let batch = (from..n.min(from + BATCH)).map(|i| drawn(seed, i)).collect();
+        let batch = (from..all.min(from + BATCH)).map(|i| at(seed, i, n)).collect();
         for played in play(port, batch) {
             let fault = played.fault();
             tally.add(&played.pair, fault.is_some());
@@ -38,15 +48,15 @@ fn run(port: &Side, n: usize, seed: u64) -> Tally {
                 out::print(&played.show(fault, lines));
             }
         }
-        let line = format!("{} of {n} pairs, {} differed", tally.pairs, tally.differed);
-        out::progress(&line, from, tally.pairs, n);
+        let line = format!("{} of {all} pairs, {} differed", tally.pairs, tally.differed);
+        out::progress(&line, from, tally.pairs, all);
     }
     tally
 }
 
 fn beside(port: &Side, n: usize, seed: u64) -> bool {
     let tally = run(port, n, seed);
-    let wrong = tally.shortcomings(n);
+    let wrong = tally.shortcomings(run_length(n));
     out::print(&format!("random pairs of seed {seed}: {tally}"));
     if tally.differed == 0 {
         out::print("the port gives all answers of oracle/reference, the interpreter\n");

@@ -3,8 +3,9 @@
 
 use crate::times::{edges, times};
 use comparing::draw::Draw;
-use comparing::family::{random, seeded};
+use comparing::family::{editions, random, seeded};
 use comparing::session::Session;
+use reference::edition::Edition;
 use reference::param::Reference;
 use reference::session::Call;
 
@@ -23,6 +24,8 @@ pub struct Pair {
     pub behind: Vec<Call>,
     /// How many numbers the store has that is lent at the burst.
     pub lent: usize,
+    /// Of the parameter, there.
+    pub edition: Edition,
     pub does: Does,
 }
 
@@ -52,21 +55,30 @@ pub fn answer_to(time: f64, lent: usize) -> &'static str {
 
 /// The pair of this number: the session that `compare` draws by it, cut in two.
 pub fn drawn(seed: u64, number: usize) -> Pair {
-    let Session { title, calls, .. } = random(seed, number, None);
-    let mut draw = seeded(!seed, number);
+    cut_in_two(seeded(!seed, number), random(seed, number, None))
+}
+
+/// The same of both editions.
+pub fn of_editions(seed: u64, number: usize) -> Pair {
+    cut_in_two(seeded(!seed, number), editions(seed, number))
+}
+
+fn cut_in_two(mut draw: Draw, session: Session) -> Pair {
+    let Session { title, calls, .. } = session;
     let cut = cut(&mut draw, &calls);
     let (mut before, behind) = (calls[..cut].to_vec(), calls[cut..].to_vec());
     let lent = before.iter().rev().find_map(lent_by).unwrap_or(STORE);
     let reference = played(&before);
     let times = times(&mut draw, edges(&before, reference.waiting()));
     let burst: Vec<Call> = times.into_iter().map(Call::Cancel).collect();
+    let edition = reference.edition();
     let does = does(reference, &burst);
     before.retain(|call| *call != Call::State);
     let mut behind = [vec![Call::State], behind].concat();
     if behind.last() != Some(&Call::State) {
         behind.push(Call::State);
     }
-    let pair = Pair { title, before, burst, one: Vec::new(), behind, lent, does };
+    let pair = Pair { title, before, burst, one: Vec::new(), behind, lent, edition, does };
     pair.with(least)
 }
 

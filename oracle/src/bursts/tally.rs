@@ -2,6 +2,7 @@
 
 use crate::pair::Pair;
 use crate::BATCH;
+use reference::edition::Edition;
 use std::fmt;
 
 #[derive(Default)]
@@ -14,6 +15,7 @@ pub struct Tally {
     unordered: usize,
     refused: usize,
     repeats: usize,
+    second: usize,
     pub differed: usize,
 }
 
@@ -32,6 +34,7 @@ impl Tally {
         self.unordered += usize::from(times.windows(2).any(|two| two[1] < two[0]));
         self.refused += usize::from(times.len() < pair.burst.len());
         self.repeats += usize::from(repeats(&times));
+        self.second += usize::from(pair.edition == Edition::Second);
         self.differed += usize::from(differed);
     }
 
@@ -62,6 +65,7 @@ impl fmt::Display for Tally {
         writeln!(f, "{:9}  were not in rising order", self.unordered)?;
         writeln!(f, "{:9}  had a refused cancel", self.refused)?;
         writeln!(f, "{:9}  repeated a time", self.repeats)?;
+        writeln!(f, "{:9}  were under the second edition", self.second)?;
         writeln!(f, "{:9}  pairs differed", self.differed)
     }
 }

@@ -1,7 +1,9 @@
 //! The self-test: faults planted in the port's answers, before the judging.
-//! Six, one for each field that is compared, and two just beyond 01's limits; and
-//! two that the reference alone can find, where the Rust has nothing to compare.
+//! Six, one for each field that is compared, and two just beyond 01's limits; two
+//! that the reference alone can find, where the Rust has nothing to compare; and six of
+//! the editions, which the Rust has not.
 
+use crate::edition_faults::{behind_128, kept, over_first, over_second, unknown_first, unmarked};
 use crate::shrink::shrunk;
 use crate::sides::{Plant, Played, Sides};
 use comparing::session::Session;
@@ -27,7 +29,7 @@ impl With {
     }
 }
 
-const FAULTS: [(&str, Plant, With); 10] = [
+const FAULTS: [(&str, Plant, With); 16] = [
     ("a sample's last bit turned", sample, With::Rust),
     ("the current value's last bit turned", current, With::Rust),
     ("one-valued turned", one_valued, With::Rust),
@@ -38,10 +40,16 @@ const FAULTS: [(&str, Plant, With); 10] = [
     ("an exponential's sample beyond its limit", beyond_exponential, With::Rust),
     ("the last block's end a moment later", block_end, With::Reference),
     ("behind a cancelled curve the value's last bit turned", left, With::Reference),
+    ("129 places taken under the first edition", over_first, With::Reference),
+    ("1,025 places taken under the second edition", over_second, With::Reference),
+    ("the places behind 128 hold the one before", behind_128, With::Reference),
+    ("12 ahead of 1", unknown_first, With::Reference),
+    ("a refused make keeps the second edition", kept, With::Reference),
+    ("the second edition not printed", unmarked, With::Reference),
 ];
 
-/// The words of an answer, and the answer with one of them changed.
-fn changed(answer: &str, verb: &str, i: usize, to: impl Fn(&str) -> String) -> Option<String> {
+/// The answer with one of its words changed.
+pub fn changed(answer: &str, verb: &str, i: usize, to: impl Fn(&str) -> String) -> Option<String> {
     let words: Vec<&str> = answer.split(' ').collect();
     if words[0] != verb || i >= words.len() {
         return None;
@@ -148,6 +156,9 @@ fn beyond_exponential(session: &Session, i: usize, answer: &str) -> Option<Strin
 /// the Rust shall find, before its comparison ends. None if there is no answer for it.
 fn found(played: &Played, plant: Plant, with: With, number: usize) -> Option<bool> {
     let session = &played.session;
+    if with == With::Rust && !session.has_rust() {
+        return None;
+    }
     let end = session.end().filter(|_| with == With::Rust);
     let last = end.map_or(session.calls.len(), |(i, _)| i);
     let fits = |i: &usize| plant(session, *i, &played.ours[*i]).is_some();

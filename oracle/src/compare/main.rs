@@ -1,16 +1,18 @@
-//! The port beside the Rust, on random sessions.
+//! The port beside the Rust, on random sessions; beside the interpreter alone on those
+//! of both editions, which the Rust has not.
 //!
 //! `compare RUST PORT FOLDER PAGE WORDS..`, called by the script of the same
 //! name with the two programs, this folder and docs/DIFFERENCES.md. WORDS:
 //! `[N [SEED]]`, `--self-test` or `--page` (see README.md). Ends with 1 if
 //! anything differed otherwise than the page names, with 2 if it cannot run.
 
+mod edition_faults;
 mod faults;
 mod page;
 mod shrink;
 mod sides;
 
-use comparing::family::random;
+use comparing::family::{editions, random, run_length};
 use comparing::session::Session;
 use comparing::side::Side;
 use comparing::summary::Summary;
@@ -36,18 +38,29 @@ fn show(sides: &Sides, played: Played, what: &str, wanted: fn(&Verdict) -> bool)
     text += &format!("in the session language:\n{}", session.text());
     if let Some(i) = verdict.not_01 {
         let (port, by_01) = (&ours[i], &session.answers[i]);
-        text += &format!("call {}: the port says {port}\n    01 says {by_01}\n", i + 1);
+        let same = port.split(' ').zip(by_01.split(' ')).take_while(|(a, b)| a == b).count();
+        let at = format!("call {}, word {}", i + 1, same + 1);
+        text += &format!("{at}: the port says {port}\n    01 says {by_01}\n");
     }
     out::print(&text);
+}
+
+/// The session at this place of a run: N of the mixture, then those of both editions.
+fn drawn(seed: u64, place: usize, n: usize) -> Session {
+    match place.checked_sub(n) {
+        None => random(seed, place, None),
+        Some(number) => editions(seed, number),
+    }
 }
 
 /// Plays the sessions in batches; stops early once enough is wrong.
 fn run(sides: &Sides, n: usize, seed: u64) -> Summary {
     let mut summary = Summary::default();
-    while summary.sessions < n && summary.otherwise.max(summary.not_01) < SHOWN {
-        let from = summary.sessions;
-        let batch = (from..n.min(from + BATCH)).map(|i| random(seed, i, None)).collect();
-        for played in sides.play(batch) {
+    let (mut done, all) = (0, run_length(n));
+    while done < all && summary.otherwise.max(summary.not_01) < SHOWN {
+        let from = done;
+        done = all.min(from + BATCH);
+        for played in sides.play((from..done).map(|i| drawn(seed, i, n)).collect()) {
             summary.add(&played.session, &played.verdict);
             let (otherwise, not_01) = (summary.otherwise, summary.not_01);
             if played.verdict.otherwise.is_some() && otherwise <= SHOWN {
@@ -56,9 +69,9 @@ fn run(sides: &Sides, n: usize, seed: u64) -> Summary {
                 show(sides, played, "NOT WHAT 01 SAYS", |v| v.not_01.is_some());
             }
         }
-        let (done, otherwise) = (summary.sessions, summary.otherwise);
-        let line = format!("{done} of {n} sessions, {otherwise} differed otherwise");
-        out::progress(&line, from, done, n);
+        let wrong = summary.otherwise.max(summary.not_01);
+        let line = format!("{done} of {all} sessions, {wrong} differed otherwise");
+        out::progress(&line, from, done, all);
     }
     summary
 }
@@ -77,8 +90,10 @@ fn shortcomings(summary: &Summary, page: &Page, n: usize) -> Vec<String> {
             all.push(format!("fewer than one run of a {kind} in ten sessions"));
         }
     }
-    if summary.sessions < n {
-        all.push(format!("stopped after {} of {n} sessions", summary.sessions));
+    all.extend(summary.editions.shortcomings());
+    let (played, n) = (summary.sessions + summary.editions.sessions, run_length(n));
+    if played < n {
+        all.push(format!("stopped after {played} of {n} sessions"));
     }
     all
 }
@@ -108,7 +123,8 @@ fn main() {
     let number = |i: usize, otherwise: u64| rest.get(i).map_or(Some(otherwise), |w| w.parse().ok());
     let good = match (rest.first().map(String::as_str), number(0, 2000), number(1, 1)) {
         (Some("--self-test"), ..) => {
-            let sessions: Vec<Session> = (0..BATCH).map(|i| random(1, i, None)).collect();
+            let sessions: Vec<Session> =
+                (0..run_length(BATCH)).map(|i| drawn(1, i, BATCH)).collect();
             faults::self_test(&sides, &sessions)
         }
         (Some("--page"), ..) => {

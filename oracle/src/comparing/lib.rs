@@ -3,6 +3,7 @@
 //! judging of two sides' answers, and smaller sessions.
 
 pub mod draw;
+pub mod editions;
 pub mod family;
 pub mod line;
 pub mod out;

@@ -3,6 +3,7 @@
 
 use crate::draw::Draw;
 use reference::claims::{Claims, Reach};
+use reference::edition::Edition;
 use reference::param::Reference;
 use reference::session::{Block, Call};
 
@@ -69,12 +70,14 @@ pub const THEMES: [(Theme, &str); 6] = [
 
 const CLEAN_THEMES: [(Theme, &str); 4] = [THEMES[0], THEMES[1], THEMES[4], THEMES[5]];
 
-/// What is asked of a session; `count` is that of its first block.
+/// What is asked of a session; `count` is that of its first block, `edition` the fifth
+/// word of its `make`.
 #[derive(Clone, Copy)]
 pub struct Wish {
     pub family: Family,
     pub theme: Theme,
     pub a_rate: bool,
+    pub edition: Option<u8>,
     pub count: Option<usize>,
     /// Blocks with an input, in a hundred.
     pub inputs: usize,
@@ -101,7 +104,7 @@ pub fn calls(draw: &mut Draw, wish: Wish) -> Vec<Call> {
     let blocks = wish.blocks + plan.draw.below(3);
     for i in 0..blocks {
         plan.choose_count(i == 0);
-        plan.events(if i == 0 { 5 } else { 3 });
+        plan.events(if i == 0 { 5 } else { 3 } * if plan.is_long() { 2 } else { 1 });
         if plan.draw.percent(30) {
             plan.take(Call::State);
         }
@@ -130,6 +133,10 @@ impl<'a> Plan<'a> {
             plan.now = plan.draw.pick(&[0., 9007199254740992., 1e300, 1.7e308, 4503599627370495.5]);
         }
         plan.make();
+        if plan.is_long() && plan.draw.percent(15) {
+            // So far from 0 that each sum of a time and the period is rounded, and seen.
+            plan.now = plan.draw.pick(&[3e9, 1e12, 1099511627776.]);
+        }
         if !plan.wild() || plan.draw.percent(70) {
             let first = Call::Step(plan.value(), 0.);
             plan.take(first);
@@ -141,6 +148,11 @@ impl<'a> Plan<'a> {
         self.wish.family == Family::Wild
     }
 
+    /// Under the second edition.
+    fn is_long(&self) -> bool {
+        self.reference.edition() == Edition::Second
+    }
+
     fn make(&mut self) {
         let usual = [(-10., 0., 10.), (-1000., 0., 1000.), (-1., 0.5, 3.), (0., 0.25, 1.)];
         let wide = [(-3.4e38, 1., 3.4e38), (-1e-38, 0., 1e-38), (2., 2., 2.), (-0., 0., 5.)];
@@ -149,10 +161,13 @@ impl<'a> Plan<'a> {
         let (min, default, max) = match kind {
             0..=1 if self.wild() => self.draw.pick(&wrong),
             2..=14 => self.draw.pick(&wide),
+            60.. if self.wish.edition.is_some_and(|n| n != 1 && n != 2) => self.draw.pick(&wrong),
+            85.. if self.wish.edition.is_some() => self.draw.pick(&wrong),
             _ => self.draw.pick(&usual),
         };
         self.bounds = (min, max);
-        self.take(Call::Make { min, default, max, a_rate: self.wish.a_rate });
+        let Wish { a_rate, edition, .. } = self.wish;
+        self.take(Call::Make { min, default, max, a_rate, edition });
     }
 
     /// Plays the call on the reference; false where the family does not take it.
@@ -179,6 +194,9 @@ impl<'a> Plan<'a> {
     /// The list's count for the first block and one in ten of the others, which
     /// are short (the list is kept small); without one, often those of the list.
     fn choose_count(&mut self, first: bool) {
+        if self.is_long() {
+            return self.choose_long();
+        }
         let small = 1 + self.draw.below(8);
         let any = 1 + self.draw.below(128);
         let often = self.draw.pick(&[1, 63, 64, 127, 128]);
@@ -188,6 +206,16 @@ impl<'a> Plan<'a> {
             (Some(_), _) | (None, ..5) => small,
             (None, 5..10) => any,
             (None, _) => often,
+        };
+    }
+
+    /// Under the second edition: mostly more than 128, and often those at an end.
+    fn choose_long(&mut self) {
+        let some = self.draw.below(1024 - 128);
+        self.count = match self.draw.below(10) {
+            0..2 => 1 + self.draw.below(128),
+            2..6 => 129 + self.draw.below(some + 1),
+            _ => self.draw.pick(&[127, 128, 129, 256, 512, 1023, 1024, 1024, 1024, 1024]),
         };
     }
 
@@ -201,8 +229,11 @@ impl<'a> Plan<'a> {
             self.remember(&call);
             self.take(call);
         }
-        if self.wild() && self.draw.percent(1) {
+        if self.wild() && self.draw.percent(if self.is_long() { 5 } else { 1 }) {
             self.crowd();
+        }
+        if self.is_long() && self.draw.percent(8) {
+            self.fade();
         }
         if self.wild() && self.draw.percent(6) {
             self.holds();
@@ -237,6 +268,17 @@ impl<'a> Plan<'a> {
         let numbers = (0..3 + self.draw.below(10)).map(|_| self.value()).collect();
         let length = self.draw.pick(&[end - start, (end - start).next_up()]);
         self.take(Call::Curve(start, length, numbers));
+    }
+
+    /// Subnormal places from the block's start on, which become 0 at its end.
+    fn fade(&mut self) {
+        let (some, all) = (self.draw.fraction(), self.count as f64 * self.period);
+        let calls = [
+            Call::Cancel(0.),
+            Call::Step(self.draw.pick(&[1e-40, -1e-39]), self.now),
+            Call::Target(self.draw.pick(&[0., -0.]), some.mul_add(all, self.now), all),
+        ];
+        calls.into_iter().for_each(|call| self.put(call));
     }
 
     /// Holds with events between them.
@@ -441,13 +483,18 @@ impl<'a> Plan<'a> {
         if !self.seen.is_empty() && self.draw.percent(10) {
             return self.draw.pick(&self.seen);
         }
-        let reach = if self.wild() { 3. } else { 1.6 };
+        let reach = match (self.wild(), self.is_long()) {
+            (true, false) => 3.,
+            (false, false) => 1.6,
+            (_, true) => 1.2,
+        };
         let places = reach * self.count as f64;
         let place = match self.draw.below(10) {
             0..=2 => (self.draw.fraction() * places).floor(),
             3..=4 => (self.draw.fraction() * places).floor() + 0.5,
             5 => self.count as f64 - self.draw.pick(&[0., 0.5, 1., 0.25, -0.5]),
             6 if self.wild() => return self.draw.pick(&[0., self.now, 1e9 * self.period]),
+            7 if self.is_long() => self.draw.pick(&[127., 127.5, 128., 128.5, 129., 1023.5]),
             _ => self.draw.fraction() * places,
         };
         let time = place.mul_add(self.period, self.now);
@@ -498,6 +545,9 @@ impl<'a> Plan<'a> {
     /// One block; in a plain session with another count, or without the events
     /// behind it, where it would end the comparison. False if it still would.
     fn block(&mut self) -> bool {
+        if self.wish.edition.is_some() && self.draw.percent(25) {
+            self.at_ceiling();
+        }
         for attempt in 0..12 {
             let input = self.input();
             let out = self.count + self.draw.below(2) * self.draw.below(4);
@@ -519,6 +569,17 @@ impl<'a> Plan<'a> {
             }
         }
         false
+    }
+
+    /// A block with a ceiling for its count, or one more, mostly refused for that alone;
+    /// now and then with an output or an input that is one short. Time does not pass.
+    fn at_ceiling(&mut self) {
+        let ceiling = self.reference.edition().ceiling();
+        let count = self.draw.pick(&[ceiling, ceiling + 1, ceiling + 1, 129, 1024, 1025]);
+        let out = self.draw.pick(&[count, count, count, count + 1, 4096, count - 1]);
+        let length = self.draw.pick(&[0, 0, 0, 0, count, count - 1]);
+        let (time, period, input) = (self.now, self.period, vec![self.value(); length]);
+        self.put(Call::Block(Block { time, period, count: count as u64, out, input }));
     }
 
     /// To the next block, now and then with a gap.

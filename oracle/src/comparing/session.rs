@@ -2,6 +2,7 @@
 //! answer of the port or of the Rust is at hand here.
 
 use reference::claims::{Claims, Reach};
+use reference::edition::Edition;
 use reference::param::Reference;
 use reference::session::{read_line, write_call, Call, Line};
 
@@ -13,6 +14,8 @@ pub struct Session {
     /// For each call what may differ, and what 01 answers.
     pub claims: Vec<Claims>,
     pub answers: Vec<String>,
+    /// The edition of the parameter behind each call.
+    pub editions: Vec<Edition>,
     /// Where it was read from a text: the number of each call's line, from 0.
     pub lines: Vec<usize>,
 }
@@ -20,17 +23,24 @@ pub struct Session {
 impl Session {
     pub fn new(title: &str, calls: Vec<Call>) -> Self {
         let mut reference = Reference::empty();
-        let (mut claims, mut answers) = (Vec::new(), Vec::new());
+        let (mut claims, mut answers, mut editions) = (Vec::new(), Vec::new(), Vec::new());
         for call in &calls {
             answers.push(reference.answer(call));
             claims.push(reference.claims.clone());
+            editions.push(reference.edition());
         }
         let lines = (0..calls.len()).collect();
-        Self { title: title.to_string(), calls, claims, answers, lines }
+        Self { title: title.to_string(), calls, claims, answers, editions, lines }
     }
 
     pub fn text(&self) -> String {
         self.calls.iter().map(|call| write_call(call) + "\n").collect()
+    }
+
+    /// The Rust has one edition: what is made under another it cannot be asked for.
+    pub fn has_rust(&self) -> bool {
+        let other = |call: &Call| matches!(call, Call::Make { edition: Some(n), .. } if *n != 1);
+        !self.calls.iter().any(other)
     }
 
     /// The first call from which on the sides hold different parameters, by what name.
@@ -54,8 +64,12 @@ impl Session {
         self.claims.iter().all(|c| c.list.is_empty())
     }
 
-    /// `agree`, `agree except NAMES`, `limits`, `limits except NAMES`, `differs NAMES`.
+    /// `agree`, `agree except NAMES`, `limits`, `limits except NAMES`, `differs NAMES`, or
+    /// `no Rust`.
     pub fn mark(&self) -> String {
+        if !self.has_rust() {
+            return "no Rust".to_string();
+        }
         let words = |reach| self.claimed(reach).join(" ");
         let (ends, close, part) = (words(Reach::Ends), words(Reach::Close), words(Reach::Part));
         let except = if part.is_empty() { part } else { format!(" except {part}") };

@@ -28,10 +28,11 @@ fn simpler(call: &Call) -> Vec<Call> {
     let values = |v: &f32, put: &dyn Fn(f32) -> Call| simpler32(*v).into_iter().map(put).collect();
     let times = |t: &f64, put: &dyn Fn(f64) -> Call| simpler64(*t).into_iter().map(put).collect();
     let lists: Vec<Vec<Call>> = match call.clone() {
-        Call::Make { min, default, max, a_rate } => vec![
-            values(&min, &|min| Call::Make { min, default, max, a_rate }),
-            values(&default, &|default| Call::Make { min, default, max, a_rate }),
-            values(&max, &|max| Call::Make { min, default, max, a_rate }),
+        Call::Make { min, default, max, a_rate, edition } => vec![
+            edition.iter().map(|_| made(&[min, default, max], a_rate, None)).collect(),
+            values(&min, &|min| made(&[min, default, max], a_rate, edition)),
+            values(&default, &|default| made(&[min, default, max], a_rate, edition)),
+            values(&max, &|max| made(&[min, default, max], a_rate, edition)),
         ],
         Call::Set(v) => vec![values(&v, &Call::Set)],
         Call::Step(v, t) => {
@@ -55,6 +56,10 @@ fn simpler(call: &Call) -> Vec<Call> {
         Call::Lend(_) | Call::Poke(..) | Call::State => Vec::new(),
     };
     lists.concat()
+}
+
+fn made(&[min, default, max]: &[f32; 3], a_rate: bool, edition: Option<u8>) -> Call {
+    Call::Make { min, default, max, a_rate, edition }
 }
 
 fn simpler_curve(t: f64, d: f64, numbers: &[f32]) -> Vec<Call> {

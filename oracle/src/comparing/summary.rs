@@ -1,5 +1,6 @@
 //! What many verdicts come to, and its print.
 
+use crate::editions::Editions;
 use crate::session::Session;
 use crate::verdict::{Limit, Tally, Verdict};
 use reference::claims::Reach;
@@ -11,6 +12,7 @@ const LIMITS: [&str; 2] = ["target-sample", "exponential-sample"];
 
 #[derive(Default)]
 pub struct Summary {
+    /// Those that the Rust is asked for.
     pub sessions: usize,
     /// Sessions in which the calls claim no difference at all.
     pub unclaimed: usize,
@@ -22,13 +24,18 @@ pub struct Summary {
     /// By name: sessions that differed so, and sessions that claim it.
     by_name: BTreeMap<&'static str, (usize, usize)>,
     pub tally: Tally,
+    /// The others.
+    pub editions: Editions,
 }
 
 impl Summary {
     pub fn add(&mut self, session: &Session, verdict: &Verdict) {
+        self.not_01 += usize::from(verdict.not_01.is_some());
+        if !session.has_rust() {
+            return self.editions.add(session);
+        }
         self.sessions += 1;
         self.unclaimed += usize::from(session.claims_nothing());
-        self.not_01 += usize::from(verdict.not_01.is_some());
         self.tally.add(&verdict.tally);
         *if verdict.otherwise.is_some() {
             &mut self.otherwise
@@ -108,6 +115,7 @@ impl fmt::Display for Summary {
         writeln!(f, "\nsecond list, against 01's measured limits")?;
         print_limit(f, "targets", -20., &self.tally.target)?;
         print_limit(f, "exponentials", -18., &self.tally.exponential)?;
+        write!(f, "{}", self.editions)?;
         let all = if self.not_01 == 0 { "all" } else { "NOT all" };
         writeln!(f, "\nthe port gives {all} answers of oracle/reference, the interpreter")
     }

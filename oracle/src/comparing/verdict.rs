@@ -46,10 +46,14 @@ pub struct Verdict {
     pub tally: Tally,
 }
 
-/// Judges the two sides' answers to a session, a line for each of its calls.
+/// Judges the two sides' answers to a session, a line for each of its calls; the port's
+/// by the reference alone where the Rust has no such parameter.
 pub fn judge(session: &Session, ours: &[String], rust: &[String]) -> Verdict {
     let not_01 = (0..ours.len()).find(|i| ours[*i] != session.answers[*i]);
     let mut verdict = Verdict { not_01, ..Verdict::default() };
+    if !session.has_rust() {
+        return verdict;
+    }
     let end = session.end();
     let last = end.map_or(session.calls.len(), |(i, _)| i);
     for i in 0..session.calls.len() {

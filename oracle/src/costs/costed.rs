@@ -44,14 +44,17 @@ impl Costed {
         self.answers[i].starts_with("refused")
     }
 
-    pub fn end(&self) -> Costs {
-        self.costs.last().copied().unwrap_or_default()
+    /// The totals before each further `make`, and at the end.
+    pub fn ends(&self) -> Vec<Costs> {
+        let is_end = |i: &usize| self.calls.get(i + 1).is_none_or(is_make);
+        (0..self.calls.len()).filter(is_end).map(|i| self.costs[i]).collect()
     }
 
     /// What C-20 says of the totals behind a call, and does not hold.
     pub fn broken_sum(&self, i: usize) -> Option<&'static str> {
         let Costs { steps, blocks, finished, turned, stored, cancelled, waiting } = self.costs[i];
-        let reported: u64 = self.answers[..=i].iter().map(|answer| reported(answer)).sum();
+        let from = self.calls[..=i].iter().rposition(is_make).unwrap_or(0);
+        let reported: u64 = self.answers[from..=i].iter().map(|answer| reported(answer)).sum();
         let sums = [
             ("the steps reported", steps == reported),
             ("steps = blocks + finished + turned", steps == blocks + finished + turned),
@@ -60,6 +63,10 @@ impl Costed {
         ];
         sums.into_iter().find(|(_, holds)| !holds).map(|(name, _)| name)
     }
+}
+
+fn is_make(call: &Call) -> bool {
+    matches!(call, Call::Make { .. })
 }
 
 /// Number by number; a difference may be below 0, and wraps.
@@ -90,13 +97,14 @@ fn times(list: &[f64]) -> String {
     list.iter().map(|t| format!(" x{}", hex64(*t))).collect()
 }
 
-/// A call as a line of `play`: floats by their bits, no count of a curve's or an
-/// input's numbers.
+/// A call as a line of `play`: floats by their bits, an edition behind its word, no
+/// count of a curve's or an input's numbers.
 fn line(call: &Call) -> String {
     match call {
-        Call::Make { min, default, max, a_rate } => {
+        Call::Make { min, default, max, a_rate, edition } => {
             let rate = if *a_rate { "a" } else { "k" };
-            format!("make{} {rate}", values(&[*min, *default, *max]))
+            let edition = edition.map_or(String::new(), |n| format!(" edition {n}"));
+            format!("make{} {rate}{edition}", values(&[*min, *default, *max]))
         }
         Call::Set(v) => format!("set{}", values(&[*v])),
         Call::Step(v, t) => format!("step{}{}", values(&[*v]), times(&[*t])),

@@ -1,9 +1,9 @@
 //! The sessions whose cost is counted: those that `compare` draws, with calls put
-//! between, and some of exponentials that all turn.
+//! between, and some of exponentials that all turn; likewise of both editions.
 
 use crate::costed::Costed;
 use comparing::draw::Draw;
-use comparing::family::{random, seeded};
+use comparing::family::{editions, random, seeded};
 use comparing::session::Session;
 use reference::session::{Block, Call};
 
@@ -11,29 +11,40 @@ use reference::session::{Block, Call};
 pub fn drawn(seed: u64, number: usize) -> Costed {
     let mut draw = seeded(!seed, number);
     if number % 10 == 9 {
-        return Costed::new(&format!("{number} turning"), turning(&mut draw));
+        return Costed::new(&format!("{number} turning"), turning(&mut draw, None));
     }
-    let Session { title, calls, .. } = random(seed, number, None);
-    Costed::new(&title, with_more(&mut draw, calls))
+    with_more(&mut draw, random(seed, number, None))
+}
+
+/// The same of both editions.
+pub fn of_editions(seed: u64, number: usize) -> Costed {
+    let mut draw = seeded(!seed, number);
+    if number % 10 == 9 {
+        return Costed::new(&format!("{number} turning, 2"), turning(&mut draw, Some(2)));
+    }
+    with_more(&mut draw, editions(seed, number))
 }
 
 /// Before two blocks in five, up to four calls more.
-fn with_more(draw: &mut Draw, calls: Vec<Call>) -> Vec<Call> {
+fn with_more(draw: &mut Draw, session: Session) -> Costed {
+    let Session { title, calls, editions, .. } = session;
     let mut all = Vec::new();
-    for call in calls {
+    for (call, edition) in calls.into_iter().zip(editions) {
         if let Call::Block(block) = &call {
             let more = if draw.percent(40) { 1 + draw.below(4) } else { 0 };
-            (0..more).for_each(|_| all.extend(one_more(draw, block)));
+            let places = block.count.min(edition.ceiling() as u64) as f64;
+            (0..more).for_each(|_| all.extend(one_more(draw, block, places)));
         }
         all.push(call);
     }
-    all
+    Costed::new(&title, all)
 }
 
 /// Something that costs: an exponential, mostly one that turns, a curve, a hold, a
 /// cancel, or what is refused.
-fn one_more(draw: &mut Draw, block: &Block) -> Vec<Call> {
-    let (value, time, end) = (value(draw), time(draw, block), time(draw, block));
+fn one_more(draw: &mut Draw, block: &Block, places: f64) -> Vec<Call> {
+    let near = |draw: &mut Draw| time(draw, block, places);
+    let (value, time, end) = (value(draw), near(draw), near(draw));
     let (from, to) = (time.min(end), time.max(end));
     match draw.below(12) {
         0..=1 => vec![Call::Step(0., from), Call::Exponential(value, to)],
@@ -55,9 +66,8 @@ fn value(draw: &mut Draw) -> f32 {
     draw.pick(&[size, -size])
 }
 
-/// In the coming block, at its ends or a little behind it.
-fn time(draw: &mut Draw, block: &Block) -> f64 {
-    let count = block.count.min(128) as f64;
+/// In the coming block of so many places, at its ends or a little behind it.
+fn time(draw: &mut Draw, block: &Block, count: f64) -> f64 {
     let place = match draw.below(4) {
         0 => draw.pick(&[0., count, count - 0.5, count + 1.]),
         1 => (draw.fraction() * count).floor(),
@@ -89,20 +99,23 @@ fn refused(draw: &mut Draw, block: &Block) -> Call {
 }
 
 /// Exponentials from a value that makes each a step, in rising order, and blocks, of
-/// which the last mostly reaches behind them: then the bound is reached.
-fn turning(draw: &mut Draw) -> Vec<Call> {
+/// which the last mostly reaches behind them: then the bound is reached. Under the
+/// second edition also so many that one block may take all the heads that it can.
+fn turning(draw: &mut Draw, edition: Option<u8>) -> Vec<Call> {
     let default = draw.pick(&[0., 0., -0., 1., -5., 3e38, -1e-45]);
     let (min, max, a_rate) = (f32::MIN, f32::MAX, draw.percent(50));
-    let mut calls = vec![Call::Make { min, default, max, a_rate }];
+    let mut calls = vec![Call::Make { min, default, max, a_rate, edition }];
     let (mut last, mut time) = (default, 0.);
-    for _ in 0..1 + draw.below(6) {
+    let long = edition.is_some();
+    let events = if long && draw.percent(50) { 64 } else { 1 + draw.below(6) };
+    for _ in 0..events {
         time += draw.pick(&[0., 0.5, 1., 3., 40.]);
         last = turning_from(draw, last);
         calls.push(Call::Exponential(last, time));
     }
     let (mut now, blocks) = (0., 1 + draw.below(6));
     for _ in 0..blocks {
-        let count = draw.pick(&[1, 7, 64, 128]);
+        let count = draw.pick(if long { &[7, 129, 512, 1024] } else { &[1, 7, 64, 128] });
         let (out, input) = (count as usize, Vec::new());
         calls.push(Call::Block(Block { time: now, period: 1., count, out, input }));
         now += count as f64;

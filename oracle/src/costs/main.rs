@@ -11,10 +11,11 @@ mod played;
 mod tally;
 mod wrong;
 
+use comparing::family::run_length;
 use comparing::out;
 use comparing::side::Side;
 use costed::Costed;
-use drawn::drawn;
+use drawn::{drawn, of_editions};
 use played::play;
 use reference::session::Call;
 use tally::Tally;
@@ -26,12 +27,21 @@ const SHOWN: usize = 5;
 /// Sessions that are also played without their `make`, each by a process of its own.
 const UNMADE: usize = 5;
 
+/// The session at this place of a run: N, then those of both editions.
+fn at(seed: u64, place: usize, n: usize) -> Costed {
+    match place.checked_sub(n) {
+        None => drawn(seed, place),
+        Some(number) => of_editions(seed, number),
+    }
+}
+
 /// Plays the sessions in batches; stops early once enough differ.
 fn run(program: &Side, n: usize, seed: u64) -> Tally {
     let mut tally = Tally::default();
-    while tally.sessions < n && tally.differ < SHOWN {
+    let all = run_length(n);
+    while tally.sessions < all && tally.differ < SHOWN {
         let from = tally.sessions;
-        let batch = (from..n.min(from + BATCH)).map(|i| drawn(seed, i)).collect();
+        let batch = (from..all.min(from + BATCH)).map(|i| at(seed, i, n)).collect();
         for played in play(program, batch) {
             let fault = played.fault();
             tally.add(&played.session, fault.is_some());
@@ -39,8 +49,8 @@ fn run(program: &Side, n: usize, seed: u64) -> Tally {
                 out::print(&played.shrunk(program, fault).show());
             }
         }
-        let line = format!("{} of {n} sessions, {} differ", tally.sessions, tally.differ);
-        out::progress(&line, from, tally.sessions, n);
+        let line = format!("{} of {all} sessions, {} differ", tally.sessions, tally.differ);
+        out::progress(&line, from, tally.sessions, all);
     }
     tally
 }
@@ -65,7 +75,7 @@ fn beside(program: &Side, n: usize, seed: u64) -> bool {
     out::print(&format!("{UNMADE} sessions without a make: {differ} differ\n"));
     let tally = run(program, n, seed);
     out::print(&format!("random sessions of seed {seed}: {tally}"));
-    let wrong = tally.shortcomings(n);
+    let wrong = tally.shortcomings(run_length(n));
     wrong.iter().for_each(|line| out::print(&format!("WRONG: {line}\n")));
     wrong.is_empty() && differ + tally.differ == 0
 }

@@ -10,7 +10,7 @@ use std::fmt;
 pub struct Tally {
     pub sessions: usize,
     lines: usize,
-    /// The totals at the sessions' ends, added up.
+    /// The totals up to each further `make` and to the sessions' ends, added up.
     all: Costs,
     by_cancel: u64,
     by_hold: u64,
@@ -24,7 +24,9 @@ impl Tally {
     pub fn add(&mut self, session: &Costed, differs: bool) {
         self.sessions += 1;
         self.lines += session.calls.len();
-        self.all = each(self.all, session.end(), u64::wrapping_add);
+        for end in session.ends() {
+            self.all = each(self.all, end, u64::wrapping_add);
+        }
         for (i, call) in session.calls.iter().enumerate() {
             match call {
                 Call::Cancel(_) => self.by_cancel += session.added(i).cancelled,
@@ -33,8 +35,8 @@ impl Tally {
             }
             self.refused += usize::from(session.is_refused(i));
         }
-        let end = session.end();
-        self.reached += usize::from(end.stored > 0 && end.steps == end.bound());
+        let reaches = |end: &Costs| end.stored > 0 && end.steps == end.bound();
+        self.reached += usize::from(session.ends().iter().any(reaches));
         self.differ += usize::from(differs);
     }
 

@@ -1,6 +1,7 @@
 //! The judge: `judge SESSIONS OURS RUST` compares two files of answers to the
 //! same sessions. OURS is the port's (or the reference's), RUST the oracle's.
-//! Ends with 1 if anything differed otherwise than by a name that is claimed.
+//! Ends with 1 if anything differed otherwise than by a name that is claimed, or, where
+//! the Rust has no such parameter, from what 01 says.
 
 use comparing::out;
 use comparing::session::{sessions, Session};
@@ -22,14 +23,19 @@ fn main() {
     let (text, ours, rust) = (read(0), read(1), read(2));
     let (ours, rust): (Vec<&str>, Vec<&str>) = (ours.lines().collect(), rust.lines().collect());
     let mut summary = Summary::default();
+    let mut apart = 0;
     for session in sessions(&text) {
         let verdict = judge(&session, &answers(&session, &ours), &answers(&session, &rust));
         if let Some((i, fields)) = &verdict.otherwise {
             let line = session.lines[*i] + 1;
             out::print(&format!("line {line} differed otherwise: {fields}\n"));
         }
+        if let Some(i) = verdict.not_01.filter(|_| !session.has_rust()) {
+            out::print(&format!("line {} is not what 01 says\n", session.lines[i] + 1));
+            apart += 1;
+        }
         summary.add(&session, &verdict);
     }
     out::print(&summary.to_string());
-    std::process::exit(i32::from(summary.otherwise > 0));
+    std::process::exit(i32::from(summary.otherwise + apart > 0));
 }

@@ -16,6 +16,8 @@ pub(crate) struct Oracle {
     processor: AudioParamProcessor,
     /// A panic left the parameter half changed; the library frees such a node.
     broken: bool,
+    /// Made under another edition than the first: the Rust has no such parameter.
+    absent: bool,
 }
 
 impl Oracle {
@@ -30,13 +32,19 @@ impl Oracle {
         let descriptor =
             AudioParamDescriptor { name, automation_rate, default_value, min_value, max_value };
         let (param, processor) = audio_param_pair(descriptor, AudioContextRegistration::default());
-        Self { param, processor, broken: false }
+        Self { param, processor, broken: false, absent: false }
     }
 
-    /// The answer to a call; a panic is answered `panic`.
+    /// The answer to a call; a panic is answered `panic`, what the Rust has not `-`.
     pub(crate) fn answer(&mut self, call: &Call) -> String {
+        if let Call::Make { edition, .. } = call {
+            self.absent = edition.is_some_and(|number| number != 1);
+        }
         match call {
-            Call::Make { min, default, max, a_rate } => self.make(*min, *default, *max, *a_rate),
+            _ if self.absent => "-".to_string(),
+            Call::Make { min, default, max, a_rate, .. } => {
+                self.make(*min, *default, *max, *a_rate)
+            }
             Call::Lend(_) | Call::Poke(..) => "ok".to_string(), // the Rust has no store
             _ if self.broken => "panic".to_string(),
             Call::Block(block) => self.block(block),

@@ -1,10 +1,18 @@
 //! The session language: reading a line as a call, and writing numbers.
-//! Shared by every program in this folder; the page is session-language.md.
+//! Shared by every program in this folder; the pages are session-language.md and,
+//! for the fifth word of `make`, session-language-02.md.
 
 /// One call, as a line of a session says it.
 #[derive(Clone, Debug, PartialEq)]
 pub enum Call {
-    Make { min: f32, default: f32, max: f32, a_rate: bool },
+    /// The edition is the fifth word, which may be missing.
+    Make {
+        min: f32,
+        default: f32,
+        max: f32,
+        a_rate: bool,
+        edition: Option<u8>,
+    },
     Set(f32),
     Step(f32, f64),
     Linear(f32, f64),
@@ -47,9 +55,9 @@ pub fn read_line(line: &str) -> Line {
 fn read_call(words: &[&str]) -> Option<Call> {
     let (verb, rest) = words.split_first()?;
     Some(match (*verb, rest) {
-        ("make", [min, default, max, rate @ ("a" | "k")]) => {
+        ("make", [min, default, max, rate @ ("a" | "k"), edition @ ..]) => {
             let (min, default, max) = (f32_of(min)?, f32_of(default)?, f32_of(max)?);
-            Call::Make { min, default, max, a_rate: *rate == "a" }
+            Call::Make { min, default, max, a_rate: *rate == "a", edition: edition_of(edition)? }
         }
         ("set", [v]) => Call::Set(f32_of(v)?),
         ("step", [v, t]) => Call::Step(f32_of(v)?, f64_of(t)?),
@@ -73,6 +81,15 @@ fn read_call(words: &[&str]) -> Option<Call> {
         ("state", []) => Call::State,
         _ => return None,
     })
+}
+
+/// One word, a decimal from 0 to 255, or none.
+fn edition_of(words: &[&str]) -> Option<Option<u8>> {
+    match words {
+        [] => Some(None),
+        [word] => within(word, 255).map(|n| Some(n as u8)),
+        _ => None,
+    }
 }
 
 /// As many f32 as `n` says, and no word more.
@@ -138,9 +155,10 @@ pub fn curve_numbers(values: &[f32]) -> String {
 /// The line that makes this call.
 pub fn write_call(call: &Call) -> String {
     match call {
-        Call::Make { min, default, max, a_rate } => {
+        Call::Make { min, default, max, a_rate, edition } => {
             let rate = if *a_rate { "a" } else { "k" };
-            format!("make{} {rate}", list32(&[*min, *default, *max], " "))
+            let edition = edition.map_or(String::new(), |n| format!(" {n}"));
+            format!("make{} {rate}{edition}", list32(&[*min, *default, *max], " "))
         }
         Call::Set(v) => format!("set {}", hex32(*v)),
         Call::Step(v, t) => format!("step {} {}", hex32(*v), hex64(*t)),

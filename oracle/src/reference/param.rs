@@ -2,6 +2,7 @@
 
 use crate::claims::{Claims, Reach};
 use crate::costs::Costs;
+use crate::edition::Edition;
 use crate::near::{Near, Value};
 use crate::numbers::mixed;
 use crate::queue::{cancel, claim_arrival, hold, insert, inside, rust_inside, Event, Kind};
@@ -12,6 +13,7 @@ const STORE: usize = 4096;
 
 #[derive(Clone)]
 pub struct Reference {
+    edition: Edition,
     a_rate: bool,
     min: f32,
     default: f32,
@@ -49,9 +51,10 @@ fn is_minus_zero(time: f64) -> bool {
 }
 
 impl Reference {
-    /// What refusal 1 returns, and what a session starts with.
+    /// What refusals 1 and 12 return, and what a session starts with.
     pub fn empty() -> Self {
         Self {
+            edition: Edition::First,
             a_rate: true,
             min: 0.,
             default: 0.,
@@ -76,6 +79,10 @@ impl Reference {
         self.intrinsic.value
     }
 
+    pub fn edition(&self) -> Edition {
+        self.edition
+    }
+
     /// The totals since the last `make`, refused or not; before the first, of all calls.
     pub fn costs(&self) -> Costs {
         Costs { waiting: self.queue.len() as u64, ..self.costs }
@@ -84,7 +91,9 @@ impl Reference {
     pub fn answer(&mut self, call: &Call) -> String {
         self.claims = Claims::default();
         let refused = match call {
-            Call::Make { min, default, max, a_rate } => self.make(*min, *default, *max, *a_rate),
+            Call::Make { min, default, max, a_rate, edition } => {
+                self.make([*min, *default, *max], *a_rate, *edition)
+            }
             Call::Set(v) => self.set(*v),
             Call::Step(v, t) => self.simple(Kind::Step, *v, *t),
             Call::Linear(v, t) => self.simple(Kind::Linear, *v, *t),
@@ -101,15 +110,19 @@ impl Reference {
         refused.map_or("ok".to_string(), |n| format!("refused {n}"))
     }
 
-    fn make(&mut self, min: f32, default: f32, max: f32, a_rate: bool) -> Option<u8> {
+    /// "An unknown edition gets 12, after 1, with the same empty parameter, of the first
+    /// edition" (02, C-19); without a number it is the first.
+    fn make(&mut self, range: [f32; 3], a_rate: bool, number: Option<u8>) -> Option<u8> {
         *self = Self::empty();
-        let finite = min.is_finite() && default.is_finite() && max.is_finite();
-        if !(finite && min <= default && default <= max) {
-            self.claims.note(Reach::Part, "refused", true);
-            return Some(1);
-        }
+        let [min, default, max] = range;
+        let finite = range.iter().all(|v| v.is_finite());
+        let sound = finite && min <= default && default <= max;
+        let known = number.map_or(Some(Edition::First), Edition::numbered);
+        let refused = refusal(&[(1, !sound), (12, known.is_none())]);
+        self.claims.note(Reach::Part, "refused", refused == Some(1));
+        let Some(edition) = known.filter(|_| sound) else { return refused };
         let intrinsic = Value::same(default);
-        *self = Self { min, default, max, a_rate, intrinsic, ..Self::empty() };
+        *self = Self { edition, min, default, max, a_rate, intrinsic, ..Self::empty() };
         None
     }
 
@@ -333,7 +346,8 @@ impl Reference {
     fn block_refusal(&mut self, b: &Block) -> Option<u8> {
         let time = plus_zero(b.time);
         let fits = b.input.is_empty() || b.input.len() as u64 == b.count;
-        let lengths = b.count < 1 || b.count > 128 || (b.out as u64) < b.count || !fits;
+        let counts = 1..=self.edition.ceiling() as u64;
+        let lengths = !counts.contains(&b.count) || (b.out as u64) < b.count || !fits;
         let numbers = not_finite(&[time, b.period]) || time < 0. || b.period <= 0.;
         let back = self.played.is_some_and(|(last, _)| time < last);
         let rows = [(9, lengths || numbers), (10, back), (14, self.lent != STORE)];
@@ -427,7 +441,12 @@ impl Reference {
         seen.read_store();
         let packed: usize = seen.lengths().iter().sum();
         let zeros = seen.store[packed..STORE].iter().all(|v| v.to_bits() == 0);
-        let rate = if self.a_rate { "a" } else { "k" };
+        let rate = match (self.a_rate, self.edition) {
+            (true, Edition::First) => "a",
+            (false, Edition::First) => "k",
+            (true, Edition::Second) => "a2",
+            (false, Edition::Second) => "k2",
+        };
         let bounds = list32(&[self.min, self.default, self.max], " ");
         let times = |(t, end): (f64, f64)| format!("{}:{}", hex64(t), hex64(end));
         let block = self.played.map_or("-".to_string(), times);

@@ -12,8 +12,8 @@ slice-aggregate-put-word c = search needs
 put-word-requires : tie.Need-put-word-requires
 put-word-requires c κs = search needs
 
-put-rate-requires : tie.Need-put-rate-requires
-put-rate-requires c κs = search needs
+put-kind-requires : tie.Need-put-kind-requires
+put-kind-requires c κs = search needs
 
 put-bounds-requires : tie.Need-put-bounds-requires
 put-bounds-requires c κs = search needs
@@ -35,10 +35,23 @@ same-length c = search needs
 
 returns : tie.Need-returns
 unfolding stateText
-returns c = (
-  put-then (c .before .before .before .before .before .before .before .before .before .before .before .before .before .before .before .before .before .before .before .before .before .before .before .before .before .before .put-word .ensures) (put-then (c .before .before .before .before .before .before .before .before .before .before .before .before .before .before .before .before .before .before .before .before .before .before .put-rate .ensures .0) (put-then (c .before .before .before .before .before .before .before .before .before .before .before .before .before .before .before .before .before .before .put-bounds .ensures .0) (put-then (c .before .before .before .before .before .before .before .before .before .before .before .before .before .before .put-single-behind .ensures .0) (put-then (c .before .before .before .before .before .before .before .before .before .before .put-span .ensures .0) (put-then (c .before .before .before .before .before .before .put-last .ensures .0) (c .before .before .put-count-behind .ensures .0) (omega arith)) (omega arith)) (omega arith)) (omega arith)) (omega arith)) (omega arith),
-  omega arith,
-)
+returns c =
+    let last = c .before .before .before .before .before .before in
+    let span = last .before .before .before .before in
+    let value = span .before .before .before .before in
+    let bounds = value .before .before .before .before in
+    let kind = bounds .before .before .before .before in
+    let word = kind .before .before .before .before in
+    let room = word .before .before .before .before .pre in (
+      put-then (word .put-word .ensures)
+          (put-then (kind .put-kind .ensures .0)
+          (put-then (bounds .put-bounds .ensures .0)
+          (put-then (value .put-single-behind .ensures .0)
+          (put-then (span .put-span .ensures .0)
+          (put-then (last .put-last .ensures .0) (c .before .before .put-count-behind .ensures .0)
+          (omega (arith, room))) (omega (arith, room))) (omega (arith, room))) (omega (arith, room))) (omega (arith, room))) (omega (arith, room)),
+      omega arith,
+    )
 
 pub put-state-spec : {M : Type 1} → statement M
 put-state-spec =
@@ -46,7 +59,7 @@ put-state-spec =
     (tie.spec
     slice-aggregate-put-word
     put-word-requires
-    put-rate-requires
+    put-kind-requires
     put-bounds-requires
     put-single-behind-requires
     put-span-requires

@@ -1,12 +1,13 @@
 -- `calls::read_make` meets its contract: the field that cannot be read, or the call. Assumes nothing.
 use mathlib.Core.Path.{sym, ap, _∙_}
 use Rattle.calls.specs.Language.{heard, makeOf}
-use Rattle.calls.proofs.Fields.{rate-is, rate-not, single-is, single-not, ends, ends-not}
+use Rattle.calls.proofs.Fields.{rate-is, rate-not, edition-is, edition-not, single-is, single-not, ends, ends-not}
 use borrow.Author.Needs.{needs}
 use Rattle.calls.proofs.read_make.Statement.{statement}
 use Rattle.calls.proofs.read_make.Tie as tie
 use Rattle.calls.proofs.read_make.Reads as reads
 use Rattle.calls.proofs.read_make.Lts as lts
+use Rattle.calls.proofs.next_edition.Reads as next-edition-reads
 use Rattle.calls.proofs.next_rate.Reads as next-rate-reads
 use Rattle.text.proofs.words.next_single.Reads as next-single-reads
 use Rattle.text.proofs.words.over.Reads as over-reads
@@ -81,13 +82,19 @@ returns-4 c =
     ∙ single-is _ _ _ (f3 .before .before .next-single3 .ensures) (f3 .max .given .1)
     ∙ rate-not _ _ _ (c .before .before .next-rate .ensures) (c .enum-told4 .given .1)))
 
-over-requires : tie.Need-over-requires
-over-requires c κs = search needs
+next-edition-requires : tie.Need-next-edition-requires
+next-edition-requires c κs = search needs
+
+enum-known-edition : tie.Need-enum-known-edition
+enum-known-edition c = search needs
+
+enum-told-5 : tie.Need-enum-told-5
+enum-told-5 c = search needs
 
 returns-5 : tie.Need-returns-5
 unfolding heard makeOf
 returns-5 c =
-    let f4 = c .before .before .before in
+    let f4 = c .before .before .before .before in
     let f3 = f4 .before .before .before .before in
     let f2 = f3 .before .before .before .before in
     let f1 = f2 .before .before .before .before in
@@ -96,12 +103,16 @@ returns-5 c =
     ∙ single-is _ _ _ (f2 .before .before .next-single2 .ensures) (f2 .default .given .1)
     ∙ single-is _ _ _ (f3 .before .before .next-single3 .ensures) (f3 .max .given .1)
     ∙ rate-is _ _ _ (f4 .before .before .next-rate .ensures) (f4 .rate .given .1)
-    ∙ ends _ _ _ (c .before .over .ensures) (c .if1 .taken)))
+    ∙ edition-not _ _ _ (c .before .before .next-edition .ensures) (c .enum-told5 .given .1)))
+
+over-requires : tie.Need-over-requires
+over-requires c κs = search needs
 
 returns-6 : tie.Need-returns-6
 unfolding heard makeOf
 returns-6 c =
-    let f4 = c .before .before .before in
+    let f5 = c .before .before .before in
+    let f4 = f5 .before .before .before .before in
     let f3 = f4 .before .before .before .before in
     let f2 = f3 .before .before .before .before in
     let f1 = f2 .before .before .before .before in
@@ -110,6 +121,23 @@ returns-6 c =
     ∙ single-is _ _ _ (f2 .before .before .next-single2 .ensures) (f2 .default .given .1)
     ∙ single-is _ _ _ (f3 .before .before .next-single3 .ensures) (f3 .max .given .1)
     ∙ rate-is _ _ _ (f4 .before .before .next-rate .ensures) (f4 .rate .given .1)
+    ∙ edition-is _ _ _ (f5 .before .before .next-edition .ensures) (f5 .edition .given .1)
+    ∙ ends _ _ _ (c .before .over .ensures) (c .if1 .taken)))
+
+returns-7 : tie.Need-returns-7
+unfolding heard makeOf
+returns-7 c =
+    let f5 = c .before .before .before in
+    let f4 = f5 .before .before .before .before in
+    let f3 = f4 .before .before .before .before in
+    let f2 = f3 .before .before .before .before in
+    let f1 = f2 .before .before .before .before in
+    sym (ap heard
+    (single-is _ _ _ (f1 .before .before .next-single .ensures) (f1 .min .given .1)
+    ∙ single-is _ _ _ (f2 .before .before .next-single2 .ensures) (f2 .default .given .1)
+    ∙ single-is _ _ _ (f3 .before .before .next-single3 .ensures) (f3 .max .given .1)
+    ∙ rate-is _ _ _ (f4 .before .before .next-rate .ensures) (f4 .rate .given .1)
+    ∙ edition-is _ _ _ (f5 .before .before .next-edition .ensures) (f5 .edition .given .1)
     ∙ ends-not _ _ _ (c .before .over .ensures) (c .if1 .left)))
 
 pub read-make-spec : {M : Type 1} → statement M
@@ -132,6 +160,10 @@ read-make-spec =
     enum-known-rate
     enum-told-4
     returns-4
-    over-requires
+    next-edition-requires
+    enum-known-edition
+    enum-told-5
     returns-5
-    returns-6)
+    over-requires
+    returns-6
+    returns-7)

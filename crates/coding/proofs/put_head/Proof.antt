@@ -48,73 +48,84 @@ rate-word-requires c κs = search needs
 slice-write-state-5 : tie.Need-slice-write-state-5
 slice-write-state-5 c = simp length-set (omega arith)
 
+edition-requires : tie.Need-edition-requires
+edition-requires c κs = search needs
+
+edition-word-requires : tie.Need-edition-word-requires
+edition-word-requires c κs = search needs
+
+slice-write-state-6 : tie.Need-slice-write-state-6
+slice-write-state-6 c = simp length-set (omega arith)
+
 intrinsic-value-requires : tie.Need-intrinsic-value-requires
 intrinsic-value-requires c κs = search needs
 
 single-bits-requires-4 : tie.Need-single-bits-requires-4
 single-bits-requires-4 c κs = search needs
 
-slice-write-state-6 : tie.Need-slice-write-state-6
-slice-write-state-6 c = simp length-set (omega arith)
+slice-write-state-7 : tie.Need-slice-write-state-7
+slice-write-state-7 c = simp length-set (omega arith)
 
 flag-of-requires : tie.Need-flag-of-requires
 flag-of-requires c κs = search needs
 
-slice-write-state-7 : tie.Need-slice-write-state-7
-slice-write-state-7 c = simp length-set (omega arith)
+slice-write-state-8 : tie.Need-slice-write-state-8
+slice-write-state-8 c = simp length-set (omega arith)
 
 time-bits-requires : tie.Need-time-bits-requires
 time-bits-requires c κs = search needs
 
-slice-write-state-8 : tie.Need-slice-write-state-8
-slice-write-state-8 c = simp length-set (omega arith)
+slice-write-state-9 : tie.Need-slice-write-state-9
+slice-write-state-9 c = simp length-set (omega arith)
 
 flag-of-requires-2 : tie.Need-flag-of-requires-2
 flag-of-requires-2 c κs = search needs
 
-slice-write-state-9 : tie.Need-slice-write-state-9
-slice-write-state-9 c = simp length-set (omega arith)
+slice-write-state-10 : tie.Need-slice-write-state-10
+slice-write-state-10 c = simp length-set (omega arith)
 
 time-bits-requires-2 : tie.Need-time-bits-requires-2
 time-bits-requires-2 c κs = search needs
 
-slice-write-state-10 : tie.Need-slice-write-state-10
-slice-write-state-10 c = simp length-set (omega arith)
+slice-write-state-11 : tie.Need-slice-write-state-11
+slice-write-state-11 c = simp length-set (omega arith)
 
 last-event-requires : tie.Need-last-event-requires
 last-event-requires c κs = search needs
 
 put-last-requires : tie.Need-put-last-requires
-put-last-requires c κs = simp length-set (c .before .before .before .before .before .before .before .before .before .before .before .before .before .before .before .before .before .pre .1)
+put-last-requires c κs = simp length-set (c .before .before .before .before .before .before .before .before .before .before .before .before .before .before .before .before .before .before .before .pre .1)
 
 len-requires : tie.Need-len-requires
 len-requires c κs = search needs
 
-slice-write-state-11 : tie.Need-slice-write-state-11
-slice-write-state-11 c = rw (c .before .before .before .put-last .ensures .is) (simp length-set (omega (arith, c .before .before .before .before .before .before .before .before .before .before .before .before .before .before .before .before .before .before .before .before .before .pre .1)))
+slice-write-state-12 : tie.Need-slice-write-state-12
+slice-write-state-12 c = rw (c .before .before .before .put-last .ensures .is) (simp length-set (omega (arith, c .before .before .before .before .before .before .before .before .before .before .before .before .before .before .before .before .before .before .before .before .before .before .before .pre .1)))
 
 same-length : tie.Need-same-length
-same-length c = length-set (c .before .before .before .put-last .last .0) 13 (c .len .result) ∙ last-length (c .before .before .before .put-last .ensures) ∙ simp length-set
+same-length c = length-set (c .before .before .before .put-last .last .0) 14 (c .len .result) ∙ last-length (c .before .before .before .put-last .ensures) ∙ simp length-set
 
 returns : tie.Need-returns
 returns c =
-    let start = c .before .before .before .before .before .before .before .before .before .before .before .before .before .before .before .before .before .before .before .before .before in
+    let start = c .before .before .before .before .before .before .before .before .before .before .before .before .before .before .before .before .before .before .before .before .before .before .before in
     puts-head
     (paramOf (start .args .p))
     (now (start .args .state))
     (c .before .before .before .put-last .ensures)
     (start .pre .1)
-    (c .before .before .before .before .before .before .before .before .before .before .before .before .before .before .before .before .before .before .before .bounds .ensures)
-    (c .before .before .before .before .before .before .before .before .before .before .before .before .before .automation-rate .ensures)
+    (c .before .before .before .before .before .before .before .before .before .before .before .before .before .before .before .before .before .before .before .before .before .bounds .ensures)
+    (c .before .before .before .before .before .before .before .before .before .before .before .before .before .before .before .automation-rate .ensures)
+    (c .before .before .before .before .before .before .before .before .before .before .before .before .before .edition .ensures)
     (c .before .before .before .before .before .before .before .before .before .before .before .intrinsic-value .ensures)
-    (c .before .before .before .before .before .before .before .before .before .before .before .before .before .before .before .before .before .before .last-block-time .ensures)
-    (c .before .before .before .before .before .before .before .before .before .before .before .before .before .before .before .before .before .last-block-end .ensures)
+    (c .before .before .before .before .before .before .before .before .before .before .before .before .before .before .before .before .before .before .before .before .last-block-time .ensures)
+    (c .before .before .before .before .before .before .before .before .before .before .before .before .before .before .before .before .before .before .before .last-block-end .ensures)
     (c .before .before .before .before .last-event .ensures)
     (c .len .ensures)
-    (c .before .before .before .before .before .before .before .before .before .before .before .before .before .before .before .before .single-bits .ensures)
-    (c .before .before .before .before .before .before .before .before .before .before .before .before .before .before .before .single-bits2 .ensures)
-    (c .before .before .before .before .before .before .before .before .before .before .before .before .before .before .single-bits3 .ensures)
-    (c .before .before .before .before .before .before .before .before .before .before .before .before .rate-word .ensures)
+    (c .before .before .before .before .before .before .before .before .before .before .before .before .before .before .before .before .before .before .single-bits .ensures)
+    (c .before .before .before .before .before .before .before .before .before .before .before .before .before .before .before .before .before .single-bits2 .ensures)
+    (c .before .before .before .before .before .before .before .before .before .before .before .before .before .before .before .before .single-bits3 .ensures)
+    (c .before .before .before .before .before .before .before .before .before .before .before .before .before .before .rate-word .ensures)
+    (c .before .before .before .before .before .before .before .before .before .before .before .before .edition-word .ensures)
     (c .before .before .before .before .before .before .before .before .before .before .single-bits4 .ensures)
     (c .before .before .before .before .before .before .before .before .before .flag-of .ensures)
     (c .before .before .before .before .before .before .before .before .time-bits .ensures)
@@ -138,20 +149,23 @@ put-head-spec =
     automation-rate-requires
     rate-word-requires
     slice-write-state-5
+    edition-requires
+    edition-word-requires
+    slice-write-state-6
     intrinsic-value-requires
     single-bits-requires-4
-    slice-write-state-6
-    flag-of-requires
     slice-write-state-7
-    time-bits-requires
+    flag-of-requires
     slice-write-state-8
-    flag-of-requires-2
+    time-bits-requires
     slice-write-state-9
-    time-bits-requires-2
+    flag-of-requires-2
     slice-write-state-10
+    time-bits-requires-2
+    slice-write-state-11
     last-event-requires
     put-last-requires
     len-requires
-    slice-write-state-11
+    slice-write-state-12
     same-length
     returns)

@@ -7,13 +7,13 @@ use Rattle.desk.proofs.make.Reads as reads
 use Rattle.desk.proofs.make.Lts as lts
 use Rattle.desk.proofs.clear.Reads as clear-reads
 use Rattle.desk.proofs.told.Reads as told-reads
-use Rattle.param.proofs.AudioParam.new.Reads as new-reads
+use Rattle.param.proofs.AudioParam.with_edition.Reads as with-edition-reads
 
 clear-requires : tie.Need-clear-requires
 clear-requires c κs = search needs
 
-new-requires : tie.Need-new-requires
-new-requires c κs = search needs
+with-edition-requires : tie.Need-with-edition-requires
+with-edition-requires c κs = search needs
 
 none-requires : tie.Need-none-requires
 none-requires c κs = search needs
@@ -29,10 +29,10 @@ same-length-2 c = search needs
 
 returns : tie.Need-returns
 returns c =
-    made-spoken _ _ _ _ _ _ _ _ _ (c .before .before .before .before .before .before .before .before .before .before .before .before .pre .0) (c .before .before .before .before .before .before .before .before .clear .ensures) (c .before .before .before .before .before .new .ensures)
+    made-spoken _ _ _ _ _ _ _ _ _ _ (c .before .before .before .before .before .before .before .before .before .before .before .before .pre .0) (c .before .before .before .before .before .before .before .before .clear .ensures) (c .before .before .before .before .before .with-edition .ensures)
     (rw (c .before .before .before .before .none .ensures) at (c .before .before .told .ensures))
 
 pub make-spec : {M : Type 1} → statement M
 make-spec =
     tie.close
-    (tie.spec clear-requires new-requires none-requires told-requires same-length same-length-2 returns)
+    (tie.spec clear-requires with-edition-requires none-requires told-requires same-length same-length-2 returns)

@@ -40,6 +40,9 @@ enum-told-11 c = search needs
 enum-told-12 : tie.Need-enum-told-12
 enum-told-12 c = search needs
 
+enum-told-13 : tie.Need-enum-told-13
+enum-told-13 c = search needs
+
 returns : tie.Need-returns
 unfolding numberOf
 returns c = search needs
@@ -88,6 +91,10 @@ returns-12 : tie.Need-returns-12
 unfolding numberOf
 returns-12 c = search needs
 
+returns-13 : tie.Need-returns-13
+unfolding numberOf
+returns-13 c = search needs
+
 pub number-of-spec : {M : Type 1} → statement M
 number-of-spec =
     tie.close
@@ -104,6 +111,7 @@ number-of-spec =
     enum-told-10
     enum-told-11
     enum-told-12
+    enum-told-13
     returns
     returns-2
     returns-3
@@ -115,4 +123,5 @@ number-of-spec =
     returns-9
     returns-10
     returns-11
-    returns-12)
+    returns-12
+    returns-13)

@@ -83,6 +83,12 @@ slice-aggregate-put-word-12 c = search needs
 put-word-requires-12 : tie.Need-put-word-requires-12
 put-word-requires-12 c κs = search needs
 
+slice-aggregate-put-word-13 : tie.Need-slice-aggregate-put-word-13
+slice-aggregate-put-word-13 c = search needs
+
+put-word-requires-13 : tie.Need-put-word-requires-13
+put-word-requires-13 c κs = search needs
+
 same-length : tie.Need-same-length
 same-length c = search needs
 
@@ -179,10 +185,18 @@ unfolding table meaningIn
 returns-12 c =
     (put-same (sym (ap (meaningIn table) (c .before .before .before .before .before .match .keys12))) (c .before .before .put-word12 .ensures), omega (arith, c .before .before .put-word12 .ensures .place))
 
+same-length-13 : tie.Need-same-length-13
+same-length-13 c = search needs
+
 returns-13 : tie.Need-returns-13
+unfolding table meaningIn
 returns-13 c =
+    (put-same (sym (ap (meaningIn table) (c .before .before .before .before .before .match .keys13))) (c .before .before .put-word13 .ensures), omega (arith, c .before .before .put-word13 .ensures .place))
+
+returns-14 : tie.Need-returns-14
+returns-14 c =
     let r = c .match .rest in
-    (put-same (sym (no-meaning _ (r .0 .0 .0 .0 .0 .0 .0 .0 .0 .0 .0 .1) (r .0 .0 .0 .0 .0 .0 .0 .0 .0 .0 .1) (r .0 .0 .0 .0 .0 .0 .0 .0 .0 .1) (r .0 .0 .0 .0 .0 .0 .0 .0 .1) (r .0 .0 .0 .0 .0 .0 .0 .1) (r .0 .0 .0 .0 .0 .0 .1) (r .0 .0 .0 .0 .0 .1) (r .0 .0 .0 .0 .1) (r .0 .0 .0 .1) (r .0 .0 .1) (r .0 .1) (r .1))) (put-nothing _ _), omega arith)
+    (put-same (sym (no-meaning _ (r .0 .0 .0 .0 .0 .0 .0 .0 .0 .0 .0 .0 .1) (r .0 .0 .0 .0 .0 .0 .0 .0 .0 .0 .0 .1) (r .0 .0 .0 .0 .0 .0 .0 .0 .0 .0 .1) (r .0 .0 .0 .0 .0 .0 .0 .0 .0 .1) (r .0 .0 .0 .0 .0 .0 .0 .0 .1) (r .0 .0 .0 .0 .0 .0 .0 .1) (r .0 .0 .0 .0 .0 .0 .1) (r .0 .0 .0 .0 .0 .1) (r .0 .0 .0 .0 .1) (r .0 .0 .0 .1) (r .0 .0 .1) (r .0 .1) (r .1))) (put-nothing _ _), omega arith)
 
 pub put-meaning-spec : {M : Type 1} → statement M
 put-meaning-spec =
@@ -212,6 +226,8 @@ put-meaning-spec =
     put-word-requires-11
     slice-aggregate-put-word-12
     put-word-requires-12
+    slice-aggregate-put-word-13
+    put-word-requires-13
     same-length
     returns
     same-length-2
@@ -236,4 +252,6 @@ put-meaning-spec =
     returns-11
     same-length-12
     returns-12
-    returns-13)
+    same-length-13
+    returns-13
+    returns-14)

@@ -18,9 +18,6 @@ slice-aggregate-same c = search needs
 same-requires : tie.Need-same-requires
 same-requires c κs = search needs
 
-two-kinds-requires : tie.Need-two-kinds-requires
-two-kinds-requires c κs = search needs
-
 left-1 : (c : tie.Else1) → formIn rows (c .before .before .before .before .args .word .now) ≡ formIn (drop 1 rows) (c .before .before .before .before .args .word .now)
 unfolding rows scheduling
 left-1 c = row-not _ _ _ _ (sym (c .before .same .ensures) ∙ c .if1 .left)
@@ -47,7 +44,7 @@ left-6 c = left-5 (c .before .before .before) ∙ row-not _ _ _ _ (sym (c .befor
 
 returns : tie.Need-returns
 unfolding rows scheduling
-returns c = c .two-kinds .ensures ∙ sym (row-is _ _ _ _ (sym (c .before .before .same .ensures) ∙ c .before .if1 .taken))
+returns c = sym (row-is _ _ _ _ (sym (c .before .same .ensures) ∙ c .if1 .taken))
 
 slice-aggregate-same-2 : tie.Need-slice-aggregate-same-2
 slice-aggregate-same-2 c = search needs
@@ -65,12 +62,12 @@ slice-aggregate-same-3 c = search needs
 same-requires-3 : tie.Need-same-requires-3
 same-requires-3 c κs = search needs
 
-two-kinds-requires-2 : tie.Need-two-kinds-requires-2
-two-kinds-requires-2 c κs = search needs
+two-kinds-requires : tie.Need-two-kinds-requires
+two-kinds-requires c κs = search needs
 
 returns-3 : tie.Need-returns-3
 unfolding rows scheduling
-returns-3 c = c .two-kinds2 .ensures ∙ sym (left-2 (c .before .before .before .before) ∙ row-is _ _ _ _ (sym (c .before .before .same3 .ensures) ∙ c .before .if3 .taken))
+returns-3 c = c .two-kinds .ensures ∙ sym (left-2 (c .before .before .before .before) ∙ row-is _ _ _ _ (sym (c .before .before .same3 .ensures) ∙ c .before .if3 .taken))
 
 slice-aggregate-same-4 : tie.Need-slice-aggregate-same-4
 slice-aggregate-same-4 c = search needs
@@ -78,12 +75,12 @@ slice-aggregate-same-4 c = search needs
 same-requires-4 : tie.Need-same-requires-4
 same-requires-4 c κs = search needs
 
-two-kinds-requires-3 : tie.Need-two-kinds-requires-3
-two-kinds-requires-3 c κs = search needs
+two-kinds-requires-2 : tie.Need-two-kinds-requires-2
+two-kinds-requires-2 c κs = search needs
 
 returns-4 : tie.Need-returns-4
 unfolding rows scheduling
-returns-4 c = c .two-kinds3 .ensures ∙ sym (left-3 (c .before .before .before .before) ∙ row-is _ _ _ _ (sym (c .before .before .same4 .ensures) ∙ c .before .if4 .taken))
+returns-4 c = c .two-kinds2 .ensures ∙ sym (left-3 (c .before .before .before .before) ∙ row-is _ _ _ _ (sym (c .before .before .same4 .ensures) ∙ c .before .if4 .taken))
 
 slice-aggregate-same-5 : tie.Need-slice-aggregate-same-5
 slice-aggregate-same-5 c = search needs
@@ -91,12 +88,12 @@ slice-aggregate-same-5 c = search needs
 same-requires-5 : tie.Need-same-requires-5
 same-requires-5 c κs = search needs
 
-two-kinds-requires-4 : tie.Need-two-kinds-requires-4
-two-kinds-requires-4 c κs = search needs
+two-kinds-requires-3 : tie.Need-two-kinds-requires-3
+two-kinds-requires-3 c κs = search needs
 
 returns-5 : tie.Need-returns-5
 unfolding rows scheduling
-returns-5 c = c .two-kinds4 .ensures ∙ sym (left-4 (c .before .before .before .before) ∙ row-is _ _ _ _ (sym (c .before .before .same5 .ensures) ∙ c .before .if5 .taken))
+returns-5 c = c .two-kinds3 .ensures ∙ sym (left-4 (c .before .before .before .before) ∙ row-is _ _ _ _ (sym (c .before .before .same5 .ensures) ∙ c .before .if5 .taken))
 
 slice-aggregate-same-6 : tie.Need-slice-aggregate-same-6
 slice-aggregate-same-6 c = search needs
@@ -104,12 +101,12 @@ slice-aggregate-same-6 c = search needs
 same-requires-6 : tie.Need-same-requires-6
 same-requires-6 c κs = search needs
 
-two-kinds-requires-5 : tie.Need-two-kinds-requires-5
-two-kinds-requires-5 c κs = search needs
+two-kinds-requires-4 : tie.Need-two-kinds-requires-4
+two-kinds-requires-4 c κs = search needs
 
 returns-6 : tie.Need-returns-6
 unfolding rows scheduling
-returns-6 c = c .two-kinds5 .ensures ∙ sym (left-5 (c .before .before .before .before) ∙ row-is _ _ _ _ (sym (c .before .before .same6 .ensures) ∙ c .before .if6 .taken))
+returns-6 c = c .two-kinds4 .ensures ∙ sym (left-5 (c .before .before .before .before) ∙ row-is _ _ _ _ (sym (c .before .before .same6 .ensures) ∙ c .before .if6 .taken))
 
 scheduling-form-requires : tie.Need-scheduling-form-requires
 scheduling-form-requires c κs = search needs
@@ -124,26 +121,25 @@ form-of-spec =
     (tie.spec
     slice-aggregate-same
     same-requires
-    two-kinds-requires
     returns
     slice-aggregate-same-2
     same-requires-2
     returns-2
     slice-aggregate-same-3
     same-requires-3
-    two-kinds-requires-2
+    two-kinds-requires
     returns-3
     slice-aggregate-same-4
     same-requires-4
-    two-kinds-requires-3
+    two-kinds-requires-2
     returns-4
     slice-aggregate-same-5
     same-requires-5
-    two-kinds-requires-4
+    two-kinds-requires-3
     returns-5
     slice-aggregate-same-6
     same-requires-6
-    two-kinds-requires-5
+    two-kinds-requires-4
     returns-6
     scheduling-form-requires
     returns-7)

@@ -11,6 +11,7 @@ use Rattle.wording.proofs.put_tail.Reads as reads
 use Rattle.wording.proofs.put_tail.Lts as lts
 use Rattle.wording.proofs.put_block.Reads as put-block-reads
 use Rattle.wording.proofs.put_fields.Reads as put-fields-reads
+use Rattle.wording.proofs.put_made.Reads as put-made-reads
 use Rattle.wording.proofs.put_numbers.Reads as put-numbers-reads
 
 enum-known-tail : tie.Need-enum-known-tail
@@ -30,6 +31,12 @@ enum-told-2 c = search needs
 
 put-block-requires : tie.Need-put-block-requires
 put-block-requires c κs = search needs
+
+enum-told-3 : tie.Need-enum-told-3
+enum-told-3 c = search needs
+
+put-made-requires : tie.Need-put-made-requires
+put-made-requires c κs = search needs
 
 same-length : tie.Need-same-length
 same-length c = search needs
@@ -64,6 +71,17 @@ returns-3 c =
       c .before .before .put-block .ensures .1,
     )
 
+same-length-4 : tie.Need-same-length-4
+same-length-4 c = search needs
+
+returns-4 : tie.Need-returns-4
+unfolding tailOf
+returns-4 c =
+    let s = c .before .before .before .before .before .before .before .before in (
+      ran-same _ _ _ _ _ (ap (λ (t : Tail). tailOf t (wordsAt (s .args .line .now) (s .args .from))) (sym (c .before .before .before .before .enum-told3 .given .1))) (c .before .before .put-made .ensures .0),
+      c .before .before .put-made .ensures .1,
+    )
+
 pub put-tail-spec : {M : Type 1} → statement M
 put-tail-spec =
     tie.close
@@ -74,9 +92,13 @@ put-tail-spec =
     put-numbers-requires
     enum-told-2
     put-block-requires
+    enum-told-3
+    put-made-requires
     same-length
     returns
     same-length-2
     returns-2
     same-length-3
-    returns-3)
+    returns-3
+    same-length-4
+    returns-4)

@@ -9,7 +9,7 @@ use Rattle.param.proofs.AudioParam.from_parts.Statement.{statement}
 use Rattle.param.proofs.AudioParam.from_parts.Tie as tie
 
 abbrev parts : tie.Start → AudioParam
-parts c = let a = c .args in partsOf (a .bounds) (a .rate) (a .intrinsic) (a .timeline) (a .block) (a .end) (a .last)
+parts c = let a = c .args in partsOf (a .bounds) (a .rate) (a .edition) (a .intrinsic) (a .timeline) (a .block) (a .end) (a .last)
 
 refused-requires : tie.Need-refused-requires
 refused-requires c κs = search needs

@@ -15,6 +15,7 @@ use Rattle.param.proofs.AudioParam.process.Tie as tie
 use Rattle.param.proofs.AudioParam.process.Reads as reads
 use Rattle.param.proofs.AudioParam.process.Lts as lts
 use Rattle.block.proofs.infos_of.Reads as infos-of-reads
+use Rattle.param.proofs.ceiling_of.Reads as ceiling-of-reads
 use Rattle.param.proofs.AudioParam.leaving.Reads as leaving-reads
 use Rattle.param.proofs.AudioParam.play.Reads as play-reads
 use Rattle.param.proofs.AudioParam.refused_block.Reads as refused-block-reads
@@ -31,49 +32,46 @@ abbrev store : tie.Start → List Float
 store start = now (start .args .store)
 
 verdict : (c : tie.After-verdict)
-    → let start = c .before .before .before .before in
+    → let start = c .before .before .before .before .before in
     c .verdict .result ≡ verdictOf (paramOf (start .args .self)) (store start) (call start)
 unfolding verdictOf
-verdict c = c .verdict .ensures _ _ _ refl refl refl
+verdict c = rw (← c .before .ceiling-of .ensures) (c .verdict .ensures _ _ _ refl refl refl)
 
--- src/process.rt:186:13
+ceiling-of-requires : tie.Need-ceiling-of-requires
+ceiling-of-requires c κs = search needs
+
 verdict-requires : tie.Need-verdict-requires
 verdict-requires c κs = search needs
 
 enum-told : tie.Need-enum-told
 enum-told c = search needs
 
--- src/process.rt:197:13
 enum-told-2 : tie.Need-enum-told-2
 enum-told-2 c = search needs
 
--- src/process.rt:197:13
 refused-block-requires : tie.Need-refused-block-requires
 refused-block-requires c κs = search needs
 
--- src/process.rt:197:13
 returns : tie.Need-returns
 returns c =
     let told = c .before in
-    let start = told .before .before .before .before .before .before in
+    let start = told .before .before .before .before .before .before .before in
     refuses (start .args .self) (store start) (call start) (start .pre) (verdict (told .before .before)) (told .enum-told2 .given .1) (c .refused-block .ensures)
 
--- src/process.rt:200:13
 infos-of-requires : tie.Need-infos-of-requires
 infos-of-requires c κs =
-    let start = c .before .before .before .before .before .before in
+    let start = c .before .before .before .before .before .before .before in
     omega (arith, few (start .args .self) (store start) (call start) (start .pre) (verdict (c .before .before)) (c .enum-told .given .1))
 
 -- what an answered block leans on
 fits : (c : tie.After-infos-of)
-    → let start = c .before .before .before .before .before .before .before in
+    → let start = c .before .before .before .before .before .before .before .before in
     Playable (start .args .self) (c .infos-of .result) (now (start .args .input)) (now (start .args .output)) (store start)
 fits c =
     let told = c .before in
-    let start = told .before .before .before .before .before .before in
+    let start = told .before .before .before .before .before .before .before in
     playable (start .args .self) (store start) (call start) (start .pre) (verdict (told .before .before)) (told .enum-told .given .1) (c .infos-of .ensures _ _)
 
--- src/process.rt:201:13
 play-requires : tie.Need-play-requires
 play-requires c κs = fits (c .before .before)
 
@@ -86,7 +84,7 @@ begun c = c .before .before .before
 staying-requires : tie.Need-staying-requires
 staying-requires c κs =
     let infos = begun (played (c .before .before)) in
-    let start = infos .before .before .before .before .before .before .before in
+    let start = infos .before .before .before .before .before .before .before .before in
     (start .pre .neat, fits infos .room, c .before .if1 .taken)
 
 same-length : tie.Need-same-length
@@ -100,13 +98,13 @@ returns-2 c =
     let done = played (c .before .before .before .before .before) in
     let infos = begun done in
     let told = infos .before in
-    let start = told .before .before .before .before .before .before in
+    let start = told .before .before .before .before .before .before .before in
     plays (start .args .self) (store start) (call start) (start .pre) (verdict (told .before .before)) (told .enum-told .given .1) (infos .infos-of .ensures _ _) (done .play .ensures) (c .before .before .staying .ensures)
 
 leaving-requires : tie.Need-leaving-requires
 leaving-requires c κs =
     let infos = begun (played (c .before .before)) in
-    let start = infos .before .before .before .before .before .before .before in
+    let start = infos .before .before .before .before .before .before .before .before in
     (start .pre .neat, fits infos .room)
 
 same-length-3 : tie.Need-same-length-3
@@ -120,13 +118,14 @@ returns-3 c =
     let done = played (c .before .before .before .before .before) in
     let infos = begun done in
     let told = infos .before in
-    let start = told .before .before .before .before .before .before in
+    let start = told .before .before .before .before .before .before .before in
     plays (start .args .self) (store start) (call start) (start .pre) (verdict (told .before .before)) (told .enum-told .given .1) (infos .infos-of .ensures _ _) (done .play .ensures) (c .before .before .leaving .ensures)
 
 pub process-spec : {M : Type 1} → statement M
 process-spec =
     tie.close
     (tie.spec
+    ceiling-of-requires
     verdict-requires
     enum-told
     enum-told-2
