@@ -1,6 +1,6 @@
 //! Nanoseconds a block: the port by value, by tick and by its exported call, beside the Rust at default flags and at
-//! target-cpu=native, in one run, interleaved, the best of several rounds; what of it a step and a sample take; and blocks
-//! of up to 1,024 under the second edition. speed/run builds it.
+//! target-cpu=native, in one run, interleaved, the best of several rounds; what of it a step and a sample take; blocks
+//! of up to 1,024 under the second edition; and blocks by the plain renderer. speed/run builds it.
 
 use crackledray::{raw, Edition};
 use std::hint::black_box;
@@ -20,6 +20,12 @@ const USED: [&str; 7] = ["steps", "ramps", "exponentials", "targets", "curves", 
 const LONG_KINDS: [&str; 6] = ["constant", "linear", "exponential", "target", "curve", "steps"];
 const LONG_COUNTS: [usize; 4] = [128, 256, 512, 1024];
 const LONG_WAYS: [&str; 4] = ["rust", "value", "tick", "exported"];
+/// The same of the plain renderer; a count above 128 is of the second edition.
+const PLAIN_KINDS: [&str; 3] = ["linear", "target", "steps"];
+const PLAIN_COUNTS: [usize; 4] = [1, 16, 128, 1024];
+const PLAIN_WAYS: [&str; 3] = ["rust", "value", "plain"];
+/// How many blocks of an event that goes on are played there.
+const PLAIN_BLOCKS: usize = 256;
 /// How many samples of an event that goes on are played, whatever the count: 4,000 blocks of 128.
 const SAMPLES: usize = 512_000;
 /// How many events can wait.
@@ -33,7 +39,7 @@ const BETWEEN: usize = 1000;
 /// Words of 64 bits in a parameter (`AudioParam`, 3,160 bytes).
 const PARAMETER: usize = 395;
 
-/// Blocks in a loop of the port's own: `by_value` and `speed_tick`.
+/// Blocks in a loop of the port's own: `by_value`, `speed_tick` and `speed_plain`.
 type Loop = unsafe extern "C" fn(
     *const u64,
     usize,
@@ -84,6 +90,22 @@ extern "C" {
         stores: usize,
     ) -> usize;
     fn speed_tick(
+        state: *const u64,
+        states: usize,
+        time: f64,
+        period: f64,
+        count: usize,
+        advance: f64,
+        again: bool,
+        blocks: usize,
+        input: *const f32,
+        inputs: usize,
+        output: *mut f32,
+        outputs: usize,
+        store: *mut f32,
+        stores: usize,
+    ) -> usize;
+    fn speed_plain(
         state: *const u64,
         states: usize,
         time: f64,
@@ -294,8 +316,8 @@ fn schedule(kind: &str, p: &mut impl Takes, from: f64, count: usize) {
             p.curve(&numbers, 0.0, hour);
         }
         "steps" => {
-            let apart = count / EVENTS;
-            (0..EVENTS).for_each(|i| p.step(i as f32, (apart * i) as f64 * PERIOD))
+            let place = |i: usize| i * count / EVENTS;
+            (0..EVENTS).for_each(|i| p.step(i as f32, place(i) as f64 * PERIOD))
         }
         "ramps" => (0..EVENTS).for_each(|i| p.linear((i % 5) as f32, (2 * i + 1) as f64 * PERIOD)),
         "session" => (0..EVENTS).for_each(|i| p.step(i as f32, near(2 * i, i))),
@@ -365,6 +387,12 @@ impl Bench {
     /// Blocks of so many samples under the second edition.
     fn long(kind: &'static str, count: usize) -> Self {
         Bench { edition: Edition::Second, count, ..Bench::of(kind, SAMPLES / count) }
+    }
+
+    /// Blocks for the plain renderer, under the first edition that has them.
+    fn plain(kind: &'static str, count: usize) -> Self {
+        let edition = if count <= 128 { Edition::First } else { Edition::Second };
+        Bench { edition, count, ..Bench::of(kind, PLAIN_BLOCKS) }
     }
 
     /// The time of the first block of the parameter made ready as the i-th.
@@ -437,6 +465,7 @@ impl Bench {
                 samples,
             ),
             "value" => self.inside(by_value),
+            "plain" => self.inside(speed_plain),
             _ => self.inside(speed_tick),
         }
     }
@@ -639,6 +668,29 @@ fn long(rounds: usize) {
     }
 }
 
+/// The fourth table: the plain renderer, by kind and count, beside the Rust and `process`, whose very samples it must play.
+fn plain(rounds: usize) {
+    println!("The plain renderer: nanoseconds a block of n samples, above 128 under the second edition.");
+    println!(
+        "{:12} {:>5} {:>9} {:>9} {:>12} {:>9}   plain/value  plain/rust",
+        "kind", "n", "rust", "value", "plain", "plain/n"
+    );
+    for kind in PLAIN_KINDS {
+        for count in PLAIN_COUNTS {
+            let bench = Bench::plain(kind, count);
+            let bits = |way| bench.way(way).samples.into_iter().map(f32::to_bits).collect::<Vec<_>>();
+            assert_eq!(bits("plain"), bits("value"), "{kind}");
+            let [r, v, p] = best(&bench, PLAIN_WAYS, rounds);
+            let each = p / count as f64;
+            println!(
+                "{kind:12} {count:5} {r:9.1} {v:9.1} {p:12.1} {each:9.1}   {:11.1} {:11.1}",
+                p / v,
+                p / r
+            );
+        }
+    }
+}
+
 fn head(rounds: usize) {
     println!("Nanoseconds a block of 128 samples (short: 64), sample period 1/48000 s, silence; best of {rounds} rounds, interleaved.");
     println!("Machine: {}. Nobody clears a buffer between blocks: the output is written over, in the port and in the Rust;", std::env::consts::ARCH);
@@ -668,6 +720,8 @@ fn main() {
     costs(&rows);
     println!();
     long(rounds);
+    println!();
+    plain(rounds);
     println!();
     for row in rows {
         for (way, ns) in WAYS[2..].iter().zip(row.ours()) {

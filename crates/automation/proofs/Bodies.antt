@@ -22,10 +22,11 @@ use Rattle.rules.specs.Queue.{Waiting, alone, holdOr}
 use Rattle.rules.specs.Walk as Rules
 use Rattle.rules.specs.Walk.{lastOr, startOf, stepTime, stepTurn, stepFrom, spanTurn, fill, withValues, valueAtEnd, linearTurn, exponentialTurn, fromStart, targetTurn, targetRun, targetLeft, endByNext, endByHold, snaps, curveTurn}
 use Rattle.laws.proofs.Walks.{end-most}
+use Rattle.timeline.specs.Heads.{waitingAs}
 use Rattle.fills.specs.Filled.{Room, Filled, Flushed}
 use Rattle.automation.specs.declared.Walk.{Walk}
 use Rattle.automation.specs.declared.Turn.{Turn}
-use Rattle.automation.specs.Walks.{walkIs, waitingAs, turnAs, Ready, Turns, withFilled, withIntrinsic, withLast, turnedToStep, consumedWith, stoppedWith, wentOnWith}
+use Rattle.automation.specs.Walks.{walkIs, turnAs, Ready, Turns, withFilled, withIntrinsic, withLast, turnedToStep, consumedWith, stoppedWith, wentOnWith}
 
 -- room for a fill up to an end place
 pub ready-room : {f : BlockInfos} {w : Walk} {b : List Float} → Ready f w b → (t : Float) {n : ℕ} → n ≡ endPlace f t → Room (w .filled) n b

@@ -4,77 +4,34 @@ use mathlib.Core.List.{List, [], _∷_}
 use Prim.Native.Nat.{ℕ, _+_, _-_, _*_, _≤_, _<_, _^_}
 use native.Mathlib.Numerals.{add-one}
 use native.Mathlib.Omega.{arith}
-use lib.ListN.{length, take, drop, set, length-drop, length-set}
-use lib.Seq.{length-take-le, take-suc-set, drop-drop}
+use lib.ListN.{length, take, drop, set, length-set}
+use lib.Seq.{take-suc-set}
 use lib.Ieee.{Float}
-use borrow.Author.Tests.{leb-true}
 use Rattle.rules.specs.declared.AutomationRate.the-variants as Rate
-use Rattle.rules.specs.declared.MaybeTime.{MaybeTime}
 use Rattle.rules.specs.declared.Event.{Event}
-use Rattle.rules.specs.declared.Event.the-variants as Event
 use Rattle.rules.specs.declared.Head.{Head}
 use Rattle.rules.specs.declared.Head.the-variants as Head
 use Rattle.rules.specs.declared.LastEvent.{LastEvent}
 use Rattle.rules.specs.declared.BlockInfos.{BlockInfos}
-use Rattle.rules.specs.Numbers.{storeLength}
 use Rattle.rules.specs.Queue.{Waiting, headOf, lengthOf, lengthsOf, attached}
 use Rattle.rules.specs.Walk as Rules
-use Rattle.rules.specs.Walk.{on, turn, turnOf, walked, ended, counted, withLast, withTurned, withValues, withIntrinsic, fill, consumed}
+use Rattle.rules.specs.Walk.{on, turn, turnOf, walked, ended, counted, withValues, fill}
 use Rattle.rules.specs.Block.{walkFrom, valuesBefore}
-use Rattle.laws.specs.Sound.{isClear, SoundQueue}
-use Rattle.laws.proofs.Clear.{all-parts, all-drop, curve-parts}
-use Rattle.laws.proofs.Events.{lengths-split}
-use Rattle.laws.proofs.Store.{attached-drop, no-numbers}
-use Rattle.laws.proofs.Walks as Carried
-use Rattle.laws.proofs.Walks.{Any, any-timed, all-any, head-timed, goes, Carries, turn-carries}
+use Rattle.laws.specs.Sound.{SoundQueue}
+use Rattle.laws.proofs.Counts.{head-counts}
 use Rattle.laws.proofs.Shapes.{walk-empty, walk-stops, walk-goes-on}
 use Rattle.timeline.specs.declared.AudioParamEventTimeline.{AudioParamEventTimeline}
 use Rattle.timeline.specs.Timeline.{waiting, firstOf}
+use Rattle.timeline.specs.Heads.{waitingAs, numbersAt, Numbered, withHead}
+use Rattle.timeline.proofs.Heads.{lent, lent-is, none-waits, waits-here, past-is, behind-is, inside as place-inside, past-most as numbers-most, numbered as numbered-there}
 use Rattle.fills.specs.Filled.{Room, Filled}
 use Rattle.automation.specs.declared.Walk.{Walk}
 use Rattle.automation.specs.declared.Walked.{Walked}
 use Rattle.automation.specs.declared.Turn.{Turn}
 use Rattle.automation.specs.declared.Go.{Go}
 use Rattle.automation.specs.declared.Go.the-variants as Go
-use Rattle.automation.specs.Walks.{walkIs, waitingAs, turnAs, withFilled, countedOnce, Ready, Turns}
-use Rattle.automation.specs.Walked.{numbersAt, Numbered, Begins, Ends, Walkable, withHead, Walks}
-
--- ---- a queue taken apart at a place
-
--- what code reads as the head is the rules' head
-pub head-attached : (es : List Event) (store : List Float) → headOf (attached es store) ≡ firstOf es
-unfolding headOf attached firstOf
-head-attached [] store = refl
-head-attached (e ∷ es) store = refl
-
-first-here : (es : List Event) (e : Event) → firstOf es ≡ Head.Event e → es ≡ e ∷ drop 1 es
-unfolding firstOf
-first-here [] e h = let z : _≡_ {A = ℕ} 0 1 = cc in absurd (omega arith)
-first-here (x ∷ es) e h = let g : x ≡ e = cc in rw g
-
-first-none : (es : List Event) → firstOf es ≡ Head.Empty → es ≡ []
-unfolding firstOf
-first-none [] h = refl
-first-none (x ∷ es) h = let z : _≡_ {A = ℕ} 0 1 = cc in absurd (omega arith)
-
--- an event that is no curve has no numbers
-pub bare : {e : Event} {xs : List Float} → Numbered e xs → (d : Event) → e ≡ d → lengthOf d ≡ 0 → xs ≡ []
-bare {e} {xs} n d is z = no-numbers xs (n .fits ∙ ap lengthOf is ∙ z)
-
--- a curve has as many as it says, and at least 2
-module _ {e : Event} {xs : List Float} (n : Numbered e xs) {s d : Float} {k : ℕ} {h : MaybeTime} (is : e ≡ Event.Curve s d k h) where
-  curve-size : length xs ≡ k
-  unfolding lengthOf
-  curve-size = n .fits ∙ ap lengthOf is
-
-  pub curve-is : e ≡ Event.Curve s d (length xs) h
-  curve-is = is ∙ ap (λ (m : ℕ). Event.Curve s d m h) (sym curve-size)
-
-  pub curve-enough : 2 ≤ length xs
-  curve-enough = rw curve-size (leb-true 2 k (curve-parts s d k h (sym (ap isClear is) ∙ n .clear) .enough))
-
-  pub curve-few : length xs ≤ storeLength
-  curve-few = rw (n .fits) (n .few)
+use Rattle.automation.specs.Walks.{walkIs, turnAs, withFilled, countedOnce, Ready, Turns}
+use Rattle.automation.specs.Walked.{Begins, Ends, Walkable, Walks}
 
 -- ---- the ends of a walk
 
@@ -93,66 +50,20 @@ pub ends : (f : BlockInfos) (w : Walk) (b : List Float) (at : ℕ) (head : Head)
 unfolding fill withValues
 ends f w b at head g = record { walk = rw (g .values); filled = g .small; whole = g .whole; place = refl; left = refl }
 
--- ---- how much a head adds to the counts
-
-module _ (f : BlockInfos) (a b c : ℕ) where
-  abbrev Before : Rules.Walk → Type 0
-  Before w = (w .steps ≤ a) × (w .finished ≤ b) × (w .turned ≤ c)
-
-  abbrev Taken : Rules.Walk → Type 0
-  Taken w = (w .steps ≤ a + 1) × (w .finished ≤ b) × (w .turned ≤ c)
-
-  abbrev Stayed : Rules.Walk → Type 0
-  Stayed w = (w .steps ≤ a + 2) × (w .finished ≤ b) × (w .turned ≤ c + 1)
-
-  abbrev Gone : Rules.Walk → Type 0
-  Gone w = (w .steps ≤ a + 2) × (w .finished ≤ b + 1) × (w .turned ≤ c + 1)
-
-  counts-carry : Carries f Any Before Taken Stayed Gone
-  unfolding counted withLast withTurned fill withValues withIntrinsic consumed
-  counts-carry =
-      record {
-        takes = λ w h. omega arith;
-        last = λ w h. h;
-        stays = λ w h. omega arith;
-        turns = λ w h. omega arith;
-        fills = λ n sample w l h. h;
-        flushes = λ target w h. h;
-        intrinsic = λ v w h. h;
-        consumes = λ t v w m h. omega arith;
-      }
-
-gone-of : {S : Rules.Walk → Waiting → Type 0} {G : Rules.Walk → Type 0} {v : Rules.Walk} → Carried.Turns S G (on v) → G v
-gone-of (goes g) = g
-
-head-counts : (f : BlockInfos) (w v : Rules.Walk) (x : Waiting) (xs : List Waiting) → turn f w x (headOf xs) ≡ on v
-    → (v .steps ≤ w .steps + 2) × (v .finished ≤ w .finished + 1) × (v .turned ≤ w .turned + 1)
-head-counts f w v x xs e =
-    gone-of
-    (rw e at
-    (turn-carries f Any _ _ _ _ tt (counts-carry f (w .steps) (w .finished) (w .turned)) x (headOf xs) w (any-timed (x .event)) (head-timed Any xs (all-any xs)) (omega arith)))
-
 -- ---- a head, taken
 
 counted-is : (w : Walk) (b : List Float) → walkIs (countedOnce w) b ≡ counted (walkIs w b)
 unfolding counted
 counted-is w b = rw add-one
 
--- its numbers, as code takes them: k of them from the offset on
-abbrev lent : List Float → ℕ → ℕ → List Float
-lent store offset k = take (offset + k - offset) (drop offset store)
-
 module _ (store : List Float) (offset : ℕ) (e : Event) {k : ℕ} (size : k ≡ lengthOf e) where
-  lent-is : lent store offset k ≡ numbersAt store offset e
-  lent-is = let z : offset + k - offset ≡ lengthOf e = omega arith in rw z
-
   pub lent-numbered : Numbered e (numbersAt store offset e) → Numbered e (lent store offset k)
-  lent-numbered n = rw lent-is n
+  lent-numbered n = rw (lent-is store offset e size) n
 
   pub takes-head : (f : BlockInfos) (w : Walk) (b : List Float) (n : Head) {u : Walk} {r : Turn} {c : List Float} → u ≡ countedOnce w → Turns b (lent store offset k) (turnOf f (walkIs u b) (waitingAs e (lent store offset k)) n e) r c
       → Turns b (numbersAt store offset e) (turn f (walkIs w b) (waitingAs e (numbersAt store offset e)) n) r c
   unfolding turn
-  takes-head f w b n taken g = rw (← counted-is w b) (rw (lent-is, taken) at g)
+  takes-head f w b n taken g = rw (← counted-is w b) (rw (lent-is store offset e size, taken) at g)
 
 -- ---- the loop
 
@@ -193,10 +104,9 @@ module _ {f : BlockInfos} {es : List Event} {store : List Float} {w₀ : Rules.W
   -- ---- the queue is empty
 
   pub none-left : head ≡ Head.Empty → {r : Walked} {c : List Float} → Ends f (countedOnce w) b at Head.Empty r c → Walks f w₀ es store b₀ r c
-  unfolding ended withHead attached counted
+  unfolding ended withHead counted
   none-left h {r} {c} d =
-      let z : drop at es ≡ [] = first-none (drop at es) (sym (g .head-is) ∙ h) in
-      let y : drop at ws ≡ [] = sym (attached-drop at es store) ∙ rw z in
+      let y : drop at ws ≡ [] = none-waits es store at (sym (g .head-is) ∙ h) in
       let e : walked f w₀ ws ≡ ended f (counted (walkIs w b)) [] = sym (g .goes-on) ∙ ap (walked f (walkIs w b)) y ∙ walk-empty f (walkIs w b) in
       record {
         walk = rw e (d .walk ∙ ap (fill f (f .count) (λ s. w .intrinsic)) (counted-is w b));
@@ -214,50 +124,34 @@ module _ {f : BlockInfos} {es : List Event} {store : List Float} {w₀ : Rules.W
     abbrev rest : List Waiting
     rest = drop (at + 1) ws
 
-    here : drop at es ≡ e ∷ drop (at + 1) es
-    here = first-here (drop at es) e (sym (g .head-is) ∙ is) ∙ ap (λ (l : List Event). e ∷ l) (drop-drop 1 at es)
+    waits : firstOf (drop at es) ≡ Head.Event e
+    waits = sym (g .head-is) ∙ is
+
+    -- the head stands there, with what is behind it
+    stands : drop at ws ≡ waitingAs e numbers ∷ rest
+    stands = waits-here es store at (g .offset-is) waits
 
     pub inside : at < length es
-    inside = omega (arith, length-drop at es, ap length here)
-
-    past-is : offset + lengthOf e ≡ lengthsOf (take (at + 1) es)
-    unfolding lengthsOf
-    past-is = omega (arith, g .offset-is, lengths-split at es, lengths-split (at + 1) es, ap lengthsOf here)
+    inside = place-inside es store at (g .offset-is) waits
 
     pub past-most : offset + lengthOf e ≤ lengthsOf es
-    past-most = omega (arith, past-is, lengths-split (at + 1) es)
-
-    waits-here : drop at ws ≡ waitingAs e numbers ∷ rest
-    unfolding attached
-    waits-here =
-        sym (attached-drop at es store)
-        ∙ rw (here, ← g .offset-is, drop-drop (lengthOf e) offset store, past-is)
-        (ap (λ (l : List Waiting). waitingAs e numbers ∷ l) (attached-drop (at + 1) es store))
+    past-most = numbers-most es store at (g .offset-is) waits
 
     pub numbered : SoundQueue es → lengthsOf es ≤ length store → Numbered e numbers
-    numbered s l =
-        record {
-          fits = length-take-le (lengthOf e) (drop offset store) (rw (length-drop offset store) (omega (arith, past-most)));
-          few = omega (arith, past-most, s .room);
-          clear = all-parts isClear e _ (rw here at (all-drop isClear at es (s .clear))) .0;
-        }
-
-    -- what is behind it is the rules' next head
-    behind-is : {n : Head} → n ≡ firstOf (drop (at + 1) es) → n ≡ headOf rest
-    behind-is h = h ∙ sym (head-attached (drop (at + 1) es) _) ∙ ap headOf (attached-drop (at + 1) es store)
+    numbered = numbered-there es store at (g .offset-is) waits
 
     module _ {n : Head} (behind : n ≡ firstOf (drop (at + 1) es)) {r : Turn} {c : List Float} (answer : Turns b numbers (turn f (walkIs w b) (waitingAs e numbers) n) r c) where
       turned-as : turnAs (r .go) (r .walk) c (r .head) numbers ≡ turn f (walkIs w b) (waitingAs e numbers) (headOf rest)
-      turned-as = answer .turn ∙ ap (turn f (walkIs w b) (waitingAs e numbers)) (behind-is behind)
+      turned-as = answer .turn ∙ ap (turn f (walkIs w b) (waitingAs e numbers)) (behind-is es store at behind)
 
       pub head-stops : r .go ≡ Go.Stop → {d : Walked} {c' : List Float} → Ends f (r .walk) c at (Head.Event (r .head)) d c' → Walks f w₀ es store b₀ d c'
       unfolding turnAs ended withHead
       head-stops s {d} {c'} h =
           let y : walked f w₀ ws ≡ ended f (walkIs (r .walk) c) (waitingAs (r .head) numbers ∷ rest) =
-          sym (g .goes-on) ∙ ap (walked f (walkIs w b)) waits-here ∙ walk-stops f (walkIs w b) (waitingAs e numbers) rest _ _ (sym (rw s at turned-as)) in
+          sym (g .goes-on) ∙ ap (walked f (walkIs w b)) stands ∙ walk-stops f (walkIs w b) (waitingAs e numbers) rest _ _ (sym (rw s at turned-as)) in
           record {
             walk = rw y (h .walk);
-            queue = rw (y, h .left, h .place, waits-here);
+            queue = rw (y, h .left, h .place, stands);
             filled = h .filled;
             whole = h .whole ∙ answer .whole ∙ g .whole;
           }
@@ -268,7 +162,7 @@ module _ {f : BlockInfos} {es : List Event} {store : List Float} {w₀ : Rules.W
           let q : turn f (walkIs w b) (waitingAs e numbers) (headOf rest) ≡ on (walkIs (r .walk) c) = sym (rw o at turned-as) in
           let m = head-counts f (walkIs w b) (walkIs (r .walk) c) (waitingAs e numbers) rest q in
           record {
-            offset-is = rw size past-is;
+            offset-is = rw size (past-is es store at (g .offset-is) waits);
             head-is = behind;
             filled = answer .filled;
             whole = answer .whole ∙ g .whole;
@@ -276,7 +170,7 @@ module _ {f : BlockInfos} {es : List Event} {store : List Float} {w₀ : Rules.W
             steps = omega (arith, m .0, g .steps);
             finished = omega (arith, m .1, g .finished);
             turned = omega (arith, m .2, g .turned);
-            goes-on = sym (walk-goes-on f (walkIs w b) (waitingAs e numbers) rest _ q) ∙ ap (walked f (walkIs w b)) (sym waits-here) ∙ g .goes-on;
+            goes-on = sym (walk-goes-on f (walkIs w b) (waitingAs e numbers) rest _ q) ∙ ap (walked f (walkIs w b)) (sym stands) ∙ g .goes-on;
           }
 
 -- ---- what the heads' callees ask, with b the buffer as it was lent

@@ -1,36 +1,24 @@
 -- What a walk begins with, what it leans on, and what it leaves.
 use mathlib.Core.Path.{_≡_}
-use mathlib.Core.Bool.{true}
-use mathlib.Core.List.{List, [], _∷_}
+use mathlib.Core.List.{List}
 use Prim.Native.Nat.{ℕ, _≤_, _<_}
-use lib.ListN.{length, take, drop}
+use lib.ListN.{length, drop}
 use lib.Ieee.{Float}
 use Rattle.rules.specs.declared.Event.{Event}
 use Rattle.rules.specs.declared.Head.{Head}
-use Rattle.rules.specs.declared.Head.the-variants as Head
 use Rattle.rules.specs.declared.LastEvent.{LastEvent}
 use Rattle.rules.specs.declared.BlockInfos.{BlockInfos}
-use Rattle.rules.specs.Numbers.{storeLength}
-use Rattle.rules.specs.Queue.{Waiting, lengthOf, lengthsOf, attached}
+use Rattle.rules.specs.Queue.{lengthsOf, attached}
 use Rattle.rules.specs.Walk as Rules
 use Rattle.rules.specs.Walk.{fill, walked}
 use Rattle.rules.specs.Block.{walkFrom, valuesBefore}
-use Rattle.laws.specs.Sound.{isClear, SoundQueue}
+use Rattle.laws.specs.Sound.{SoundQueue}
 use Rattle.timeline.specs.declared.AudioParamEventTimeline.{AudioParamEventTimeline}
 use Rattle.timeline.specs.Timeline.{Neat, waiting}
+use Rattle.timeline.specs.Heads.{withHead}
 use Rattle.automation.specs.declared.Walk.{Walk}
 use Rattle.automation.specs.declared.Walked.{Walked}
-use Rattle.automation.specs.Walks.{walkIs, waitingAs}
-
--- the numbers of an event that begin at a place of the store
-abbrev pub numbersAt : List Float → ℕ → Event → List Float
-numbersAt store at e = take (lengthOf e) (drop at store)
-
--- an event with its own numbers, which fit in a store
-pub record Numbered (e : Event) (numbers : List Float) : Type 0 where
-  pub fits : length numbers ≡ lengthOf e
-  pub few : lengthOf e ≤ storeLength
-  pub clear : isClear e ≡ true
+use Rattle.automation.specs.Walks.{walkIs}
 
 -- a walk before its first head, in the buffer c that was b
 pub record Begins (f : BlockInfos) (v : Float) (l : LastEvent) (b : List Float) (w : Walk) (c : List Float) : Type 0 where
@@ -54,12 +42,6 @@ pub record Walkable (f : BlockInfos) (q : AudioParamEventTimeline) (b store : Li
   pub some : 0 < length b
   pub room : f .count ≤ length b
   pub most : length b ≤ 1024
-
--- these events, the first of which has become another, with the numbers that it had
-unfoldable pub withHead : Head → List Waiting → List Waiting
-withHead Head.Empty ws = ws
-withHead (Head.Event e) [] = []
-withHead (Head.Event e) (w ∷ ws) = waitingAs e (w .numbers) ∷ ws
 
 -- What a walk leaves that begins with w, of the events es with their numbers in the store, in the buffer c that was b: the rules' walk, in the places filled; and
 -- their queue, which is what waits behind the heads finished, its first event as it has become.

@@ -8,9 +8,9 @@ use Rattle.rules.specs.declared.Event.{Event}
 use Rattle.rules.specs.declared.BlockInfos.{BlockInfos}
 use Rattle.rules.specs.declared.Finished.{Finished}
 use Rattle.rules.specs.declared.LastEvent.the-variants as LastEvent
-use Rattle.rules.specs.Queue.{Waiting}
 use Rattle.rules.specs.Walk as Rules
 use Rattle.rules.specs.Walk.{stop, on}
+use Rattle.timeline.specs.Heads.{waitingAs}
 use Rattle.automation.specs.declared.Walk.{Walk}
 use Rattle.automation.specs.declared.Go.{Go}
 use Rattle.automation.specs.declared.Go.the-variants as Go
@@ -27,10 +27,6 @@ walkIs w b =
       finished = w .finished;
       turned = w .turned;
     }
-
--- a waiting event, with its numbers
-abbrev pub waitingAs : Event → List Float → Waiting
-waitingAs e numbers = record { event = e; numbers = numbers }
 
 -- a body's answer, with the numbers that its head still has
 unfoldable pub turnAs : Go → Walk → List Float → Event → List Float → Rules.Turn

@@ -21,7 +21,7 @@ use Rattle.block.specs.Asked.{Fitting, Given, mixedIn, written}
 use Rattle.block.proofs.Tests.{fits-whole}
 
 -- the samples are as many as the block has places
-writes : (b : Bounds) (f : BlockInfos) (input vs output : List Float) {ys out : List Float} → out ≡ over ys output
+pub writes : (b : Bounds) (f : BlockInfos) (input vs output : List Float) {ys out : List Float} → out ≡ over ys output
     → ys ≡ mixedAll b (inputs (f .rate) (f .count) input) (spread (f .rate) (f .count) vs) → length ys ≡ f .count → out ≡ written b f input vs output
 unfolding over written
 writes b f input vs output o e l = o ∙ rw (l, e)

@@ -22,7 +22,7 @@ use Rattle.calls.specs.declared.NextNumbers.{NextNumbers}
 use Rattle.calls.specs.declared.NextNumbers.the-variants as NextNumbers
 use Rattle.calls.specs.declared.NextCounted.{NextCounted}
 use Rattle.calls.specs.declared.NextCounted.the-variants as NextCounted
-use Rattle.calls.specs.Language.{withTaken, withCount, andMore, singles, counted, numbersAt, countedAt, Said, plain, heard, Heard}
+use Rattle.calls.specs.Language.{withTaken, withCount, andMore, singles, counted, numbersAt, countedAt, Said, bare, heard, Heard}
 use Rattle.calls.proofs.Fields.{is-taken, not-taken, single-is, single-not}
 
 -- numbers that were read before some others
@@ -83,10 +83,10 @@ heard-with {o} {call} n numbers e = subst (λ (o : Option Said). Heard o call nu
     front (suc n) (x ∷ xs) = ap (λ (ys : List Float). x ∷ ys) (front n xs)
 
 -- a call that has no numbers
-pub heard-plain : (o : Option Call) {call : Call} (numbers : List Float) → call ≡ heard o → Heard (plain o) call numbers
-unfolding Heard heard plain
-heard-plain none numbers e = e
-heard-plain (some c) numbers e = (e, refl)
+pub heard-bare : (o : Option Call) {call : Call} (numbers : List Float) → call ≡ heard o → Heard (bare o) call numbers
+unfolding Heard heard bare
+heard-bare none numbers e = e
+heard-bare (some c) numbers e = (e, refl)
 
 module _ {B : Type 0} (s : List ℕ) (at n : ℕ) (xs : List Float) {r : NextNumbers} (then : List Float → List Word → Option B) (e : numbersAt s xs r ≡ singles n (wordsFrom s at)) where
   pub numbers-are : {next : ℕ} → r ≡ NextNumbers.At next → withTaken (singles n (wordsFrom s at)) then ≡ then xs (wordsFrom s next)

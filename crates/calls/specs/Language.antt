@@ -17,6 +17,8 @@ use Rattle.calls.specs.declared.Timed.{Timed}
 use Rattle.calls.specs.declared.Timed.the-variants as Timed
 use Rattle.calls.specs.declared.Cancelling.{Cancelling}
 use Rattle.calls.specs.declared.Cancelling.the-variants as Cancelling
+use Rattle.calls.specs.declared.Renderer.{Renderer}
+use Rattle.calls.specs.declared.Renderer.the-variants as Renderer
 use Rattle.calls.specs.declared.NextRate.{NextRate}
 use Rattle.calls.specs.declared.NextRate.the-variants as NextRate
 use Rattle.calls.specs.declared.NextNumbers.{NextNumbers}
@@ -123,18 +125,18 @@ curveOf ws =
     withDouble ws (λ t ws. withDouble ws (λ d ws. withCount 5000 ws (λ n ws. withTaken (singles n ws) (λ xs ws.
     ending ws (Call.Curve t d n, xs)))))
 
--- `block T P COUNT OUT IN I1 .. IIN`, "OUT and IN from 0 to 4096; COUNT any u64"
-unfoldable pub blockOf : List Word → Option Said
-blockOf ws =
+-- `block T P COUNT OUT IN I1 .. IIN`, "OUT and IN from 0 to 4096; COUNT any u64"; `plain ..`, "a block by the plain renderer; words .. as for `block`" (02, C-16)
+unfoldable pub blockOf : Renderer → List Word → Option Said
+blockOf by ws =
     withDouble ws (λ t ws. withDouble ws (λ p ws. withCount (2 ^ 64 - 1) ws (λ n ws. withCount 4096 ws (λ o ws. withCount 4096 ws (λ i ws.
-    withTaken (singles i ws) (λ xs ws. ending ws (Call.Block t p n o i, xs)))))))
+    withTaken (singles i ws) (λ xs ws. ending ws (Call.Block by t p n o i, xs)))))))
 
 -- ---- a line
 
 -- a call that has no numbers behind it
-unfoldable pub plain : Option Call → Option Said
-plain none = none
-plain (some c) = some (c, [])
+unfoldable pub bare : Option Call → Option Said
+bare none = none
+bare (some c) = some (c, [])
 
 -- the first word of each call, and what is read behind it
 pub data Row : Type 0 where
@@ -143,19 +145,20 @@ pub data Row : Type 0 where
 -- the calls that change the waiting events: set, step, linear, exponential, target, curve, cancel, hold
 unfoldable pub scheduling : List Row
 scheduling =
-    row (115 ∷ 101 ∷ 116 ∷ []) (λ ws. plain (setOf ws)) ∷ row (115 ∷ 116 ∷ 101 ∷ 112 ∷ []) (λ ws. plain (timed Timed.Step ws))
-    ∷ row (108 ∷ 105 ∷ 110 ∷ 101 ∷ 97 ∷ 114 ∷ []) (λ ws. plain (timed Timed.Linear ws))
-    ∷ row (101 ∷ 120 ∷ 112 ∷ 111 ∷ 110 ∷ 101 ∷ 110 ∷ 116 ∷ 105 ∷ 97 ∷ 108 ∷ []) (λ ws. plain (timed Timed.Exponential ws))
-    ∷ row (116 ∷ 97 ∷ 114 ∷ 103 ∷ 101 ∷ 116 ∷ []) (λ ws. plain (targetOf ws)) ∷ row (99 ∷ 117 ∷ 114 ∷ 118 ∷ 101 ∷ []) curveOf
-    ∷ row (99 ∷ 97 ∷ 110 ∷ 99 ∷ 101 ∷ 108 ∷ []) (λ ws. plain (cancelling Cancelling.Cancel ws))
-    ∷ row (104 ∷ 111 ∷ 108 ∷ 100 ∷ []) (λ ws. plain (cancelling Cancelling.Hold ws)) ∷ []
+    row (115 ∷ 101 ∷ 116 ∷ []) (λ ws. bare (setOf ws)) ∷ row (115 ∷ 116 ∷ 101 ∷ 112 ∷ []) (λ ws. bare (timed Timed.Step ws))
+    ∷ row (108 ∷ 105 ∷ 110 ∷ 101 ∷ 97 ∷ 114 ∷ []) (λ ws. bare (timed Timed.Linear ws))
+    ∷ row (101 ∷ 120 ∷ 112 ∷ 111 ∷ 110 ∷ 101 ∷ 110 ∷ 116 ∷ 105 ∷ 97 ∷ 108 ∷ []) (λ ws. bare (timed Timed.Exponential ws))
+    ∷ row (116 ∷ 97 ∷ 114 ∷ 103 ∷ 101 ∷ 116 ∷ []) (λ ws. bare (targetOf ws)) ∷ row (99 ∷ 117 ∷ 114 ∷ 118 ∷ 101 ∷ []) curveOf
+    ∷ row (99 ∷ 97 ∷ 110 ∷ 99 ∷ 101 ∷ 108 ∷ []) (λ ws. bare (cancelling Cancelling.Cancel ws))
+    ∷ row (104 ∷ 111 ∷ 108 ∷ 100 ∷ []) (λ ws. bare (cancelling Cancelling.Hold ws)) ∷ []
 
--- make, block, lend, poke, state, and these
+-- make, block, plain, lend, poke, state, and these
 unfoldable pub calls : List Row
 calls =
-    row (109 ∷ 97 ∷ 107 ∷ 101 ∷ []) (λ ws. plain (makeOf ws)) ∷ row (98 ∷ 108 ∷ 111 ∷ 99 ∷ 107 ∷ []) blockOf
-    ∷ row (108 ∷ 101 ∷ 110 ∷ 100 ∷ []) (λ ws. plain (lendOf ws)) ∷ row (112 ∷ 111 ∷ 107 ∷ 101 ∷ []) (λ ws. plain (pokeOf ws))
-    ∷ row (115 ∷ 116 ∷ 97 ∷ 116 ∷ 101 ∷ []) (λ ws. plain (stateOf ws)) ∷ scheduling
+    row (109 ∷ 97 ∷ 107 ∷ 101 ∷ []) (λ ws. bare (makeOf ws)) ∷ row (98 ∷ 108 ∷ 111 ∷ 99 ∷ 107 ∷ []) (blockOf Renderer.Fast)
+    ∷ row (112 ∷ 108 ∷ 97 ∷ 105 ∷ 110 ∷ []) (blockOf Renderer.Plain)
+    ∷ row (108 ∷ 101 ∷ 110 ∷ 100 ∷ []) (λ ws. bare (lendOf ws)) ∷ row (112 ∷ 111 ∷ 107 ∷ 101 ∷ []) (λ ws. bare (pokeOf ws))
+    ∷ row (115 ∷ 116 ∷ 97 ∷ 116 ∷ 101 ∷ []) (λ ws. bare (stateOf ws)) ∷ scheduling
 
 unfoldable pub found : List Row → Word → List Word → Option Said
 found [] w ws = none

@@ -58,6 +58,7 @@ pub enum Call {
         time: f64,
     },
     Block {
+        by: Renderer,
         time: f64,
         period: f64,
         count: usize,
@@ -101,6 +102,12 @@ pub enum Timed {
 pub enum Cancelling {
     Cancel,
     Hold,
+}
+
+// By which of the two a block is played; their answers are the same.
+pub enum Renderer {
+    Fast,
+    Plain,
 }
 
 fn next_rate(line: &[u8], at: usize) -> NextRate
@@ -353,9 +360,9 @@ fn read_curve(line: &[u8], at: usize, numbers: &mut [f32]) -> Call
     }
 }
 
-fn read_block(line: &[u8], at: usize, numbers: &mut [f32]) -> Call
+fn read_block(line: &[u8], at: usize, by: Renderer, numbers: &mut [f32]) -> Call
     requires { ⌜ 4096 ≤ length (now numbers) ⌝ }
-    ensures { λ r. ⌜ Heard (blockOf (wordsFrom (now (line .entry)) at)) r (now (numbers .exit)) ⌝ }
+    ensures { λ r. ⌜ Heard (blockOf by (wordsFrom (now (line .entry)) at)) r (now (numbers .exit)) ⌝ }
 {
     let NextDouble::Is { value: time, next } = next_double(line, at) else {
         return Call::Unread;
@@ -382,6 +389,7 @@ fn read_block(line: &[u8], at: usize, numbers: &mut [f32]) -> Call
     };
     if over(line, next) {
         Call::Block {
+            by,
             time,
             period,
             count: count as usize,
@@ -443,7 +451,10 @@ pub fn read_call(line: &[u8], numbers: &mut [f32]) -> Call
         return read_make(line, next);
     }
     if same(word, b"block") {
-        return read_block(line, next, numbers);
+        return read_block(line, next, Renderer::Fast, numbers);
+    }
+    if same(word, b"plain") {
+        return read_block(line, next, Renderer::Plain, numbers);
     }
     if same(word, b"lend") {
         return read_lend(line, next);

@@ -19,7 +19,9 @@ use Rattle.calls.specs.declared.Timed.{Timed}
 use Rattle.calls.specs.declared.Timed.the-variants as Timed
 use Rattle.calls.specs.declared.Cancelling.{Cancelling}
 use Rattle.calls.specs.declared.Cancelling.the-variants as Cancelling
-use Rattle.calls.specs.Language.{withTaken, withSingle, withDouble, withCount, ending, rateIn, andMore, singles, makeOf, setOf, timedAs, timed, targetOf, cancelledAs, cancelling, lendOf, pokeOf, stateOf, Said, curveOf, blockOf, plain, Row, row, scheduling, calls, found, byFirst, callOf, Heard}
+use Rattle.calls.specs.declared.Renderer.{Renderer}
+use Rattle.calls.specs.declared.Renderer.the-variants as Renderer
+use Rattle.calls.specs.Language.{withTaken, withSingle, withDouble, withCount, ending, rateIn, andMore, singles, makeOf, setOf, timedAs, timed, targetOf, cancelledAs, cancelling, lendOf, pokeOf, stateOf, Said, curveOf, blockOf, bare, Row, row, scheduling, calls, found, byFirst, callOf, Heard}
 use Rattle.desk.specs.Desk.{InRange, asked, playing, marks, answerOf, saidTurn}
 
 -- ---- a property of what is read, if anything is
@@ -86,7 +88,7 @@ saidLength (Call.Target v t c) = 0
 saidLength (Call.Curve t d n) = n
 saidLength (Call.Cancel t) = 0
 saidLength (Call.Hold t) = 0
-saidLength (Call.Block t p n o i) = i
+saidLength (Call.Block by t p n o i) = i
 saidLength (Call.Lend n) = 0
 saidLength (Call.Poke i v) = 0
 saidLength Call.State = 0
@@ -95,69 +97,69 @@ saidLength Call.State = 0
 abbrev Fit : Said → Type 0
 Fit s = InRange (s .0) × (saidLength (s .0) ≤ length (s .1))
 
-abbrev Plain : Call → Type 0
-Plain c = Fit (c, [])
+abbrev Bare : Call → Type 0
+Bare c = Fit (c, [])
 
-in-make : (ws : List Word) → In Plain (makeOf ws)
+in-make : (ws : List Word) → In Bare (makeOf ws)
 unfolding makeOf withSingle InRange saidLength
-in-make ws = any Plain _ _ (λ lo ws. any Plain _ _ (λ d ws. any Plain _ _ (λ hi ws. any Plain _ _ (λ r ws. any Plain _ _ (λ n ws. ended Plain ws _ (tt, zero-le))))))
+in-make ws = any Bare _ _ (λ lo ws. any Bare _ _ (λ d ws. any Bare _ _ (λ hi ws. any Bare _ _ (λ r ws. any Bare _ _ (λ n ws. ended Bare ws _ (tt, zero-le))))))
 
-in-set : (ws : List Word) → In Plain (setOf ws)
+in-set : (ws : List Word) → In Bare (setOf ws)
 unfolding setOf withSingle InRange saidLength
-in-set ws = any Plain _ _ (λ v ws. ended Plain ws _ (tt, zero-le))
+in-set ws = any Bare _ _ (λ v ws. ended Bare ws _ (tt, zero-le))
 
-one-timed : (k : Timed) (v t : Float) → Plain (timedAs k v t)
+one-timed : (k : Timed) (v t : Float) → Bare (timedAs k v t)
 unfolding timedAs InRange saidLength
 one-timed Timed.Step v t = (tt, zero-le)
 one-timed Timed.Linear v t = (tt, zero-le)
 one-timed Timed.Exponential v t = (tt, zero-le)
 
-in-timed : (kind : Timed) (ws : List Word) → In Plain (timed kind ws)
+in-timed : (kind : Timed) (ws : List Word) → In Bare (timed kind ws)
 unfolding timed withSingle withDouble
-in-timed kind ws = any Plain _ _ (λ v ws. any Plain _ _ (λ t ws. ended Plain ws _ (one-timed kind v t)))
+in-timed kind ws = any Bare _ _ (λ v ws. any Bare _ _ (λ t ws. ended Bare ws _ (one-timed kind v t)))
 
-in-target : (ws : List Word) → In Plain (targetOf ws)
+in-target : (ws : List Word) → In Bare (targetOf ws)
 unfolding targetOf withSingle withDouble InRange saidLength
-in-target ws = any Plain _ _ (λ v ws. any Plain _ _ (λ t ws. any Plain _ _ (λ c ws. ended Plain ws _ (tt, zero-le))))
+in-target ws = any Bare _ _ (λ v ws. any Bare _ _ (λ t ws. any Bare _ _ (λ c ws. ended Bare ws _ (tt, zero-le))))
 
-one-cancelling : (k : Cancelling) (t : Float) → Plain (cancelledAs k t)
+one-cancelling : (k : Cancelling) (t : Float) → Bare (cancelledAs k t)
 unfolding cancelledAs InRange saidLength
 one-cancelling Cancelling.Cancel t = (tt, zero-le)
 one-cancelling Cancelling.Hold t = (tt, zero-le)
 
-in-cancelling : (kind : Cancelling) (ws : List Word) → In Plain (cancelling kind ws)
+in-cancelling : (kind : Cancelling) (ws : List Word) → In Bare (cancelling kind ws)
 unfolding cancelling withDouble
-in-cancelling kind ws = any Plain _ _ (λ t ws. ended Plain ws _ (one-cancelling kind t))
+in-cancelling kind ws = any Bare _ _ (λ t ws. ended Bare ws _ (one-cancelling kind t))
 
-in-lend : (ws : List Word) → In Plain (lendOf ws)
+in-lend : (ws : List Word) → In Bare (lendOf ws)
 unfolding lendOf withCount InRange saidLength
-in-lend ws = with-known Plain _ _ _ (count-in 8192 ws) (λ n ws h. ended Plain ws _ (h, zero-le))
+in-lend ws = with-known Bare _ _ _ (count-in 8192 ws) (λ n ws h. ended Bare ws _ (h, zero-le))
 
-in-poke : (ws : List Word) → In Plain (pokeOf ws)
+in-poke : (ws : List Word) → In Bare (pokeOf ws)
 unfolding pokeOf withCount withSingle InRange saidLength
-in-poke ws = with-known Plain _ _ _ (count-in 8191 ws) (λ i ws h. any Plain _ _ (λ v ws. ended Plain ws _ (omega arith, zero-le)))
+in-poke ws = with-known Bare _ _ _ (count-in 8191 ws) (λ i ws h. any Bare _ _ (λ v ws. ended Bare ws _ (omega arith, zero-le)))
 
-in-state : (ws : List Word) → In Plain (stateOf ws)
+in-state : (ws : List Word) → In Bare (stateOf ws)
 unfolding stateOf InRange saidLength
-in-state ws = ended Plain ws _ (tt, zero-le)
+in-state ws = ended Bare ws _ (tt, zero-le)
 
 in-curve : (ws : List Word) → In Fit (curveOf ws)
 unfolding curveOf withDouble withCount InRange saidLength
 in-curve ws =
     any Fit _ _ (λ t ws. any Fit _ _ (λ d ws. with-known Fit _ _ _ (count-in 5000 ws) (λ n ws h. with-known Fit (Long n) _ _ (singles-in n ws) (λ xs ws e. ended Fit ws _ (h, omega arith)))))
 
-in-block : (ws : List Word) → In Fit (blockOf ws)
+in-block : (by : Renderer) (ws : List Word) → In Fit (blockOf by ws)
 unfolding blockOf withDouble withCount InRange saidLength
-in-block ws =
+in-block by ws =
     any Fit _ _ (λ t ws. any Fit _ _ (λ p ws. any Fit _ _ (λ n ws. with-known Fit _ _ _ (count-in 4096 ws) (λ o ws ho. with-known Fit _ _ _ (count-in 4096 ws) (λ i ws hi.
     with-known Fit (Long i) _ _ (singles-in i ws) (λ xs ws e. ended Fit ws _ ((ho, hi), omega arith)))))))
 
 -- ---- the table
 
-plainly : (o : Option Call) → In Plain o → In Fit (plain o)
-unfolding plain In
-plainly none h = tt
-plainly (some c) h = h
+bare-fits : (o : Option Call) → In Bare o → In Fit (bare o)
+unfolding bare In
+bare-fits none h = tt
+bare-fits (some c) h = h
 
 looked : (x w : Word) (read : List Word → Option Said) (rows : List Row) (ws : List Word) → ((ws : List Word) → In Fit (read ws)) → In Fit (found rows w ws) → In Fit (found (row x read ∷ rows) w ws)
 unfolding found
@@ -174,15 +176,15 @@ nowhere w ws = tt
 in-scheduling : (w : Word) (ws : List Word) → In Fit (found scheduling w ws)
 unfolding scheduling
 in-scheduling w ws =
-    looked _ w _ _ ws (λ ws. plainly _ (in-set ws)) (looked _ w _ _ ws (λ ws. plainly _ (in-timed Timed.Step ws)) (looked _ w _ _ ws (λ ws. plainly _ (in-timed Timed.Linear ws))
-    (looked _ w _ _ ws (λ ws. plainly _ (in-timed Timed.Exponential ws)) (looked _ w _ _ ws (λ ws. plainly _ (in-target ws)) (looked _ w _ _ ws in-curve
-    (looked _ w _ _ ws (λ ws. plainly _ (in-cancelling Cancelling.Cancel ws)) (looked _ w _ _ ws (λ ws. plainly _ (in-cancelling Cancelling.Hold ws)) (nowhere w ws))))))))
+    looked _ w _ _ ws (λ ws. bare-fits _ (in-set ws)) (looked _ w _ _ ws (λ ws. bare-fits _ (in-timed Timed.Step ws)) (looked _ w _ _ ws (λ ws. bare-fits _ (in-timed Timed.Linear ws))
+    (looked _ w _ _ ws (λ ws. bare-fits _ (in-timed Timed.Exponential ws)) (looked _ w _ _ ws (λ ws. bare-fits _ (in-target ws)) (looked _ w _ _ ws in-curve
+    (looked _ w _ _ ws (λ ws. bare-fits _ (in-cancelling Cancelling.Cancel ws)) (looked _ w _ _ ws (λ ws. bare-fits _ (in-cancelling Cancelling.Hold ws)) (nowhere w ws))))))))
 
 in-calls : (w : Word) (ws : List Word) → In Fit (found calls w ws)
 unfolding calls
 in-calls w ws =
-    looked _ w _ _ ws (λ ws. plainly _ (in-make ws)) (looked _ w _ _ ws in-block (looked _ w _ _ ws (λ ws. plainly _ (in-lend ws)) (looked _ w _ _ ws (λ ws. plainly _ (in-poke ws))
-    (looked _ w _ _ ws (λ ws. plainly _ (in-state ws)) (in-scheduling w ws)))))
+    looked _ w _ _ ws (λ ws. bare-fits _ (in-make ws)) (looked _ w _ _ ws (in-block Renderer.Fast) (looked _ w _ _ ws (in-block Renderer.Plain) (looked _ w _ _ ws (λ ws. bare-fits _ (in-lend ws)) (looked _ w _ _ ws (λ ws. bare-fits _ (in-poke ws))
+    (looked _ w _ _ ws (λ ws. bare-fits _ (in-state ws)) (in-scheduling w ws))))))
 
 in-first : (ws : List Word) → In Fit (byFirst ws)
 unfolding byFirst In
@@ -224,7 +226,7 @@ same-turn (Call.Target v t c) xs numbers e h = refl
 same-turn (Call.Curve t d n) xs numbers e h = ap (λ (ys : List Float). asked (rule.curve t d ys)) (same-front n xs numbers e h)
 same-turn (Call.Cancel t) xs numbers e h = refl
 same-turn (Call.Hold t) xs numbers e h = refl
-same-turn (Call.Block t p n o i) xs numbers e h = ap (λ (ys : List Float). playing t p n ys (marks o)) (same-front i xs numbers e h)
+same-turn (Call.Block by t p n o i) xs numbers e h = ap (λ (ys : List Float). playing t p n ys (marks o)) (same-front i xs numbers e h)
 same-turn (Call.Lend n) xs numbers e h = refl
 same-turn (Call.Poke i v) xs numbers e h = refl
 same-turn Call.State xs numbers e h = refl

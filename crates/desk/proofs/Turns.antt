@@ -42,33 +42,33 @@ use Rattle.desk.specs.Desk.{Table, Turn, deskOf, afterCommand, tableOf, 
 -- ---- a call that is not lent the store
 
 -- it does the same whatever the store is, and leaves it
-abbrev pub Plain : Command → Type 0
-Plain c = (p : Param) (s : List Float) → called p s c ≡ record { verdict = called p [] c .verdict; param = called p [] c .param; store = s }
+abbrev pub Storeless : Command → Type 0
+Storeless c = (p : Param) (s : List Float) → called p s c ≡ record { verdict = called p [] c .verdict; param = called p [] c .param; store = s }
 
-plain : (v : Verdict) (p : Param) (s : List Float) (e : Event) → scheduledAs v p s e ≡ record { verdict = scheduledAs v p [] e .verdict; param = scheduledAs v p [] e .param; store = s }
+storeless : (v : Verdict) (p : Param) (s : List Float) (e : Event) → scheduledAs v p s e ≡ record { verdict = scheduledAs v p [] e .verdict; param = scheduledAs v p [] e .param; store = s }
 unfolding scheduledAs
-plain Verdict.Answered p s e = refl
-plain (Verdict.Refused r) p s e = refl
+storeless Verdict.Answered p s e = refl
+storeless (Verdict.Refused r) p s e = refl
 
-pub plain-set : (v : Float) → Plain (rule.set v)
+pub storeless-set : (v : Float) → Storeless (rule.set v)
 unfolding called
-plain-set v p s = plain _ p s _
+storeless-set v p s = storeless _ p s _
 
-pub plain-step : (v t : Float) → Plain (rule.step v t)
+pub storeless-step : (v t : Float) → Storeless (rule.step v t)
 unfolding called
-plain-step v t p s = plain _ p s _
+storeless-step v t p s = storeless _ p s _
 
-pub plain-linear : (v t : Float) → Plain (rule.linear v t)
+pub storeless-linear : (v t : Float) → Storeless (rule.linear v t)
 unfolding called
-plain-linear v t p s = plain _ p s _
+storeless-linear v t p s = storeless _ p s _
 
-pub plain-exponential : (v t : Float) → Plain (rule.exponential v t)
+pub storeless-exponential : (v t : Float) → Storeless (rule.exponential v t)
 unfolding called
-plain-exponential v t p s = plain _ p s _
+storeless-exponential v t p s = storeless _ p s _
 
-pub plain-target : (v t c : Float) → Plain (rule.target v t c)
+pub storeless-target : (v t c : Float) → Storeless (rule.target v t c)
 unfolding called
-plain-target v t c p s = plain _ p s _
+storeless-target v t c p s = storeless _ p s _
 
 -- ---- what was told
 
@@ -100,7 +100,7 @@ module _ (c : Command) (d : Desk) (s : List Float) (l : List ℕ) (at : ℕ) (o 
       }
 
   -- not lent it
-  pub alone : Plain c → Answers (d .param) [] c o [] → Spoken 41999 (asked c) d s l at t s l′
+  pub alone : Storeless c → Answers (d .param) [] c o [] → Spoken 41999 (asked c) d s l at t s l′
   unfolding asked
   alone same a =
       let e : called (paramOf (d .param)) (take (d .lent) s) c ≡ _ = same (paramOf (d .param)) (take (d .lent) s) in
@@ -200,7 +200,7 @@ scheduling-by (Call.Target v t c) = (λ h. refl, λ h. absurd (miss others 7 tt 
 scheduling-by (Call.Curve t d n) = (λ h. refl, λ h. absurd (miss others 8 tt h))
 scheduling-by (Call.Cancel t) = (λ h. refl, λ h. absurd (miss others 9 tt h))
 scheduling-by (Call.Hold t) = (λ h. refl, λ h. absurd (miss others 10 tt h))
-scheduling-by (Call.Block t p n o i) = (λ h. absurd (miss theirs 11 tt h), λ h. refl)
+scheduling-by (Call.Block by t p n o i) = (λ h. absurd (miss theirs 11 tt h), λ h. refl)
 scheduling-by (Call.Lend n) = (λ h. absurd (miss theirs 12 tt h), λ h. refl)
 scheduling-by (Call.Poke i v) = (λ h. absurd (miss theirs 13 tt h), λ h. refl)
 scheduling-by Call.State = (λ h. absurd (miss theirs 14 tt h), λ h. refl)

@@ -106,7 +106,7 @@ blockLine Verdict.Answered count steps current one output =
     blockText steps current one ++ (listText 32 32 (take count output) ++ restText (areMarks (drop count output)))
 blockLine (Verdict.Refused why) count steps current one output = verdictText (Verdict.Refused why) ++ restText (areMarks output)
 
--- a block with this output lent; the numbers of the store behind those that are lent stay
+-- a block with this output lent, by either renderer; the numbers of the store behind those that are lent stay
 unfoldable pub playing : Float → Float → ℕ → List Float → List Float → Table → Turn
 playing time period count input output t =
     let a = answered (t .param) (take (t .lent) (t .store)) (record { time = time; period = period; count = count; input = input; output = output }) in
@@ -160,7 +160,7 @@ answerOf (Call.Target v t c) numbers = asked (rule.target v t c)
 answerOf (Call.Curve t d n) numbers = asked (rule.curve t d (take n numbers))
 answerOf (Call.Cancel t) numbers = asked (rule.cancel t)
 answerOf (Call.Hold t) numbers = asked (rule.hold t)
-answerOf (Call.Block t p n o i) numbers = playing t p n (take i numbers) (marks o)
+answerOf (Call.Block by t p n o i) numbers = playing t p n (take i numbers) (marks o)
 answerOf (Call.Lend n) numbers = lending n
 answerOf (Call.Poke i v) numbers = poking i v
 answerOf Call.State numbers = stating
@@ -225,7 +225,7 @@ InRange (Call.Target v t c) = Unit
 InRange (Call.Curve t d n) = n ≤ 5000
 InRange (Call.Cancel t) = Unit
 InRange (Call.Hold t) = Unit
-InRange (Call.Block t p n o i) = (o ≤ 4096) × (i ≤ 4096)
+InRange (Call.Block by t p n o i) = (o ≤ 4096) × (i ≤ 4096)
 InRange (Call.Lend n) = n ≤ 8192
 InRange (Call.Poke i v) = i < 8192
 InRange Call.State = Unit
@@ -243,7 +243,7 @@ isScheduling (Call.Target v t c) = true
 isScheduling (Call.Curve t d n) = true
 isScheduling (Call.Cancel t) = true
 isScheduling (Call.Hold t) = true
-isScheduling (Call.Block t p n o i) = false
+isScheduling (Call.Block by t p n o i) = false
 isScheduling (Call.Lend n) = false
 isScheduling (Call.Poke i v) = false
 isScheduling Call.State = false

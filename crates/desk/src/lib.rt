@@ -9,7 +9,9 @@ ghost use Rattle.rules.specs.declared.Verdict.the-variants as Verdict;
 ghost use Rattle.rules.specs.Numbers.{plusZero};
 ghost use Rattle.rules.specs.Block.{set, step, linear, exponential, target, curve, cancel, hold};
 ghost use Rattle.text.specs.Put.{Put};
+ghost use Rattle.block.specs.Asked.{asked as askedBlock};
 ghost use Rattle.param.specs.Param.{SoundParam, paramOf};
+ghost use Rattle.param.specs.Processed.{Processes};
 ghost use Rattle.desk.specs.Desk.{SoundDesk, InRange, isScheduling, deskOf, afterCommand, afterBlock, Told, Spoken, unread, making, asked, lending, poking, blockLine, playing, marks, stating, answerOf, withNewline, lineTurn, widthAt, waitingAt, queueText, unmadeDesk};
 use answers::is_clean;
 use answers::is_zeros;
@@ -21,6 +23,7 @@ use answers::put_state;
 use answers::put_verdict;
 use answers::put_zeros;
 use calls::Call;
+use calls::Renderer;
 use calls::read_call;
 use costs::Totals;
 use param::AudioParam;
@@ -279,9 +282,30 @@ fn played(desk: Desk, r: Processed) -> Desk
     }
 }
 
+// A block by either renderer.
+fn render(
+    by: Renderer,
+    p: AudioParam,
+    time: f64,
+    period: f64,
+    count: usize,
+    input: &[f32],
+    output: &mut [f32],
+    store: &mut [f32],
+) -> Processed
+    requires { ⌜ SoundParam p ⌝ }
+    ensures { λ r. ⌜ Processes p (now (store .entry)) (askedBlock time period count (now (input .entry)) (now (output .entry))) r (now (output .exit)) (now (store .exit)) ⌝ }
+{
+    match by {
+        Renderer::Fast => p.process(time, period, count, input, output, store),
+        Renderer::Plain => plain::process(p, time, period, count, input, output, store),
+    }
+}
+
 // A block, with its output lent.
 fn play(
     desk: Desk,
+    by: Renderer,
     time: f64,
     period: f64,
     count: usize,
@@ -296,7 +320,16 @@ fn play(
 {
     let p = desk.param;
     let lent = desk.lent;
-    let r = p.process(time, period, count, input, output, &mut store[..lent]);
+    let r = render(
+        by,
+        p,
+        time,
+        period,
+        count,
+        input,
+        output,
+        &mut store[..lent],
+    );
     let next = put_processed(r, count, &output[..], out, at);
     let desk = played(desk, r);
     Answered { desk, next }
@@ -305,6 +338,7 @@ fn play(
 // A block whose output, of `len` places, has the mark 4b000000 in each.
 fn block(
     desk: Desk,
+    by: Renderer,
     time: f64,
     period: f64,
     count: usize,
@@ -320,6 +354,7 @@ fn block(
     let mut output = [8388608.0f32; 4096];
     play(
         desk,
+        by,
         time,
         period,
         count,
@@ -440,6 +475,7 @@ fn answer(
             edition,
         } => make(bounds, rate, edition, store, out, at),
         Call::Block {
+            by,
             time,
             period,
             count,
@@ -447,6 +483,7 @@ fn answer(
             input,
         } => block(
             desk,
+            by,
             time,
             period,
             count,

@@ -60,7 +60,7 @@ refused-scheduled v p store e r h = rw h
 
 -- ---- an answered block
 
-inputs-length : (r : AutomationRate) (count : ℕ) (xs : List Float) → fitsCount xs count ≡ true → length (inputs r count xs) ≡ count
+pub inputs-length : (r : AutomationRate) (count : ℕ) (xs : List Float) → fitsCount xs count ≡ true → length (inputs r count xs) ≡ count
 unfolding inputs spread fitsCount
 inputs-length r count [] h = length-replicate count plusZero
 inputs-length Rate.A count (x ∷ xs) h = eqb-true (length (x ∷ xs)) count h

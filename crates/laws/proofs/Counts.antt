@@ -108,3 +108,34 @@ rendered-counts f v l ws = rendered-counts-as (restsFor f (headOf ws)) f v l ws
 
 pub rendered-steps : (f : BlockInfos) (v : Float) (l : LastEvent) (ws : List Waiting) → rendered f v l ws .walk .steps ≤ suc (2 * length ws)
 rendered-steps f v l ws = let c : Counted (length ws) (rendered f v l ws) = rendered-counts f v l ws in omega arith
+
+-- ---- how much a head that is consumed adds to each count
+
+module _ (f : BlockInfos) (a b c : ℕ) where
+  -- so many steps, events finished and exponentials turned more than a, b and c at the most
+  abbrev AtMost : ℕ → ℕ → ℕ → Walk → Type 0
+  AtMost i j k w = (w .steps ≤ a + i) × (w .finished ≤ b + j) × (w .turned ≤ c + k)
+
+  most-carry : Carries f Any (AtMost 0 0 0) (AtMost 1 0 0) (AtMost 2 0 1) (AtMost 2 1 1)
+  unfolding counted withLast withTurned fill withValues withIntrinsic consumed
+  most-carry =
+      record {
+        takes = λ w h. omega arith;
+        last = λ w h. h;
+        stays = λ w h. omega arith;
+        turns = λ w h. omega arith;
+        fills = λ n sample w l h. h;
+        flushes = λ target w h. h;
+        intrinsic = λ v w h. h;
+        consumes = λ t v w m h. omega arith;
+      }
+
+gone-of : {S : Walk → Waiting → Type 0} {G : Walk → Type 0} {v : Walk} → Turns S G (on v) → G v
+gone-of (goes g) = g
+
+pub head-counts : (f : BlockInfos) (w v : Walk) (x : Waiting) (xs : List Waiting) → turn f w x (headOf xs) ≡ on v
+    → (v .steps ≤ w .steps + 2) × (v .finished ≤ w .finished + 1) × (v .turned ≤ w .turned + 1)
+head-counts f w v x xs e =
+    gone-of
+    (rw e at
+    (turn-carries f Any _ _ _ _ tt (most-carry f (w .steps) (w .finished) (w .turned)) x (headOf xs) w (any-timed (x .event)) (head-timed Any xs (all-any xs)) (omega arith)))

@@ -259,7 +259,7 @@ left-fits f x y n (stepped is) h = refl
 left-fits f x y n (turned is) h = refl
 left-fits f x y n (snapped is free) h = refl
 
-left-numbers : (f : BlockInfos) (x y : Waiting) (n : Head) → Left f x n y → Fits x → y .numbers ≡ x .numbers
+pub left-numbers : (f : BlockInfos) (x y : Waiting) (n : Head) → Left f x n y → Fits x → y .numbers ≡ x .numbers
 unfolding lengthOf
 left-numbers f x y n same h = refl
 left-numbers f x y n (stepped is) h = sym (no-numbers (x .numbers) (h ∙ ap lengthOf is))

@@ -290,6 +290,18 @@ whatever f =
       consumes = λ t v w m h. tt;
     }
 
+-- a head that stops is as it was, or has become a step
+stopped-of : {S : Walk → Waiting → Type 0} {G : Walk → Type 0} {w : Walk} {y : Waiting} → Turns S G (stop w y) → S w y
+stopped-of (stops s) = s
+
+any-head : (n : Head) → HeadTimed Any n
+any-head Head.Empty = tt
+any-head (Head.Event e) = tt
+
+pub stop-leaves : (f : BlockInfos) (w v : Walk) (x y : Waiting) (n : Head) → turn f w x n ≡ stop v y → Left f x n y
+stop-leaves f w v x y n e =
+    stopped-of (rw e at (turn-carries f Any Whatever Whatever Whatever Whatever tt (whatever f) x n w (any-timed (x .event)) (any-head n) tt)) .1
+
 pub walk-leaves : (f : BlockInfos) (ws : List Waiting) (w : Walk) → Rest f ws (walked f w ws .queue)
 walk-leaves f ws w = walk-carries f Any Whatever Whatever Whatever Whatever tt (whatever f) (λ w h. tt) ws (all-any ws) w tt .1
 

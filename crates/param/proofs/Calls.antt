@@ -108,9 +108,3 @@ module _ {p : AudioParam} {store : List Float} {c : Command} (s : SoundParam p) 
       s
       (got ∙ ap (λ (x : AudioParam). record { verdict = Verdict.Refused why; param = x }) (whole p s) ∙ ap outcomeOf (sym is))
       (ap (λ (x : Called). x .store) (sym is))
-
--- the head of what waits is the queue's
-pub head-attached : (q : List Event) (store : List Float) → headOf (attached q store) ≡ firstOf q
-unfolding headOf attached firstOf
-head-attached [] store = refl
-head-attached (e ∷ q) store = refl

@@ -30,19 +30,20 @@ use Rattle.laws.proofs.Rows.{Played as Given, ceiling-most}
 use Rattle.laws.proofs.Answers.{given, answer-is, refused-block}
 use Rattle.timeline.specs.declared.AudioParamEventTimeline.{AudioParamEventTimeline}
 use Rattle.timeline.specs.Timeline.{Neat, made, waiting, firstOf, headAs}
+use Rattle.timeline.specs.Heads.{waitingAs, withHead}
+use Rattle.timeline.proofs.Heads.{head-attached}
 use Rattle.timeline.proofs.Laws.{waits-of, neat-of, count}
 use Rattle.curves.specs.Curves.{packedIn, Leaves}
 use Rattle.curves.proofs.Calls.{packed-whole, leaves-replaced}
 use Rattle.automation.specs.declared.Walked.{Walked}
-use Rattle.automation.specs.Walks.{waitingAs}
-use Rattle.automation.specs.Walked.{withHead, Walks}
+use Rattle.automation.specs.Walked.{Walks}
 use Rattle.block.specs.Asked.{Given as FilledFor, Fitting, written}
 use Rattle.param.specs.declared.AudioParam.{AudioParam}
 use Rattle.param.specs.declared.Processed.{Processed}
 use Rattle.param.specs.declared.process.Played.{Played}
 use Rattle.param.specs.Param.{paramOf, structOf, partsOf, SoundParam}
 use Rattle.param.specs.Processed.{lengthOfHead, unplayed, afterwards, Playable, played, Plays, Gives, Processes}
-use Rattle.param.proofs.Calls.{whole, struct-sound, head-attached}
+use Rattle.param.proofs.Calls.{whole, struct-sound}
 
 -- ---- the numbers of a queue of one event at most
 
@@ -126,7 +127,7 @@ behind-same b f input vs c output h = rw (drop-at c (drop (f .count) output) (f 
 
 module _ (p : AudioParam) (store : List Float) (c : Call) (s : SoundParam p) where
   -- by what the rules answer
-  processes : {r : Processed} {out left : List Float} (a : Answer) → answered (paramOf p) store c ≡ a → r .verdict ≡ a .verdict → r .param ≡ structOf (a .param)
+  pub processes : {r : Processed} {out left : List Float} (a : Answer) → answered (paramOf p) store c ≡ a → r .verdict ≡ a .verdict → r .param ≡ structOf (a .param)
       → r .steps ≡ a .steps → r .current ≡ a .current → r .one ≡ a .oneValued → out ≡ a .output → left ≡ a .store → Processes p store c r out left
   processes {r} a is v q n i o out left =
       record {

@@ -17,8 +17,8 @@ use Rattle.rules.specs.Mix.{mixed}
 use Rattle.rules.specs.Walk.{Walked}
 use Rattle.rules.specs.Block.{Call, renderedAs, saysOne, answered}
 use Rattle.timeline.specs.declared.AudioParamEventTimeline.{AudioParamEventTimeline}
+use Rattle.timeline.specs.Heads.{withHead}
 use Rattle.curves.specs.Curves.{Leaves}
-use Rattle.automation.specs.Walked.{withHead}
 use Rattle.block.specs.Asked.{Fitting, written}
 use Rattle.param.specs.declared.AudioParam.{AudioParam}
 use Rattle.param.specs.declared.Processed.{Processed}

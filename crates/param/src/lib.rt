@@ -31,7 +31,7 @@ use timeline::goes_at;
 use timeline::is_ramp;
 
 mod taking; // taking.rt: events that can wait, from outside
-mod process; // process.rt: the block
+pub mod process; // process.rt: the block
 
 pub struct AudioParam {
     bounds: Bounds,
@@ -73,7 +73,7 @@ pub fn edition_of(number: u64) -> Edition
 }
 
 // How many samples a block can have under an edition.
-fn ceiling_of(edition: Edition) -> usize
+pub fn ceiling_of(edition: Edition) -> usize
     ensures { λ r. ⌜ r ≡ ceilingOf edition ⌝ }
 {
     match edition {

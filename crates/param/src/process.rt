@@ -56,7 +56,7 @@ fn numbers_waiting(q: AudioParamEventTimeline) -> usize
 
 impl AudioParam {
     // A refused block: nothing changes.
-    fn refused_block(self, verdict: Verdict) -> Processed
+    pub fn refused_block(self, verdict: Verdict) -> Processed
         ensures { λ r. ⌜ r ≡ unplayed self verdict ⌝ }
     {
         Processed {
@@ -113,7 +113,7 @@ impl AudioParam {
     }
 
     // The same where some are: they are taken out, with their numbers.
-    fn leaving(self, infos: BlockInfos, played: Played, part: &mut [f32]) -> Processed
+    pub fn leaving(self, infos: BlockInfos, played: Played, part: &mut [f32]) -> Processed
         requires { ⌜ Neat (self .timeline) × (lengthsOf (paramOf self .queue) ≤ length (now part)) ⌝ }
         ensures { λ r. ⌜ Gives self infos played (now (part .entry)) r (now (part .exit)) ⌝ }
     {

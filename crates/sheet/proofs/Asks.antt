@@ -79,7 +79,7 @@ module _ {p : AudioParam} {s : List Float} {c : Call} where
 -- ---- a row's calls
 
 -- a call behind others, by what these leave
-after-calls : {p : AudioParam} {q : Param} {s t after : List Float} {c : Call} {r : Outcome} → Applies p s c r after → paramOf p ≡ q → s ≡ t
+pub after-calls : {p : AudioParam} {q : Param} {s t after : List Float} {c : Call} {r : Outcome} → Applies p s c r after → paramOf p ≡ q → s ≡ t
     → (paramOf (r .param) ≡ applied q t c .param) × (after ≡ applied q t c .store)
 after-calls {c = c} a here there =
     (ap paramOf (a .param) ∙ struct-back _ ∙ ap₂ (λ (x : Param) (y : List Float). applied x y c .param) here there, a .left ∙ ap₂ (λ (x : Param) (y : List Float). applied x y c .store) here there)

@@ -1,3 +1,4 @@
 pub mod Asks
+pub mod Rendered
 pub mod Counts
 pub mod Sheet

@@ -12,7 +12,7 @@ use Rattle.sheet.specs.declared.Row.{Row}
 
 -- ---- numbers
 
-abbrev n0 : Float
+abbrev pub n0 : Float
 n0 = fin false 0 (pos 0)
 
 abbrev n2 : Float
@@ -21,7 +21,7 @@ n2 = fin false 1 (pos 1)
 abbrev n3 : Float
 n3 = fin false 3 (pos 0)
 
-abbrev n4 : Float
+abbrev pub n4 : Float
 n4 = fin false 1 (pos 2)
 
 abbrev n5 : Float

@@ -1,16 +1,17 @@
-// Document 01's bench sheet: the rows B2 to B12, and how one is played.
+// Document 01's bench sheet: the rows B2 to B12, and how one is played by a renderer.
 ghost use mathlib.Core.Path.{_≡_};
 ghost use Rattle.block.specs.Asked.{asked};
 ghost use Rattle.param.specs.Param.{SoundParam};
 ghost use Rattle.param.specs.Processed.{Processes};
 ghost use Rattle.sheet.specs.Rows.{once, b2, b3, b4, b5, b6, b7, b8, b9, b10, b11, b12, rowOf};
-ghost use Rattle.sheet.specs.Played.{n1, inputOf, Applies, SetsUp};
+ghost use Rattle.sheet.specs.Played.{n1, inputOf, Applies, SetsUp, PlaysRow};
 use param::AudioParam;
 use param::Outcome;
 use param::Processed;
 use rules::AutomationRate;
 use rules::Bounds;
 use rules::Verdict;
+use tick::process_by_tick;
 
 // What a row asks for before a block.
 pub enum Call {
@@ -293,7 +294,7 @@ pub fn row_of(n: u64) -> Row
 }
 
 // A call of a row, made on a parameter.
-pub fn ask(p: AudioParam, c: Call, store: &mut [f32]) -> Outcome
+fn ask(p: AudioParam, c: Call, store: &mut [f32]) -> Outcome
     requires { ⌜ SoundParam p ⌝ }
     ensures { λ r. ⌜ Applies p (now (store .entry)) c r (now (store .exit)) ⌝ }
 {
@@ -321,7 +322,7 @@ pub fn ask(p: AudioParam, c: Call, store: &mut [f32]) -> Outcome
 }
 
 // The parameter of a row, after its calls before the first block.
-pub fn set_up(row: Row, store: &mut [f32]) -> AudioParam
+fn set_up(row: Row, store: &mut [f32]) -> AudioParam
     ensures { λ r. ⌜ SetsUp row (now (store .entry)) r (now (store .exit)) ⌝ }
 {
     let bounds = row.bounds;
@@ -339,8 +340,35 @@ pub fn set_up(row: Row, store: &mut [f32]) -> AudioParam
     r.param
 }
 
+// What renders a block: all three have one contract.
+pub enum Renderer {
+    Process,
+    Tick,
+    Plain,
+}
+
+fn render(
+    by: Renderer,
+    p: AudioParam,
+    time: f64,
+    count: usize,
+    input: &[f32],
+    output: &mut [f32],
+    store: &mut [f32],
+) -> Processed
+    requires { ⌜ SoundParam p ⌝ }
+    ensures { λ r. ⌜ Processes p (now (store .entry)) (asked «time» n1 count (now (input .entry)) (now (output .entry))) r (now (output .exit)) (now (store .exit)) ⌝ }
+{
+    match by {
+        Renderer::Process => p.process(time, 1.0, count, input, output, store),
+        Renderer::Tick => process_by_tick(p, time, 1.0, count, input, output, store),
+        Renderer::Plain => plain::process(p, time, 1.0, count, input, output, store),
+    }
+}
+
 // A block of a row: "Period 1", the input NaN 0 or silence.
-pub fn block(
+fn block(
+    by: Renderer,
     p: AudioParam,
     time: f64,
     count: usize,
@@ -353,8 +381,37 @@ pub fn block(
 {
     let input = [0.0f32 / 0.0, 0.0];
     if noisy {
-        p.process(time, 1.0, count, &input, output, store)
+        render(by, p, time, count, &input, output, store)
     } else {
-        p.process(time, 1.0, count, &input[..0], output, store)
+        render(by, p, time, count, &input[..0], output, store)
+    }
+}
+
+// What a row's two blocks answer.
+pub struct Blocks {
+    pub first: Processed,
+    pub second: Processed,
+}
+
+// A row, played: its samples stand in `first` and `second`. Where the sheet has no second block, its count of 0 is refused.
+pub fn play(
+    by: Renderer,
+    row: Row,
+    first: &mut [f32],
+    second: &mut [f32],
+    store: &mut [f32],
+) -> Blocks
+    ensures { λ r. ⌜ PlaysRow row (now (store .entry)) (now (first .entry)) (now (second .entry)) r (now (first .exit)) (now (second .exit)) (now (store .exit)) ⌝ }
+{
+    let p = set_up(row, store);
+    let before = block(by, p, 0.0, row.count, row.noisy, first, store);
+    let p = before.param;
+    let c = row.between;
+    let asked = ask(p, c, store);
+    let p = asked.param;
+    let after = block(by, p, 4.0, row.again, false, second, store);
+    Blocks {
+        first: before,
+        second: after,
     }
 }

@@ -27,6 +27,7 @@ pub examples :
     × means "curve from 0 for 4 over 0 4 0" "curve 0000000000000000 4010000000000000 3 00000000 40800000 00000000"
     × means "block at 0 by 1 for 64" "block 0000000000000000 3ff0000000000000 64 64 0"
     × means "block 3 1 2 2 -0 NaN" "block 4008000000000000 3ff0000000000000 2 2 2 80000000 7fc00000"
+    × means "plain at 0 by 1 for 64" "plain 0000000000000000 3ff0000000000000 64 64 0"
     × means "set x00000001" "set 00000001"
     × means " cost  # so far" "cost"
     × means "# nothing" ""
@@ -41,4 +42,4 @@ pub examples :
     × unread "make 0 230 400 edition 2"
     × unread "make 0 230 400 a edition 2 2"
 unfolding isBlank split isOne isSmall kept spoken wordsAt inFront spaced bitsOf fieldOf withField fields numbers cappedAt lengthFor lengthAnd blockFields andThen editionFields madeFields tailOf formed scheduling rows formIn whole translated translation ending isOver sameWord joined plainIn held namedIn decimalIn unsignedIn scaled scaledBy tensIn tensOf digitsIn fractionDigits wholeDigits digitsPart before behindSign signLength isMinus floatIn floatOf floatText bitsIn countIn upTo numberIn numberFrom areDigits valueFrom digitOf digitsOf glyphOf decimalOf placesOf indexOf narrowed round ofBits toBits
-examples = (refl, refl, refl, refl, refl, refl, refl, refl, refl, refl, refl, refl, refl, refl, refl, refl, refl, refl, refl, refl)
+examples = (refl, refl, refl, refl, refl, refl, refl, refl, refl, refl, refl, refl, refl, refl, refl, refl, refl, refl, refl, refl, refl)

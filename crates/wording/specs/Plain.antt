@@ -149,6 +149,7 @@ unfoldable pub rows : List Row
 rows =
     row (codes "make") (Form.Is Kind.Value 3 Tail.Made)
     ∷ row (codes "block") (Form.Is Kind.Time 2 Tail.Block)
+    ∷ row (codes "plain") (Form.Is Kind.Time 2 Tail.Block)
     ∷ row (codes "state") (Form.Is Kind.AsItIs 0 (Tail.Fields Kind.AsItIs 0))
     ∷ row (codes "lend") (Form.Is Kind.AsItIs 1 (Tail.Fields Kind.AsItIs 0))
     ∷ row (codes "poke") (Form.Is Kind.AsItIs 1 (Tail.Fields Kind.Value 1))

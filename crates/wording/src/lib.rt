@@ -381,6 +381,13 @@ fn form_of(word: &[u8]) -> Form
             tail: Tail::Block,
         };
     }
+    if same(word, b"plain") {
+        return Form::Is {
+            kind: Kind::Time,
+            many: 2,
+            tail: Tail::Block,
+        };
+    }
     if same(word, b"state") {
         return two_kinds(Kind::AsItIs, 0, Kind::AsItIs, 0);
     }

@@ -1,9 +1,10 @@
 //! The self-test: faults planted in the port's answers, before the judging.
 //! Six, one for each field that is compared, and two just beyond 01's limits; two
-//! that the reference alone can find, where the Rust has nothing to compare; and six of
-//! the editions, which the Rust has not.
+//! that the reference alone can find, where the Rust has nothing to compare; six of
+//! the editions, which the Rust has not; and five of `plain`.
 
 use crate::edition_faults::{behind_128, kept, over_first, over_second, unknown_first, unmarked};
+use crate::plain_faults::{k_stays, not_carried, plain_behind_128, steps_summed, stops_at_place};
 use crate::shrink::shrunk;
 use crate::sides::{Plant, Played, Sides};
 use comparing::session::Session;
@@ -29,7 +30,9 @@ impl With {
     }
 }
 
-const FAULTS: [(&str, Plant, With); 16] = [
+type Fault = (&'static str, Plant, With);
+
+const FAULTS: [Fault; 16] = [
     ("a sample's last bit turned", sample, With::Rust),
     ("the current value's last bit turned", current, With::Rust),
     ("one-valued turned", one_valued, With::Rust),
@@ -46,6 +49,15 @@ const FAULTS: [(&str, Plant, With); 16] = [
     ("12 ahead of 1", unknown_first, With::Reference),
     ("a refused make keeps the second edition", kept, With::Reference),
     ("the second edition not printed", unmarked, With::Reference),
+];
+
+/// In sessions with `plain` for `block`.
+const PLAIN_FAULTS: [Fault; 5] = [
+    ("a look that stops at its place, before a snap", stops_at_place, With::Reference),
+    ("K-rate's value not turned to 0 by a snap", k_stays, With::Reference),
+    ("the steps summed over the places", steps_summed, With::Reference),
+    ("nothing carried on behind `plain`", not_carried, With::Reference),
+    ("the places of `plain` behind 128 hold the one before", plain_behind_128, With::Reference),
 ];
 
 /// The answer with one of its words changed.
@@ -179,23 +191,30 @@ fn print_shrunk(sides: &Sides, plant: Plant, with: With, sessions: &[Session]) {
     text.lines().for_each(|line| out::print(&format!("    {line}\n")));
 }
 
-/// Each fault, in one answer of each session that has room for it, must be
-/// found there. True if all were.
-pub fn self_test(sides: &Sides, sessions: &[Session]) -> bool {
+/// How many of these faults are found, each in one answer of each session that has
+/// room for it.
+fn found_of(sides: &Sides, sessions: &[Session], faults: &[Fault]) -> usize {
     let played = sides.play(sessions.to_vec());
     let mut all = 0;
-    for (name, plant, with) in FAULTS {
+    for (name, plant, with) in faults {
         let tries: Vec<bool> =
-            played.iter().enumerate().filter_map(|(i, p)| found(p, plant, with, i)).collect();
+            played.iter().enumerate().filter_map(|(i, p)| found(p, *plant, *with, i)).collect();
         let hits = tries.iter().filter(|hit| **hit).count();
         let good = hits > 0 && hits == tries.len();
         all += usize::from(good);
         let word = if good { "found" } else { "NOT FOUND" };
         let planted = tries.len();
         out::print(&format!("{word}: {name} (planted in {planted} sessions, found in {hits})\n"));
-        print_shrunk(sides, plant, with, sessions);
+        print_shrunk(sides, *plant, *with, sessions);
     }
-    let faults = FAULTS.len();
+    all
+}
+
+/// Each fault must be found wherever it is planted; `again` are the sessions with `plain`.
+/// True if all were.
+pub fn self_test(sides: &Sides, sessions: &[Session], again: &[Session]) -> bool {
+    let all = found_of(sides, sessions, &FAULTS) + found_of(sides, again, &PLAIN_FAULTS);
+    let faults = FAULTS.len() + PLAIN_FAULTS.len();
     out::print(&format!("{all} of {faults} faults were found\n"));
-    all == FAULTS.len()
+    all == faults
 }

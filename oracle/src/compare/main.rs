@@ -1,5 +1,6 @@
 //! The port beside the Rust, on random sessions; beside the interpreter alone on those
-//! of both editions, which the Rust has not.
+//! of both editions, which the Rust has not. All of them are played once more with
+//! `plain` for `block` (02, C-16), and with them some that fade out.
 //!
 //! `compare RUST PORT FOLDER PAGE WORDS..`, called by the script of the same
 //! name with the two programs, this folder and docs/DIFFERENCES.md. WORDS:
@@ -9,9 +10,12 @@
 mod edition_faults;
 mod faults;
 mod page;
+mod plain_faults;
 mod shrink;
 mod sides;
 
+use comparing::again::again;
+use comparing::fades::fading;
 use comparing::family::{editions, random, run_length};
 use comparing::session::Session;
 use comparing::side::Side;
@@ -53,27 +57,59 @@ fn drawn(seed: u64, place: usize, n: usize) -> Session {
     }
 }
 
-/// Plays the sessions in batches; stops early once enough is wrong.
+/// The same with `plain` for `block`; behind them those that fade out.
+fn drawn_again(seed: u64, place: usize, n: usize) -> Session {
+    match place.checked_sub(run_length(n)) {
+        None => again(seed, place.checked_sub(n).unwrap_or(place), &drawn(seed, place, n)),
+        Some(number) => fading(seed, number),
+    }
+}
+
+/// How many sessions are played with `plain`: one that fades out for every ten.
+fn again_length(n: usize) -> usize {
+    run_length(n) + n.div_ceil(10)
+}
+
+/// Shows what must not be, up to a few.
+fn show_wrong(sides: &Sides, summary: &Summary, played: Played) {
+    let (otherwise, not_01) = (summary.otherwise, summary.not_01);
+    if played.verdict.otherwise.is_some() && otherwise <= SHOWN {
+        show(sides, played, "DIFFERED OTHERWISE", |v| v.otherwise.is_some());
+    } else if played.verdict.not_01.is_some() && not_01 <= SHOWN {
+        show(sides, played, "NOT WHAT 01 SAYS", |v| v.not_01.is_some());
+    }
+}
+
+/// Plays the sessions in batches, and then with `plain`; stops early once enough is wrong.
 fn run(sides: &Sides, n: usize, seed: u64) -> Summary {
     let mut summary = Summary::default();
-    let (mut done, all) = (0, run_length(n));
+    let session = |i: usize| drawn(seed, i, n);
+    play(sides, run_length(n), session, "", &mut summary, Summary::add);
+    let session = |i: usize| drawn_again(seed, i, n);
+    play(sides, again_length(n), session, " with `plain`", &mut summary, Summary::add_again);
+    summary
+}
+
+fn play(
+    sides: &Sides,
+    all: usize,
+    session: impl Fn(usize) -> Session,
+    which: &str,
+    summary: &mut Summary,
+    add: fn(&mut Summary, &Session, &Verdict),
+) {
+    let mut done = 0;
     while done < all && summary.otherwise.max(summary.not_01) < SHOWN {
         let from = done;
         done = all.min(from + BATCH);
-        for played in sides.play((from..done).map(|i| drawn(seed, i, n)).collect()) {
-            summary.add(&played.session, &played.verdict);
-            let (otherwise, not_01) = (summary.otherwise, summary.not_01);
-            if played.verdict.otherwise.is_some() && otherwise <= SHOWN {
-                show(sides, played, "DIFFERED OTHERWISE", |v| v.otherwise.is_some());
-            } else if played.verdict.not_01.is_some() && not_01 <= SHOWN {
-                show(sides, played, "NOT WHAT 01 SAYS", |v| v.not_01.is_some());
-            }
+        for played in sides.play((from..done).map(&session).collect()) {
+            add(summary, &played.session, &played.verdict);
+            show_wrong(sides, summary, played);
         }
         let wrong = summary.otherwise.max(summary.not_01);
-        let line = format!("{done} of {all} sessions, {wrong} differed otherwise");
+        let line = format!("{done} of {all} sessions{which}, {wrong} differed otherwise");
         out::progress(&line, from, done, all);
     }
-    summary
 }
 
 /// What is wrong beside single sessions.
@@ -91,9 +127,12 @@ fn shortcomings(summary: &Summary, page: &Page, n: usize) -> Vec<String> {
         }
     }
     all.extend(summary.editions.shortcomings());
-    let (played, n) = (summary.sessions + summary.editions.sessions, run_length(n));
-    if played < n {
-        all.push(format!("stopped after {played} of {n} sessions"));
+    all.extend(summary.again.shortcomings());
+    let played = summary.sessions + summary.editions.sessions;
+    for (played, n) in [(played, run_length(n)), (summary.again.sessions, again_length(n))] {
+        if played < n {
+            all.push(format!("stopped after {played} of {n} sessions"));
+        }
     }
     all
 }
@@ -125,7 +164,9 @@ fn main() {
         (Some("--self-test"), ..) => {
             let sessions: Vec<Session> =
                 (0..run_length(BATCH)).map(|i| drawn(1, i, BATCH)).collect();
-            faults::self_test(&sides, &sessions)
+            let again: Vec<Session> =
+                (0..again_length(BATCH)).map(|i| drawn_again(1, i, BATCH)).collect();
+            faults::self_test(&sides, &sessions, &again)
         }
         (Some("--page"), ..) => {
             page.print(&sides);

@@ -4,18 +4,29 @@ use crate::sides::{Played, Sides};
 use comparing::session::Session;
 use comparing::smaller::smaller;
 use comparing::verdict::Verdict;
+use reference::session::Call;
 
-/// Takes the first smaller session of each round, until none is left. All of
-/// a round are played in one go.
+/// Smaller sessions played in one go.
+const AT_ONCE: usize = 25;
+
+/// Takes the first smaller session of each round, until none is left.
 pub fn shrunk(sides: &Sides, from: Played, wanted: impl Fn(&Verdict) -> bool) -> Played {
     let mut best = from;
-    loop {
-        let title = &best.session.title;
-        let tried = smaller(&best.session.calls).into_iter();
-        let played = sides.play(tried.map(|calls| Session::new(title, calls)).collect());
-        match played.into_iter().find(|p| wanted(&p.verdict)) {
-            Some(found) => best = found,
-            None => return best,
-        }
+    while let Some(found) = first_smaller(sides, &best.session, &wanted) {
+        best = found;
     }
+    best
+}
+
+fn first_smaller(
+    sides: &Sides,
+    session: &Session,
+    wanted: impl Fn(&Verdict) -> bool,
+) -> Option<Played> {
+    let tried = smaller(&session.calls);
+    tried.chunks(AT_ONCE).find_map(|some| {
+        let new = |calls: &Vec<Call>| Session::new(&session.title, calls.clone());
+        let played = sides.play(some.iter().map(new).collect());
+        played.into_iter().find(|p| wanted(&p.verdict))
+    })
 }

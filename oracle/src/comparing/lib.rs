@@ -2,8 +2,10 @@
 //! drawn at random, what is claimed of a session before any answer is seen, the
 //! judging of two sides' answers, and smaller sessions.
 
+pub mod again;
 pub mod draw;
 pub mod editions;
+pub mod fades;
 pub mod family;
 pub mod line;
 pub mod out;

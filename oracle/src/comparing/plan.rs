@@ -356,7 +356,8 @@ impl<'a> Plan<'a> {
         let (time, period) = (self.now, self.period);
         self.block();
         if self.draw.percent(20) {
-            self.put(Call::Block(Block { time, period, count: 1, out: 1, input: Vec::new() }));
+            let (plain, input) = (false, Vec::new());
+            self.put(Call::Block(Block { plain, time, period, count: 1, out: 1, input }));
         }
     }
 
@@ -552,7 +553,8 @@ impl<'a> Plan<'a> {
             let input = self.input();
             let out = self.count + self.draw.below(2) * self.draw.below(4);
             let (time, period) = (self.now, self.period);
-            let mut block = Block { time, period, count: self.count as u64, out, input };
+            let (plain, count) = (false, self.count as u64);
+            let mut block = Block { plain, time, period, count, out, input };
             if self.wild() && self.draw.percent(2) {
                 self.spoil(&mut block);
             }
@@ -579,7 +581,8 @@ impl<'a> Plan<'a> {
         let out = self.draw.pick(&[count, count, count, count + 1, 4096, count - 1]);
         let length = self.draw.pick(&[0, 0, 0, 0, count, count - 1]);
         let (time, period, input) = (self.now, self.period, vec![self.value(); length]);
-        self.put(Call::Block(Block { time, period, count: count as u64, out, input }));
+        let (plain, count) = (false, count as u64);
+        self.put(Call::Block(Block { plain, time, period, count, out, input }));
     }
 
     /// To the next block, now and then with a gap.

@@ -87,6 +87,9 @@ fn simpler_block(block: &Block) -> Vec<Call> {
         change(&mut changed);
         all.push(Call::Block(changed));
     };
+    if block.plain {
+        with(&|b| b.plain = false);
+    }
     if !block.input.is_empty() {
         with(&|b| b.input.clear());
     }

@@ -1,5 +1,6 @@
 //! What many verdicts come to, and its print.
 
+use crate::again::Again;
 use crate::editions::Editions;
 use crate::session::Session;
 use crate::verdict::{Limit, Tally, Verdict};
@@ -26,6 +27,8 @@ pub struct Summary {
     pub tally: Tally,
     /// The others.
     pub editions: Editions,
+    /// All of them, with `plain` for `block`.
+    pub again: Again,
 }
 
 impl Summary {
@@ -54,6 +57,13 @@ impl Summary {
         for name in claimed {
             self.by_name.entry(name).or_default().1 += 1;
         }
+    }
+
+    /// A session that is played once more.
+    pub fn add_again(&mut self, session: &Session, verdict: &Verdict) {
+        self.not_01 += usize::from(verdict.not_01.is_some());
+        self.otherwise += usize::from(verdict.otherwise.is_some());
+        self.again.add(session);
     }
 
     pub fn names(&self) -> impl Iterator<Item = &'static str> + '_ {
@@ -115,7 +125,7 @@ impl fmt::Display for Summary {
         writeln!(f, "\nsecond list, against 01's measured limits")?;
         print_limit(f, "targets", -20., &self.tally.target)?;
         print_limit(f, "exponentials", -18., &self.tally.exponential)?;
-        write!(f, "{}", self.editions)?;
+        write!(f, "{}{}", self.editions, self.again)?;
         let all = if self.not_01 == 0 { "all" } else { "NOT all" };
         writeln!(f, "\nthe port gives {all} answers of oracle/reference, the interpreter")
     }

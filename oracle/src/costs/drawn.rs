@@ -116,8 +116,8 @@ fn turning(draw: &mut Draw, edition: Option<u8>) -> Vec<Call> {
     let (mut now, blocks) = (0., 1 + draw.below(6));
     for _ in 0..blocks {
         let count = draw.pick(if long { &[7, 129, 512, 1024] } else { &[1, 7, 64, 128] });
-        let (out, input) = (count as usize, Vec::new());
-        calls.push(Call::Block(Block { time: now, period: 1., count, out, input }));
+        let (plain, out, input) = (false, count as usize, Vec::new());
+        calls.push(Call::Block(Block { plain, time: now, period: 1., count, out, input }));
         now += count as f64;
     }
     calls

@@ -1,8 +1,10 @@
 //! What the gate runs the port's session program on, and what it must write.
 //!
-//! `expected OUT SESSIONS RUST [SESSIONS ANSWERS].. [--bursts SESSIONS ANSWERS]`
-//! writes OUT/stdin and OUT/stdout. First come the pairs behind, sessions with
-//! answers that are given; each answer must be the reference's. In those behind
+//! `expected OUT SESSIONS RUST [SESSIONS ANSWERS].. [--plain SESSIONS ANSWERS ..]
+//! [--bursts SESSIONS ANSWERS ..]` writes OUT/stdin and OUT/stdout. First come the pairs
+//! behind, sessions with answers that are given; each answer must be the reference's.
+//! Those behind `--plain` are written with the word `plain` for every `block`, and with
+//! the same answers (02, C-16). In those behind
 //! `--bursts` each burst of cancels must have its one cancel, with the same
 //! answers from the first `state` on. Then comes the list SESSIONS with the
 //! Rust's answers, those marked `agree` before the others. An answer is written
@@ -58,6 +60,16 @@ impl Gate {
         }
     }
 
+    /// The same with `plain` for every `block`.
+    fn given_plain(&mut self, path: &str, text: &str, answers: &str) {
+        let said = |line: &str| match line.strip_prefix("block") {
+            Some(rest) if rest.is_empty() || rest.starts_with(' ') => format!("plain{rest}\n"),
+            _ => format!("{line}\n"),
+        };
+        let plain: String = text.lines().map(said).collect();
+        self.given(&format!("{path}, with `plain`"), &plain, answers);
+    }
+
     /// The same of bursts, each with its one cancel.
     fn bursts(&mut self, path: &str, text: &str, answers: &str) {
         self.given(path, text, answers);
@@ -104,17 +116,22 @@ impl Gate {
 fn main() {
     let words: Vec<String> = std::env::args().skip(1).collect();
     let [out, list, rust, pairs @ ..] = words.as_slice() else {
-        eprintln!("expected OUT SESSIONS RUST [SESSIONS ANSWERS].. [--bursts SESSIONS ANSWERS]");
+        eprintln!("expected OUT SESSIONS RUST [[--plain | --bursts] SESSIONS ANSWERS ..]..");
         std::process::exit(2);
     };
     let mut gate = Gate::default();
-    let mut parts = pairs.splitn(2, |word| word == "--bursts");
-    let mut pairs = || parts.next().unwrap_or_default().chunks_exact(2);
-    for pair in pairs() {
-        gate.given(&pair[0], &read(&pair[0]), &read(&pair[1]));
-    }
-    for pair in pairs() {
-        gate.bursts(&pair[0], &read(&pair[0]), &read(&pair[1]));
+    let mut put: fn(&mut Gate, &str, &str, &str) = Gate::given;
+    let mut words = pairs.iter();
+    while let Some(word) = words.next() {
+        match (word.as_str(), words.as_slice().first()) {
+            ("--plain", _) => put = Gate::given_plain,
+            ("--bursts", _) => put = Gate::bursts,
+            (path, Some(answers)) => {
+                words.next();
+                put(&mut gate, path, &read(path), &read(answers));
+            }
+            (path, None) => gate.refused.push(format!("{path}: no answers are named")),
+        }
     }
     let answers = read(rust);
     let answers: Vec<&str> = answers.lines().collect();

@@ -1,12 +1,16 @@
 //! The generator of sessions.
 //!
-//! `generate SEED N [clean|plain|wild|editions]`: N sessions, by default the mixture
-//! that is compared, or those of both editions. `generate --list SEED REPEAT`: the
-//! stored list's grid. `generate --editions SEED N`: the stored ones of both editions.
+//! `generate SEED N [clean|plain|wild|editions|fades]`: N sessions, by default the mixture
+//! that is compared, or those of both editions, or those that fade out. `generate --again
+//! SEED N [clean|plain|wild|editions]`: the same as `compare` plays them once more, with
+//! `plain` for `block`. `generate --list SEED REPEAT`: the stored list's grid. `generate
+//! --editions SEED N`: the stored ones of both editions.
 //! Before each session stands a comment with its number and its mark (README.md).
 
 mod stored;
 
+use comparing::again::again;
+use comparing::fades::fading;
 use comparing::family::{editions, list_length, listed, random};
 use comparing::out;
 use comparing::plan::Family;
@@ -16,28 +20,46 @@ fn print(session: &Session) {
     out::print(&format!("# {}: {}\n{}", session.title, session.mark(), session.text()));
 }
 
+/// The session of this number, of the kind that is named.
+fn drawn(seed: u64, number: usize, kind: Option<&str>) -> Option<Session> {
+    match kind {
+        None => Some(random(seed, number, None)),
+        Some("editions") => Some(editions(seed, number)),
+        Some("fades") => Some(fading(seed, number)),
+        Some(name) => Family::named(name).map(|family| random(seed, number, Some(family))),
+    }
+}
+
+/// What the words ask for, one after another; none if they are not read.
+fn sessions(words: &[&str]) -> Option<Box<dyn Iterator<Item = Session>>> {
+    let (how, words) = match words {
+        [how @ ("--list" | "--editions" | "--again"), rest @ ..] => (*how, rest),
+        _ => ("", words),
+    };
+    let [seed, n, kind @ ..] = words else { return None };
+    let (seed, n): (u64, usize) = (seed.parse().ok()?, n.parse().ok()?);
+    let kind: Option<String> = match kind {
+        [] => None,
+        [kind] if how.is_empty() || how == "--again" => Some(kind.to_string()),
+        _ => return None,
+    };
+    drawn(seed, 0, kind.as_deref())?;
+    let one = move |i: usize| drawn(seed, i, kind.as_deref());
+    Some(match how {
+        "--list" => Box::new((0..list_length(n)).map(move |i| listed(seed, i, n))),
+        "--editions" => Box::new(stored::sessions(seed, n).into_iter()),
+        "--again" => Box::new((0..n).filter_map(move |i| Some(again(seed, i, &one(i)?)))),
+        _ => Box::new((0..n).filter_map(one)),
+    })
+}
+
 fn main() {
     let words: Vec<String> = std::env::args().skip(1).collect();
-    let number = |i: usize| words.get(i).and_then(|w: &String| w.parse::<u64>().ok());
-    let family = words.get(2).map(|w| Family::named(w));
-    match (words.first().map(String::as_str), number(0), number(1), number(2)) {
-        (Some("--list"), _, Some(seed), Some(repeat @ 1..)) => {
-            let repeat = repeat as usize;
-            (0..list_length(repeat)).for_each(|i| print(&listed(seed, i, repeat)));
-        }
-        (Some("--editions"), _, Some(seed), Some(n)) => {
-            stored::sessions(seed, n as usize).iter().for_each(print);
-        }
-        (_, Some(seed), Some(n), _) if words.get(2).is_some_and(|w| w == "editions") => {
-            (0..n as usize).for_each(|i| print(&editions(seed, i)));
-        }
-        (_, Some(seed), Some(n), _) if family != Some(None) => {
-            (0..n as usize).for_each(|i| print(&random(seed, i, family.flatten())));
-        }
-        _ => {
-            eprintln!("generate SEED N [clean|plain|wild|editions],");
-            eprintln!("generate --list SEED REPEAT   or   generate --editions SEED N");
-            std::process::exit(2);
-        }
-    }
+    let words: Vec<&str> = words.iter().map(String::as_str).collect();
+    let Some(sessions) = sessions(&words) else {
+        eprintln!("generate [--again] SEED N [clean|plain|wild|editions|fades],");
+        eprintln!("generate --list SEED REPEAT   or   generate --editions SEED N");
+        std::process::exit(2);
+    };
+    sessions.for_each(|session| print(&session));
 }

@@ -1,6 +1,6 @@
 //! The session language: reading a line as a call, and writing numbers.
-//! Shared by every program in this folder; the pages are session-language.md and,
-//! for the fifth word of `make`, session-language-02.md.
+//! Shared by every program in this folder; the pages are session-language.md and, for
+//! the fifth word of `make` and the word `plain`, session-language-02.md.
 
 /// One call, as a line of a session says it.
 #[derive(Clone, Debug, PartialEq)]
@@ -27,9 +27,11 @@ pub enum Call {
     State,
 }
 
-/// The numbers of a block call: `out` is the length of the output lent.
+/// The numbers of a block call: `out` is the length of the output lent. `plain` is one
+/// by the plain renderer (02, C-16), with the same words.
 #[derive(Clone, Debug, PartialEq)]
 pub struct Block {
+    pub plain: bool,
     pub time: f64,
     pub period: f64,
     pub count: u64,
@@ -69,7 +71,8 @@ fn read_call(words: &[&str]) -> Option<Call> {
         }
         ("cancel", [t]) => Call::Cancel(f64_of(t)?),
         ("hold", [t]) => Call::Hold(f64_of(t)?),
-        ("block", [t, p, count, out, n, input @ ..]) => Call::Block(Block {
+        ("block" | "plain", [t, p, count, out, n, input @ ..]) => Call::Block(Block {
+            plain: *verb == "plain",
             time: f64_of(t)?,
             period: f64_of(p)?,
             count: count_of(count)?,
@@ -173,8 +176,9 @@ pub fn write_call(call: &Call) -> String {
         Call::Hold(t) => format!("hold {}", hex64(*t)),
         Call::Block(b) => {
             let (n, input) = (b.input.len(), list32(&b.input, " "));
+            let verb = if b.plain { "plain" } else { "block" };
             let times = format!("{} {}", hex64(b.time), hex64(b.period));
-            format!("block {times} {} {} {n}{input}", b.count, b.out)
+            format!("{verb} {times} {} {} {n}{input}", b.count, b.out)
         }
         Call::Lend(n) => format!("lend {n}"),
         Call::Poke(i, v) => format!("poke {i} {}", hex32(*v)),

@@ -38,6 +38,9 @@ pub struct Claims {
     pub current: Near,
     pub places: Vec<Near>,
     pub runs: Vec<Run>,
+    /// The places that a snap turned to 0, with the subnormal values that stood there;
+    /// at K-rate place 0 alone, for all of them.
+    pub flushed: Vec<(usize, f32)>,
     /// Of a parameter's print.
     pub intrinsic: Near,
     pub last: Near,

@@ -5,6 +5,7 @@ use crate::costs::Costs;
 use crate::edition::Edition;
 use crate::near::{Near, Value};
 use crate::numbers::mixed;
+use crate::places::{Look, Start};
 use crate::queue::{cancel, claim_arrival, hold, insert, inside, rust_inside, Event, Kind};
 use crate::session::{curve_numbers, hex32, hex64, list32, Block, Call};
 use crate::walk::{Facts, Walk};
@@ -102,6 +103,7 @@ impl Reference {
             Call::Curve(t, d, values) => self.curve(*t, *d, values),
             Call::Cancel(t) => self.cancel(*t),
             Call::Hold(t) => self.hold(*t),
+            Call::Block(b) if b.plain => return self.plain(b),
             Call::Block(b) => return self.block(b),
             Call::Lend(n) => self.lend(*n),
             Call::Poke(i, v) => self.poke(*i, *v),
@@ -406,6 +408,46 @@ impl Reference {
         };
         walk.run();
         (walk.buffer, walk.steps, false)
+    }
+
+    /// A block by the plain renderer: "its samples, current value, carried parameter and
+    /// step count equal those of the fast one" (02, C-16). It is played by both, and
+    /// the interpreter ends where they differ. What it claims and costs is the block's.
+    fn plain(&mut self, b: &Block) -> String {
+        let mut other = self.clone();
+        let (fast, plain) = (self.block(b), other.by_places(b));
+        assert_eq!(plain, fast, "the interpreter's `plain` is not its `block`");
+        let behind = (other.state(), self.clone().state());
+        assert_eq!(behind.0, behind.1, "behind the interpreter's `plain`, and its `block`");
+        plain
+    }
+
+    /// The same by the plain renderer alone. No claim is made, no cost is counted.
+    fn by_places(&mut self, b: &Block) -> String {
+        if let Some(number) = self.block_refusal(b) {
+            return format!("refused {number} clean");
+        }
+        self.read_store();
+        let Self { a_rate, min, default, max, .. } = *self;
+        let (time, period, count) = (plus_zero(b.time), b.period, b.count as usize);
+        let (level, last) = (self.intrinsic.value, self.last.map(|(t, v)| (t, v.value)));
+        let start = Start { time, period, count, a_rate, level, last, waiting: &self.queue };
+        let mut text = String::new();
+        for place in 0..count {
+            let with = b.input.get(if a_rate { place } else { 0 }).unwrap_or(&0.);
+            let sum = with + Look::at(start, place).value();
+            text += &format!(" {}", hex32(mixed(sum, min, default, max)));
+        }
+        let look = Look::at(start, 0); // any place's leaves the same
+        let one = !a_rate || (look.one_valued && b.input.is_empty());
+        let current = hex32(mixed(level + 0., min, default, max));
+        let answer = format!("block {} {current} {}{text} clean", look.steps, u8::from(one));
+        let (intrinsic, queue) = (Value::same(look.level), look.left());
+        self.last = look.last.map(|(t, v)| (t, Value::same(v)));
+        (self.intrinsic, self.queue) = (intrinsic, queue);
+        self.played = Some((time, (count as f64).mul_add(period, time)));
+        self.pack_store();
+        answer
     }
 
     /// The names under which numbers of a block or of a print may differ.

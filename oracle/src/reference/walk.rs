@@ -239,6 +239,8 @@ impl Walk<'_> {
             return self.stop(value);
         }
         if head.value == 0. {
+            let small = self.buffer.iter().enumerate().filter(|(_, s)| s.value.is_subnormal());
+            self.claims.flushed = small.map(|(place, s)| (place, s.value)).collect();
             self.buffer.iter_mut().for_each(flush);
         }
         let (time, value) = (self.facts.next, head.value);

@@ -2,7 +2,7 @@
 use mathlib.Core.Path.{refl}
 use Rattle.rules.specs.Queue.{lengthOf}
 use Rattle.rules.specs.Walk.{turnOf}
-use Rattle.automation.proofs.Heads.{bare, curve-is, curve-enough, curve-few}
+use Rattle.timeline.proofs.Heads.{bare, curve-is, curve-enough, curve-few}
 use borrow.Author.Needs.{needs}
 use Rattle.automation.proofs.compute_event.Statement.{statement}
 use Rattle.automation.proofs.compute_event.Tie as tie

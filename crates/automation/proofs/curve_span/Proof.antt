@@ -4,7 +4,8 @@ use lib.Ieee as Ieee
 use lib.Ieee.{Float, binary64}
 use Rattle.rules.specs.Samples.{lastNumber, curveSample}
 use Rattle.rules.specs.Walk.{fromStart, spanTurn}
-use Rattle.automation.specs.Walks.{walkIs, waitingAs}
+use Rattle.timeline.specs.Heads.{waitingAs}
+use Rattle.automation.specs.Walks.{walkIs}
 use Rattle.automation.proofs.Bodies.{ready-room, filled-at, last-read, Spanned, span-few, span-stops, span-ends, span-held}
 use borrow.Author.Needs.{needs}
 use Rattle.automation.proofs.curve_span.Statement.{statement}

@@ -1,6 +1,6 @@
 -- `bench::say_line` meets its contract. Assumes nothing.
-use borrow.Author.Needs.{needs}
 use Rattle.sheet.proofs.Counts.{few-samples}
+use borrow.Author.Needs.{needs}
 use Rattle.bench.proofs.say_line.Statement.{statement}
 use Rattle.bench.proofs.say_line.Tie as tie
 use Rattle.bench.proofs.say_line.Reads as reads
@@ -41,12 +41,6 @@ row-of-requires c κs = search needs
 say-row-requires : tie.Need-say-row-requires
 say-row-requires c κs = rw (c .row-of .ensures) (few-samples _ .count, few-samples _ .again)
 
-slice-aggregate-say-4 : tie.Need-slice-aggregate-say-4
-slice-aggregate-say-4 c = search needs
-
-say-requires-4 : tie.Need-say-requires-4
-say-requires-4 c κs = search needs
-
 returns : tie.Need-returns
 returns c = search needs
 
@@ -64,6 +58,4 @@ say-line-spec =
     say-requires-3
     row-of-requires
     say-row-requires
-    slice-aggregate-say-4
-    say-requires-4
     returns)

@@ -1,7 +1,7 @@
 -- `calls::read_call` meets its contract: no call, or the row whose word the first is. Assumes nothing.
 use mathlib.Core.Path.{_∙_}
 use Rattle.calls.specs.Language.{calls}
-use Rattle.calls.proofs.Numbers.{heard-plain}
+use Rattle.calls.proofs.Numbers.{heard-bare}
 use Rattle.calls.proofs.Rows.{this-row, next-row, heard-by, empty-line, comment, by-word}
 use borrow.Author.Needs.{needs}
 use Rattle.calls.proofs.read_call.Statement.{statement}
@@ -56,7 +56,7 @@ returns-3 c =
     heard-by _ _
     (by-word _ (c .before .before .before .before .before .before .before .before .if1 .left) (c .before .before .before .before .before .before .if2 .left) _ (c .before .before .before .before .before .word-end .ensures .0)
     ∙ this-row _ _ _ _ _ (c .before .before .same .ensures) (c .before .if3 .taken))
-    (heard-plain _ _ (c .read-make .ensures))
+    (heard-bare _ _ (c .read-make .ensures))
 
 slice-aggregate-same-2 : tie.Need-slice-aggregate-same-2
 slice-aggregate-same-2 c = search needs
@@ -75,7 +75,7 @@ unfolding calls
 returns-4 c =
     let e1 = c .before .before .before .before .before .before .before in
     heard-by _ _
-    (by-word _ (c .before .before .before .before .before .before .before .before .before .before .before .before .before .before .if1 .left) (c .before .before .before .before .before .before .before .before .before .before .before .before .if2 .left) _ (c .before .before .before .before .before .before .before .before .before .before .before .word-end .ensures .0)
+    (by-word _ (e1 .before .before .before .before .before .before .before .if1 .left) (e1 .before .before .before .before .before .if2 .left) _ (e1 .before .before .before .before .word-end .ensures .0)
     ∙ next-row _ _ _ _ _ (e1 .before .same .ensures) (e1 .if3 .left)
     ∙ this-row _ _ _ _ _ (c .before .before .before .before .before .same2 .ensures) (c .before .before .before .before .if4 .taken))
     (c .before .before .read-block .ensures)
@@ -86,20 +86,23 @@ slice-aggregate-same-3 c = search needs
 same-requires-3 : tie.Need-same-requires-3
 same-requires-3 c κs = search needs
 
-read-lend-requires : tie.Need-read-lend-requires
-read-lend-requires c κs = search needs
+read-block-requires-2 : tie.Need-read-block-requires-2
+read-block-requires-2 c κs = search needs
+
+same-length-2 : tie.Need-same-length-2
+same-length-2 c = search needs
 
 returns-5 : tie.Need-returns-5
 unfolding calls
 returns-5 c =
-    let e2 = c .before .before .before .before in
+    let e2 = c .before .before .before .before .before .before .before in
     let e1 = e2 .before .before .before in
     heard-by _ _
-    (by-word _ (c .before .before .before .before .before .before .before .before .before .before .before .before .before .before .if1 .left) (c .before .before .before .before .before .before .before .before .before .before .before .before .if2 .left) _ (c .before .before .before .before .before .before .before .before .before .before .before .word-end .ensures .0)
+    (by-word _ (e1 .before .before .before .before .before .before .before .if1 .left) (e1 .before .before .before .before .before .if2 .left) _ (e1 .before .before .before .before .word-end .ensures .0)
     ∙ next-row _ _ _ _ _ (e1 .before .same .ensures) (e1 .if3 .left)
     ∙ next-row _ _ _ _ _ (e2 .before .same2 .ensures) (e2 .if4 .left)
-    ∙ this-row _ _ _ _ _ (c .before .before .same3 .ensures) (c .before .if5 .taken))
-    (heard-plain _ _ (c .read-lend .ensures))
+    ∙ this-row _ _ _ _ _ (c .before .before .before .before .before .same3 .ensures) (c .before .before .before .before .if5 .taken))
+    (c .before .before .read-block2 .ensures)
 
 slice-aggregate-same-4 : tie.Need-slice-aggregate-same-4
 slice-aggregate-same-4 c = search needs
@@ -107,8 +110,8 @@ slice-aggregate-same-4 c = search needs
 same-requires-4 : tie.Need-same-requires-4
 same-requires-4 c κs = search needs
 
-read-poke-requires : tie.Need-read-poke-requires
-read-poke-requires c κs = search needs
+read-lend-requires : tie.Need-read-lend-requires
+read-lend-requires c κs = search needs
 
 returns-6 : tie.Need-returns-6
 unfolding calls
@@ -117,12 +120,12 @@ returns-6 c =
     let e2 = e3 .before .before .before in
     let e1 = e2 .before .before .before in
     heard-by _ _
-    (by-word _ (c .before .before .before .before .before .before .before .before .before .before .before .before .before .before .before .before .before .if1 .left) (c .before .before .before .before .before .before .before .before .before .before .before .before .before .before .before .if2 .left) _ (c .before .before .before .before .before .before .before .before .before .before .before .before .before .before .word-end .ensures .0)
+    (by-word _ (e1 .before .before .before .before .before .before .before .if1 .left) (e1 .before .before .before .before .before .if2 .left) _ (e1 .before .before .before .before .word-end .ensures .0)
     ∙ next-row _ _ _ _ _ (e1 .before .same .ensures) (e1 .if3 .left)
     ∙ next-row _ _ _ _ _ (e2 .before .same2 .ensures) (e2 .if4 .left)
     ∙ next-row _ _ _ _ _ (e3 .before .same3 .ensures) (e3 .if5 .left)
     ∙ this-row _ _ _ _ _ (c .before .before .same4 .ensures) (c .before .if6 .taken))
-    (heard-plain _ _ (c .read-poke .ensures))
+    (heard-bare _ _ (c .read-lend .ensures))
 
 slice-aggregate-same-5 : tie.Need-slice-aggregate-same-5
 slice-aggregate-same-5 c = search needs
@@ -130,8 +133,8 @@ slice-aggregate-same-5 c = search needs
 same-requires-5 : tie.Need-same-requires-5
 same-requires-5 c κs = search needs
 
-read-state-requires : tie.Need-read-state-requires
-read-state-requires c κs = search needs
+read-poke-requires : tie.Need-read-poke-requires
+read-poke-requires c κs = search needs
 
 returns-7 : tie.Need-returns-7
 unfolding calls
@@ -141,19 +144,22 @@ returns-7 c =
     let e2 = e3 .before .before .before in
     let e1 = e2 .before .before .before in
     heard-by _ _
-    (by-word _ (c .before .before .before .before .before .before .before .before .before .before .before .before .before .before .before .before .before .before .before .before .if1 .left) (c .before .before .before .before .before .before .before .before .before .before .before .before .before .before .before .before .before .before .if2 .left) _ (c .before .before .before .before .before .before .before .before .before .before .before .before .before .before .before .before .before .word-end .ensures .0)
+    (by-word _ (e1 .before .before .before .before .before .before .before .if1 .left) (e1 .before .before .before .before .before .if2 .left) _ (e1 .before .before .before .before .word-end .ensures .0)
     ∙ next-row _ _ _ _ _ (e1 .before .same .ensures) (e1 .if3 .left)
     ∙ next-row _ _ _ _ _ (e2 .before .same2 .ensures) (e2 .if4 .left)
     ∙ next-row _ _ _ _ _ (e3 .before .same3 .ensures) (e3 .if5 .left)
     ∙ next-row _ _ _ _ _ (e4 .before .same4 .ensures) (e4 .if6 .left)
     ∙ this-row _ _ _ _ _ (c .before .before .same5 .ensures) (c .before .if7 .taken))
-    (heard-plain _ _ (c .read-state .ensures))
+    (heard-bare _ _ (c .read-poke .ensures))
 
-read-scheduling-requires : tie.Need-read-scheduling-requires
-read-scheduling-requires c κs = search needs
+slice-aggregate-same-6 : tie.Need-slice-aggregate-same-6
+slice-aggregate-same-6 c = search needs
 
-same-length-2 : tie.Need-same-length-2
-same-length-2 c = search needs
+same-requires-6 : tie.Need-same-requires-6
+same-requires-6 c κs = search needs
+
+read-state-requires : tie.Need-read-state-requires
+read-state-requires c κs = search needs
 
 returns-8 : tie.Need-returns-8
 unfolding calls
@@ -164,12 +170,38 @@ returns-8 c =
     let e2 = e3 .before .before .before in
     let e1 = e2 .before .before .before in
     heard-by _ _
-    (by-word _ (c .before .before .before .before .before .before .before .before .before .before .before .before .before .before .before .before .before .before .before .before .before .before .before .if1 .left) (c .before .before .before .before .before .before .before .before .before .before .before .before .before .before .before .before .before .before .before .before .before .if2 .left) _ (c .before .before .before .before .before .before .before .before .before .before .before .before .before .before .before .before .before .before .before .before .word-end .ensures .0)
+    (by-word _ (e1 .before .before .before .before .before .before .before .if1 .left) (e1 .before .before .before .before .before .if2 .left) _ (e1 .before .before .before .before .word-end .ensures .0)
     ∙ next-row _ _ _ _ _ (e1 .before .same .ensures) (e1 .if3 .left)
     ∙ next-row _ _ _ _ _ (e2 .before .same2 .ensures) (e2 .if4 .left)
     ∙ next-row _ _ _ _ _ (e3 .before .same3 .ensures) (e3 .if5 .left)
     ∙ next-row _ _ _ _ _ (e4 .before .same4 .ensures) (e4 .if6 .left)
-    ∙ next-row _ _ _ _ _ (e5 .before .same5 .ensures) (e5 .if7 .left))
+    ∙ next-row _ _ _ _ _ (e5 .before .same5 .ensures) (e5 .if7 .left)
+    ∙ this-row _ _ _ _ _ (c .before .before .same6 .ensures) (c .before .if8 .taken))
+    (heard-bare _ _ (c .read-state .ensures))
+
+read-scheduling-requires : tie.Need-read-scheduling-requires
+read-scheduling-requires c κs = search needs
+
+same-length-3 : tie.Need-same-length-3
+same-length-3 c = search needs
+
+returns-9 : tie.Need-returns-9
+unfolding calls
+returns-9 c =
+    let e6 = c .before .before .before .before in
+    let e5 = e6 .before .before .before in
+    let e4 = e5 .before .before .before in
+    let e3 = e4 .before .before .before in
+    let e2 = e3 .before .before .before in
+    let e1 = e2 .before .before .before in
+    heard-by _ _
+    (by-word _ (e1 .before .before .before .before .before .before .before .if1 .left) (e1 .before .before .before .before .before .if2 .left) _ (e1 .before .before .before .before .word-end .ensures .0)
+    ∙ next-row _ _ _ _ _ (e1 .before .same .ensures) (e1 .if3 .left)
+    ∙ next-row _ _ _ _ _ (e2 .before .same2 .ensures) (e2 .if4 .left)
+    ∙ next-row _ _ _ _ _ (e3 .before .same3 .ensures) (e3 .if5 .left)
+    ∙ next-row _ _ _ _ _ (e4 .before .same4 .ensures) (e4 .if6 .left)
+    ∙ next-row _ _ _ _ _ (e5 .before .same5 .ensures) (e5 .if7 .left)
+    ∙ next-row _ _ _ _ _ (e6 .before .same6 .ensures) (e6 .if8 .left))
     (c .before .before .read-scheduling .ensures)
 
 pub read-call-spec : {M : Type 1} → statement M
@@ -195,16 +227,21 @@ read-call-spec =
     returns-4
     slice-aggregate-same-3
     same-requires-3
-    read-lend-requires
+    read-block-requires-2
+    same-length-2
     returns-5
     slice-aggregate-same-4
     same-requires-4
-    read-poke-requires
+    read-lend-requires
     returns-6
     slice-aggregate-same-5
     same-requires-5
-    read-state-requires
+    read-poke-requires
     returns-7
+    slice-aggregate-same-6
+    same-requires-6
+    read-state-requires
+    returns-8
     read-scheduling-requires
-    same-length-2
-    returns-8)
+    same-length-3
+    returns-9)

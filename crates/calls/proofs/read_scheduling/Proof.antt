@@ -1,7 +1,7 @@
 -- `calls::read_scheduling` meets its contract: the row whose word it is, or none. Assumes nothing.
 use mathlib.Core.Path.{_∙_}
 use Rattle.calls.specs.Language.{scheduling}
-use Rattle.calls.proofs.Numbers.{unheard, heard-plain}
+use Rattle.calls.proofs.Numbers.{unheard, heard-bare}
 use Rattle.calls.proofs.Rows.{this-row, next-row, no-row, heard-by}
 use borrow.Author.Needs.{needs}
 use Rattle.calls.proofs.read_scheduling.Statement.{statement}
@@ -29,7 +29,7 @@ unfolding scheduling
 returns c =
     heard-by _ _
     (this-row _ _ _ _ _ (c .before .before .same .ensures) (c .before .if1 .taken))
-    (heard-plain _ _ (c .read-set .ensures))
+    (heard-bare _ _ (c .read-set .ensures))
 
 slice-aggregate-same-2 : tie.Need-slice-aggregate-same-2
 slice-aggregate-same-2 c = search needs
@@ -47,7 +47,7 @@ returns-2 c =
     heard-by _ _
     (next-row _ _ _ _ _ (e1 .before .same .ensures) (e1 .if1 .left)
     ∙ this-row _ _ _ _ _ (c .before .before .same2 .ensures) (c .before .if2 .taken))
-    (heard-plain _ _ (c .read-timed .ensures))
+    (heard-bare _ _ (c .read-timed .ensures))
 
 slice-aggregate-same-3 : tie.Need-slice-aggregate-same-3
 slice-aggregate-same-3 c = search needs
@@ -67,7 +67,7 @@ returns-3 c =
     (next-row _ _ _ _ _ (e1 .before .same .ensures) (e1 .if1 .left)
     ∙ next-row _ _ _ _ _ (e2 .before .same2 .ensures) (e2 .if2 .left)
     ∙ this-row _ _ _ _ _ (c .before .before .same3 .ensures) (c .before .if3 .taken))
-    (heard-plain _ _ (c .read-timed2 .ensures))
+    (heard-bare _ _ (c .read-timed2 .ensures))
 
 slice-aggregate-same-4 : tie.Need-slice-aggregate-same-4
 slice-aggregate-same-4 c = search needs
@@ -89,7 +89,7 @@ returns-4 c =
     ∙ next-row _ _ _ _ _ (e2 .before .same2 .ensures) (e2 .if2 .left)
     ∙ next-row _ _ _ _ _ (e3 .before .same3 .ensures) (e3 .if3 .left)
     ∙ this-row _ _ _ _ _ (c .before .before .same4 .ensures) (c .before .if4 .taken))
-    (heard-plain _ _ (c .read-timed3 .ensures))
+    (heard-bare _ _ (c .read-timed3 .ensures))
 
 slice-aggregate-same-5 : tie.Need-slice-aggregate-same-5
 slice-aggregate-same-5 c = search needs
@@ -113,7 +113,7 @@ returns-5 c =
     ∙ next-row _ _ _ _ _ (e3 .before .same3 .ensures) (e3 .if3 .left)
     ∙ next-row _ _ _ _ _ (e4 .before .same4 .ensures) (e4 .if4 .left)
     ∙ this-row _ _ _ _ _ (c .before .before .same5 .ensures) (c .before .if5 .taken))
-    (heard-plain _ _ (c .read-target .ensures))
+    (heard-bare _ _ (c .read-target .ensures))
 
 slice-aggregate-same-6 : tie.Need-slice-aggregate-same-6
 slice-aggregate-same-6 c = search needs
@@ -170,7 +170,7 @@ returns-7 c =
     ∙ next-row _ _ _ _ _ (e5 .before .same5 .ensures) (e5 .if5 .left)
     ∙ next-row _ _ _ _ _ (e6 .before .same6 .ensures) (e6 .if6 .left)
     ∙ this-row _ _ _ _ _ (c .before .before .same7 .ensures) (c .before .if7 .taken))
-    (heard-plain _ _ (c .read-cancelling .ensures))
+    (heard-bare _ _ (c .read-cancelling .ensures))
 
 slice-aggregate-same-8 : tie.Need-slice-aggregate-same-8
 slice-aggregate-same-8 c = search needs
@@ -200,7 +200,7 @@ returns-8 c =
     ∙ next-row _ _ _ _ _ (e6 .before .same6 .ensures) (e6 .if6 .left)
     ∙ next-row _ _ _ _ _ (e7 .before .same7 .ensures) (e7 .if7 .left)
     ∙ this-row _ _ _ _ _ (c .before .before .same8 .ensures) (c .before .if8 .taken))
-    (heard-plain _ _ (c .read-cancelling2 .ensures))
+    (heard-bare _ _ (c .read-cancelling2 .ensures))
 
 returns-9 : tie.Need-returns-9
 unfolding scheduling

@@ -36,7 +36,7 @@ unfolding InRange
 slice-aggregate-block c =
     let s = c .before .before .before .before .before .before .before in
     let h = ranged (c .before .before .call2 .given .1) (s .pre .1) in
-    sym (length-take-le (c .before .before .call2 .given .0 .1 .1 .1 .1 .0) (s .args .numbers .now) (omega (arith, h .1, s .pre .2)))
+    sym (length-take-le (c .before .before .call2 .given .0 .1 .1 .1 .1 .1 .0) (s .args .numbers .now) (omega (arith, h .1, s .pre .2)))
 
 block-requires : tie.Need-block-requires
 unfolding InRange

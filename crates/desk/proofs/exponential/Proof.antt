@@ -1,5 +1,5 @@
 -- `desk::exponential` meets its contract: what the call ensures, whatever the store is. Assumes nothing.
-use Rattle.desk.proofs.Turns.{plain-exponential, alone}
+use Rattle.desk.proofs.Turns.{storeless-exponential, alone}
 use borrow.Author.Needs.{needs}
 use Rattle.desk.proofs.exponential.Statement.{statement}
 use Rattle.desk.proofs.exponential.Tie as tie
@@ -18,7 +18,7 @@ same-length : tie.Need-same-length
 same-length c = search needs
 
 returns : tie.Need-returns
-returns c = λ s. alone _ _ s _ _ _ _ _ (c .before .before .before .before .before .before .before .pre .0) (c .before .before .called .ensures) (plain-exponential _ _) (c .before .before .before .before .exponential-ramp-to-value-at-time .ensures)
+returns c = λ s. alone _ _ s _ _ _ _ _ (c .before .before .before .before .before .before .before .pre .0) (c .before .before .called .ensures) (storeless-exponential _ _) (c .before .before .before .before .exponential-ramp-to-value-at-time .ensures)
 
 pub exponential-spec : {M : Type 1} → statement M
 exponential-spec =

@@ -1,5 +1,5 @@
 -- `desk::linear` meets its contract: what the call ensures, whatever the store is. Assumes nothing.
-use Rattle.desk.proofs.Turns.{plain-linear, alone}
+use Rattle.desk.proofs.Turns.{storeless-linear, alone}
 use borrow.Author.Needs.{needs}
 use Rattle.desk.proofs.linear.Statement.{statement}
 use Rattle.desk.proofs.linear.Tie as tie
@@ -18,7 +18,7 @@ same-length : tie.Need-same-length
 same-length c = search needs
 
 returns : tie.Need-returns
-returns c = λ s. alone _ _ s _ _ _ _ _ (c .before .before .before .before .before .before .before .pre .0) (c .before .before .called .ensures) (plain-linear _ _) (c .before .before .before .before .linear-ramp-to-value-at-time .ensures)
+returns c = λ s. alone _ _ s _ _ _ _ _ (c .before .before .before .before .before .before .before .pre .0) (c .before .before .called .ensures) (storeless-linear _ _) (c .before .before .before .before .linear-ramp-to-value-at-time .ensures)
 
 pub linear-spec : {M : Type 1} → statement M
 linear-spec =

@@ -1,5 +1,5 @@
 -- `desk::set` meets its contract: what the call ensures, whatever the store is. Assumes nothing.
-use Rattle.desk.proofs.Turns.{plain-set, alone}
+use Rattle.desk.proofs.Turns.{storeless-set, alone}
 use borrow.Author.Needs.{needs}
 use Rattle.desk.proofs.set.Statement.{statement}
 use Rattle.desk.proofs.set.Tie as tie
@@ -18,7 +18,7 @@ same-length : tie.Need-same-length
 same-length c = search needs
 
 returns : tie.Need-returns
-returns c = λ s. alone _ _ s _ _ _ _ _ (c .before .before .before .before .before .before .before .pre .0) (c .before .before .called .ensures) (plain-set _) (c .before .before .before .before .set-value .ensures)
+returns c = λ s. alone _ _ s _ _ _ _ _ (c .before .before .before .before .before .before .before .pre .0) (c .before .before .called .ensures) (storeless-set _) (c .before .before .before .before .set-value .ensures)
 
 pub set-spec : {M : Type 1} → statement M
 set-spec = tie.close (tie.spec set-value-requires called-requires same-length returns)

@@ -1,5 +1,5 @@
 -- `desk::step` meets its contract: what the call ensures, whatever the store is. Assumes nothing.
-use Rattle.desk.proofs.Turns.{plain-step, alone}
+use Rattle.desk.proofs.Turns.{storeless-step, alone}
 use borrow.Author.Needs.{needs}
 use Rattle.desk.proofs.step.Statement.{statement}
 use Rattle.desk.proofs.step.Tie as tie
@@ -18,7 +18,7 @@ same-length : tie.Need-same-length
 same-length c = search needs
 
 returns : tie.Need-returns
-returns c = λ s. alone _ _ s _ _ _ _ _ (c .before .before .before .before .before .before .before .pre .0) (c .before .before .called .ensures) (plain-step _ _) (c .before .before .before .before .set-value-at-time .ensures)
+returns c = λ s. alone _ _ s _ _ _ _ _ (c .before .before .before .before .before .before .before .pre .0) (c .before .before .called .ensures) (storeless-step _ _) (c .before .before .before .before .set-value-at-time .ensures)
 
 pub step-spec : {M : Type 1} → statement M
 step-spec = tie.close (tie.spec set-value-at-time-requires called-requires same-length returns)

@@ -1,5 +1,5 @@
 -- `desk::target` meets its contract: what the call ensures, whatever the store is. Assumes nothing.
-use Rattle.desk.proofs.Turns.{plain-target, alone}
+use Rattle.desk.proofs.Turns.{storeless-target, alone}
 use borrow.Author.Needs.{needs}
 use Rattle.desk.proofs.target.Statement.{statement}
 use Rattle.desk.proofs.target.Tie as tie
@@ -18,7 +18,7 @@ same-length : tie.Need-same-length
 same-length c = search needs
 
 returns : tie.Need-returns
-returns c = λ s. alone _ _ s _ _ _ _ _ (c .before .before .before .before .before .before .before .pre .0) (c .before .before .called .ensures) (plain-target _ _ _) (c .before .before .before .before .set-target-at-time .ensures)
+returns c = λ s. alone _ _ s _ _ _ _ _ (c .before .before .before .before .before .before .before .pre .0) (c .before .before .called .ensures) (storeless-target _ _ _) (c .before .before .before .before .set-target-at-time .ensures)
 
 pub target-spec : {M : Type 1} → statement M
 target-spec = tie.close (tie.spec set-target-at-time-requires called-requires same-length returns)

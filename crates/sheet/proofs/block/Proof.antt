@@ -1,4 +1,4 @@
--- `sheet::block` meets its contract: what `process` ensures, with the row's input. Assumes nothing.
+-- `sheet::block` meets its contract: what the renderer ensures, with the row's input. Assumes nothing.
 use lib.Ieee.{ofBits, div}
 use Rattle.sheet.specs.Played.{inputOf}
 use borrow.Author.Needs.{needs}
@@ -6,22 +6,22 @@ use Rattle.sheet.proofs.block.Statement.{statement}
 use Rattle.sheet.proofs.block.Tie as tie
 use Rattle.sheet.proofs.block.Reads as reads
 use Rattle.sheet.proofs.block.Lts as lts
-use Rattle.param.proofs.AudioParam.process.Reads as process-reads
+use Rattle.sheet.proofs.render.Reads as render-reads
 
-slice-aggregate-process : tie.Need-slice-aggregate-process
-slice-aggregate-process c = search needs
+slice-aggregate-render : tie.Need-slice-aggregate-render
+slice-aggregate-render c = search needs
 
-process-requires : tie.Need-process-requires
-process-requires c κs = search needs
+render-requires : tie.Need-render-requires
+render-requires c κs = search needs
 
 array-share-prefix-input : tie.Need-array-share-prefix-input
 array-share-prefix-input c = search needs
 
-slice-aggregate-process-2 : tie.Need-slice-aggregate-process-2
-slice-aggregate-process-2 c = search needs
+slice-aggregate-render-2 : tie.Need-slice-aggregate-render-2
+slice-aggregate-render-2 c = search needs
 
-process-requires-2 : tie.Need-process-requires-2
-process-requires-2 c κs = search needs
+render-requires-2 : tie.Need-render-requires-2
+render-requires-2 c κs = search needs
 
 same-length : tie.Need-same-length
 same-length c = search needs
@@ -31,7 +31,7 @@ same-length-2 c = search needs
 
 returns : tie.Need-returns
 unfolding inputOf ofBits div
-returns c = rw (c .before .before .before .before .before .before .before .before .if1 .taken) (c .before .before .before .before .process .ensures)
+returns c = rw (c .before .before .before .before .before .before .before .before .if1 .taken) (c .before .before .before .before .render .ensures)
 
 same-length-3 : tie.Need-same-length-3
 same-length-3 c = search needs
@@ -41,17 +41,17 @@ same-length-4 c = search needs
 
 returns-2 : tie.Need-returns-2
 unfolding inputOf ofBits
-returns-2 c = rw (c .before .before .before .before .before .before .before .before .if1 .left) (c .before .before .before .before .process2 .ensures)
+returns-2 c = rw (c .before .before .before .before .before .before .before .before .if1 .left) (c .before .before .before .before .render2 .ensures)
 
 pub block-spec : {M : Type 1} → statement M
 block-spec =
     tie.close
     (tie.spec
-    slice-aggregate-process
-    process-requires
+    slice-aggregate-render
+    render-requires
     array-share-prefix-input
-    slice-aggregate-process-2
-    process-requires-2
+    slice-aggregate-render-2
+    render-requires-2
     same-length
     same-length-2
     returns

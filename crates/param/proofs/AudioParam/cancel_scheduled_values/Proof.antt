@@ -16,7 +16,8 @@ use Rattle.rules.specs.Block.{called}
 use Rattle.laws.proofs.Answers.{refused-called}
 use Rattle.laws.proofs.Rows.{cancel-answered}
 use Rattle.param.specs.Param.{paramOf}
-use Rattle.param.proofs.Calls.{leaves, keeps, head-attached}
+use Rattle.timeline.proofs.Heads.{head-attached}
+use Rattle.param.proofs.Calls.{leaves, keeps}
 use Rattle.param.proofs.AudioParam.cancel_scheduled_values.Statement.{statement}
 use Rattle.param.proofs.AudioParam.cancel_scheduled_values.Tie as tie
 

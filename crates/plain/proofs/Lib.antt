@@ -1,0 +1,4 @@
+pub mod Sees
+pub mod Looking
+pub mod Blocks
+pub mod Same
