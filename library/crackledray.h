@@ -1,13 +1,13 @@
-/* One audio parameter, proved: its scheduling calls and its block renderer.
+/* One audio parameter, proved: its scheduling calls, its block renderer, and a schedule file written and read.
  *
  * The caller owns all memory: a state of 399 numbers and a curve store of 4,096 floats, both for one parameter. Neither is
  * allocated, kept or freed here; a state can be copied, stored and compared like any array of numbers. Its first number is the
  * version of its layout: one that was stored under another version gets 100, and so does an array of zeros.
  *
- * Every function but crackledray_version answers 0, or why it is refused: a number of document 01, or 100 (enum
- * crackledray_answer). Where a call is refused nothing changes; the exceptions are the state of crackledray_make and
- * crackledray_make_under, and crackledray_block's steps, current and one, as their comments say. No number that is passed is out of
- * bounds for a function: each is answered or refused.
+ * Every function but crackledray_version answers 0, or why it is refused: a number of document 01 or, of a file, of 02, or 100 and up
+ * (enum crackledray_answer). Where a call is refused nothing changes; the exceptions are the state of crackledray_make and
+ * crackledray_make_under, crackledray_block's steps, current and one, and at of a file's calls, as their comments say. No number that
+ * is passed is out of bounds for a function: each is answered or refused.
  *
  * 100: the state has not 399 numbers, or they fail the test that is made of them at every call (README.md beside this file, "The
  * state", lists it: the version is 3, the rate word is 0 or 1, the edition 1 or 2, at most 64 events wait, in order of time, values
@@ -51,18 +51,23 @@ extern "C" {
 #endif
 
 /* Major, minor and patch, 8 bits each. */
-#define CRACKLEDRAY_VERSION 0x000700u
+#define CRACKLEDRAY_VERSION 0x000800u
 
 /* The same number, of the archive: not this one where header and archive do not belong together. */
 uint32_t crackledray_version(void);
 
 enum {
-    CRACKLEDRAY_STATE = 399,       /* numbers of a state */
-    CRACKLEDRAY_STATE_VERSION = 3, /* the first of them: which layout it has */
-    CRACKLEDRAY_STORE = 4096,      /* floats of a curve store, and of all waiting curves */
-    CRACKLEDRAY_EVENTS = 64,       /* events that can wait */
-    CRACKLEDRAY_COUNT = 128,       /* samples of a block, at most: under the first edition .. */
-    CRACKLEDRAY_LONG_COUNT = 1024  /* .. and under the second */
+    CRACKLEDRAY_STATE = 399,           /* numbers of a state */
+    CRACKLEDRAY_STATE_VERSION = 3,     /* the first of them: which layout it has */
+    CRACKLEDRAY_STORE = 4096,          /* floats of a curve store, and of all waiting curves */
+    CRACKLEDRAY_EVENTS = 64,           /* events that can wait */
+    CRACKLEDRAY_COUNT = 128,           /* samples of a block, at most: under the first edition .. */
+    CRACKLEDRAY_LONG_COUNT = 1024,     /* .. and under the second */
+    CRACKLEDRAY_FILE_LENGTH = 17867,   /* bytes of a schedule file that is written, at most */
+    CRACKLEDRAY_CARD_LENGTH = 408,     /* numbers that keep a reader between two parts: 9, then those of a state */
+    CRACKLEDRAY_CARD_VERSION = 1,      /* the first of them: which layout they have */
+    CRACKLEDRAY_WINDOW_LENGTH = 65538, /* bytes of a reader's window, in which a field is put together */
+    CRACKLEDRAY_PART_LENGTH = 65536    /* bytes of a part, at most */
 };
 
 /* What a parameter is made under, and keeps. The editions differ in how many samples a block can have, and in nothing else. */
@@ -76,11 +81,12 @@ enum crackledray_edition {
 enum crackledray_stack {
     CRACKLEDRAY_STACK_MAKE = 16384, /* crackledray_make, crackledray_make_under */
     CRACKLEDRAY_STACK_HOLD = 40960, /* crackledray_hold */
+    CRACKLEDRAY_STACK_CARD = 40960, /* crackledray_card_part, crackledray_card_end */
     CRACKLEDRAY_STACK_CALL = 32768  /* each of the others */
 };
 
-/* What a call answers. Where several apply, 100 is given, else the lowest, 11 counting as between 6 and 7. The other numbers are given
- * by no function. */
+/* What a call answers. Where several apply, 100 is given, else the lowest, 11 counting as between 6 and 7; of a field of a file 20 to 28
+ * come before document 01's, and of a file the first field that is refused. The other numbers are given by no function. */
 enum crackledray_answer {
     CRACKLEDRAY_ANSWERED = 0,         /* done */
     CRACKLEDRAY_BOUNDS = 1,           /* a bound or the default is not finite, or not min <= default <= max */
@@ -96,7 +102,15 @@ enum crackledray_answer {
     CRACKLEDRAY_INSIDE = 11,          /* inside a waiting curve, or a curve with a waiting event's time inside */
     CRACKLEDRAY_UNKNOWN_EDITION = 12, /* an edition that is neither 1 nor 2 */
     CRACKLEDRAY_BAD_STORE = 14,       /* the curve store has not 4,096 floats */
-    CRACKLEDRAY_BAD_STATE = 100       /* the state's length, or the test of a state (not document 01's) */
+    CRACKLEDRAY_UNKNOWN_TAG = 20,     /* a field's tag is not 1 to 6 */
+    CRACKLEDRAY_WRONG_LENGTH = 21,    /* a field's length is not that of its tag */
+    CRACKLEDRAY_MISPLACED = 22,       /* an event before the range, a second range, or none by the end */
+    CRACKLEDRAY_CUT_SHORT = 23,       /* the file ends inside a field */
+    CRACKLEDRAY_UNWRITABLE = 24,      /* in writing: a held event, a block already answered, or a curve number that is not finite */
+    CRACKLEDRAY_OUT_OF_TURN = 28,     /* an event earlier than the one before it, a time of -0, or a time constant of 0 */
+    CRACKLEDRAY_BAD_STATE = 100,      /* the state's length, or the test of a state or of a reader's array (not document 01's) */
+    CRACKLEDRAY_NO_ROOM = 101,        /* in writing: the slice is shorter than the file */
+    CRACKLEDRAY_LONG_PART = 102       /* a part of more than 65,536 bytes */
 };
 
 /* Makes a parameter of the first edition; K-rate where k_rate, else A-rate. The state may hold anything before. Refused by 1 the
@@ -143,6 +157,35 @@ uint32_t crackledray_hold(uint64_t *state, size_t state_length, double time, flo
 uint32_t crackledray_block(uint64_t *state, size_t state_length, double time, double period, size_t count, const float *input,
                            size_t input_length, float *output, size_t output_length, float *store, size_t store_length,
                            size_t *steps, float *current, bool *one);
+
+/* ---- A schedule file for the memory card (document 02, C-11): a run of fields, each one byte tag, two bytes length, low byte first,
+ * then that many bytes. The range is first; what is written is read back event for event, and to the same bytes. */
+
+/* Writes the schedule of a parameter before its first block, with no held event, into the slice, and nothing behind it. at: how many
+ * bytes the file has. Refused, nothing is written; at is by 24 the place of the event, from 0 in queue order (0 of a block already
+ * answered), by 14 it is 0, by 101 how many bytes the file has; by 100 it stays. 14 is given before 24, and 24 before 101. */
+uint32_t crackledray_card_write(const uint64_t *state, size_t state_length, const float *store, size_t store_length, uint8_t *out,
+                                size_t out_length, size_t *at);
+
+/* A reader before the first part, of a parameter that is to be made K-rate where k_rate, else A-rate, under an edition. What is kept of
+ * a reader between two calls stands in card (408 numbers) and numbers (4,096 floats), which may hold anything before, and from the
+ * first part on in the window (65,538 bytes). The caller lends the same three to every call of one file and writes to none of them; a
+ * card can be copied and stored with the other two. 100: a length. An unknown edition is refused at the range, by 12. */
+uint32_t crackledray_card_open(uint64_t *card, size_t card_length, float *numbers, size_t numbers_length, bool k_rate,
+                               uint64_t edition);
+
+/* The next part of the file, of at most 65,536 bytes, cut anywhere. A field that is refused is not said here but at the end: card[1] has
+ * its number, card[2] its offset, and behind it parts are answered by 0 and not read. 102: a longer part, of which nothing is read.
+ * 100: a length, or the test of the card, as of a state (README.md, "The card"). */
+uint32_t crackledray_card_part(uint64_t *card, size_t card_length, uint8_t *window, size_t window_length, float *numbers,
+                               size_t numbers_length, const uint8_t *part, size_t part_length);
+
+/* The end of the file: its parameter is written over the state, which may hold anything before, and its numbers over the store. at: how
+ * many bytes the file has. Refused by a field's number, at is the byte offset of that field, by 14 (the store's length, given first) it is
+ * 0, and state and store stay as they are; by 100 at stays too. Behind the end the numbers hold anything: a reader is opened anew. */
+uint32_t crackledray_card_end(const uint64_t *card, size_t card_length, const uint8_t *window, size_t window_length, float *numbers,
+                              size_t numbers_length, uint64_t *state, size_t state_length, float *store, size_t store_length,
+                              size_t *at);
 
 #ifdef __cplusplus
 }

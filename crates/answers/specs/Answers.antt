@@ -22,6 +22,7 @@ use Rattle.rules.specs.declared.Verdict.the-variants as Verdict
 use Rattle.rules.specs.Refusals.{numberOf}
 use Rattle.text.specs.Digits.{decimalOf}
 use Rattle.text.specs.Floats.{floatText}
+use Rattle.text.specs.Hex.{bytesText}
 
 -- ---- fields: each behind its mark, a space (32), a colon (58) or a comma (44)
 
@@ -50,6 +51,14 @@ listText first mark (x ∷ xs) = single first x ++ listText mark mark xs
 unfoldable pub verdictText : Verdict → List ℕ
 verdictText Verdict.Answered = 111 ∷ 107 ∷ []
 verdictText (Verdict.Refused why) = (114 ∷ 101 ∷ 102 ∷ 117 ∷ 115 ∷ 101 ∷ 100 ∷ []) ++ count 32 (numberOf why)
+
+-- "`saved HEX`" (02, C-11)
+unfoldable pub savedText : List ℕ → List ℕ
+savedText file = (115 ∷ 97 ∷ 118 ∷ 101 ∷ 100 ∷ 32 ∷ []) ++ bytesText file
+
+-- "`refused 24 PLACE`", "`refused NUMBER OFFSET`" (02, C-11)
+unfoldable pub faultText : ℕ → ℕ → List ℕ
+faultText number place = (114 ∷ 101 ∷ 102 ∷ 117 ∷ 115 ∷ 101 ∷ 100 ∷ []) ++ (count 32 number ++ count 32 place)
 
 -- `block STEPS CURRENT ONE`
 unfoldable pub blockText : ℕ → Float → Bool → List ℕ

@@ -7,7 +7,7 @@ ghost use lib.Ieee.{binary32, binary64};
 ghost use Rattle.text.specs.Digits.{decimalOf};
 ghost use Rattle.text.specs.Floats.{floatText};
 ghost use Rattle.text.specs.Put.{Put};
-ghost use Rattle.answers.specs.Answers.{timeText, lastText, rateText, editionText, kindText, eventText, listText, verdictText, blockText, restText, zerosText, boundsText, endText, spanText, stateText, stepText, rampText, targetText, curveText, areMarks, areZeros};
+ghost use Rattle.answers.specs.Answers.{timeText, lastText, rateText, editionText, kindText, eventText, listText, verdictText, savedText, faultText, blockText, restText, zerosText, boundsText, endText, spanText, stateText, stepText, rampText, targetText, curveText, areMarks, areZeros};
 use refusals::number_of;
 use rules::AutomationRate;
 use rules::Bounds;
@@ -17,6 +17,7 @@ use rules::Finished;
 use rules::LastEvent;
 use rules::MaybeTime;
 use rules::Verdict;
+use text::hex::put_bytes;
 use text::write::put_byte;
 use text::write::put_count;
 use text::write::put_double;
@@ -95,6 +96,27 @@ pub fn put_verdict(out: &mut [u8], at: usize, verdict: Verdict) -> usize
             put_count_behind(out, next, b' ', number_of(why) as u64)
         }
     }
+}
+
+// `saved`, and the file's bytes.
+pub fn put_saved(out: &mut [u8], at: usize, file: &[u8]) -> usize
+    requires { ⌜ at + (6 + 2 * length (now file)) ≤ length (now out) ⌝ }
+    ensures { λ r. ⌜ Put (now (out .entry)) at (savedText (now (file .entry))) (now (out .exit)) r ⌝ }
+    ensures { λ r. ⌜ r ≤ at + (6 + 2 * length (now (file .entry))) ⌝ }
+{
+    let next = put_word(out, at, b"saved ");
+    put_bytes(out, next, file)
+}
+
+// `refused`, the number, and where: an offset in a file, or an event's place.
+pub fn put_fault(out: &mut [u8], at: usize, number: u64, place: u64) -> usize
+    requires { ⌜ at + 49 ≤ length (now out) ⌝ }
+    ensures { λ r. ⌜ Put (now (out .entry)) at (faultText number place) (now (out .exit)) r ⌝ }
+    ensures { λ r. ⌜ r ≤ at + 49 ⌝ }
+{
+    let next = put_word(out, at, b"refused");
+    let next = put_count_behind(out, next, b' ', number);
+    put_count_behind(out, next, b' ', place)
 }
 
 // `block`, the steps, the current value, and whether it is one-valued.

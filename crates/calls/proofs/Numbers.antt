@@ -66,27 +66,33 @@ at-last ns count i ws low high =
     let all : i ≡ count = omega arith in
     rw (none-left, all, append-nil (take count ns))
 
--- ---- a call and its numbers
+-- ---- a call, its numbers and its bytes
 
-pub unheard : {o : Option Said} (numbers : List Float) → o ≡ none → Heard o Call.Unread numbers
-unfolding Heard
-unheard numbers e = subst (λ (o : Option Said). Heard o Call.Unread numbers) (sym e) refl
+front : {A : Type 0} (n : ℕ) (xs : List A) → take (length (take n xs)) xs ≡ take n xs
+front zero xs = refl
+front (suc n) [] = refl
+front {A} (suc n) (x ∷ xs) = ap (λ (ys : List A). x ∷ ys) (front n xs)
 
--- the n numbers in front
-pub heard-with : {o : Option Said} {call : Call} (n : ℕ) (numbers : List Float) → o ≡ some (call, take n numbers) → Heard o call numbers
-unfolding Heard
-heard-with {o} {call} n numbers e = subst (λ (o : Option Said). Heard o call numbers) (sym e) (refl, front n numbers)
-  where
-    front : (n : ℕ) (xs : List Float) → take (length (take n xs)) xs ≡ take n xs
-    front zero xs = refl
-    front (suc n) [] = refl
-    front (suc n) (x ∷ xs) = ap (λ (ys : List Float). x ∷ ys) (front n xs)
+module _ {o : Option Said} (numbers : List Float) (file : List ℕ) where
+  pub unheard : o ≡ none → Heard o Call.Unread numbers file
+  unfolding Heard
+  unheard e = subst (λ (o : Option Said). Heard o Call.Unread numbers file) (sym e) refl
 
--- a call that has no numbers
-pub heard-bare : (o : Option Call) {call : Call} (numbers : List Float) → call ≡ heard o → Heard (bare o) call numbers
+  -- the n numbers in front
+  pub heard-with : {call : Call} (n : ℕ) → o ≡ some (call, take n numbers, []) → Heard o call numbers file
+  unfolding Heard
+  heard-with {call} n e = subst (λ (o : Option Said). Heard o call numbers file) (sym e) (refl, front n numbers, refl)
+
+  -- the n bytes in front
+  pub heard-file : {call : Call} (n : ℕ) → o ≡ some (call, [], take n file) → Heard o call numbers file
+  unfolding Heard
+  heard-file {call} n e = subst (λ (o : Option Said). Heard o call numbers file) (sym e) (refl, refl, front n file)
+
+-- a call that has neither
+pub heard-bare : (o : Option Call) {call : Call} (numbers : List Float) (file : List ℕ) → call ≡ heard o → Heard (bare o) call numbers file
 unfolding Heard heard bare
-heard-bare none numbers e = e
-heard-bare (some c) numbers e = (e, refl)
+heard-bare none numbers file e = e
+heard-bare (some c) numbers file e = (e, refl, refl)
 
 module _ {B : Type 0} (s : List ℕ) (at n : ℕ) (xs : List Float) {r : NextNumbers} (then : List Float → List Word → Option B) (e : numbersAt s xs r ≡ singles n (wordsFrom s at)) where
   pub numbers-are : {next : ℕ} → r ≡ NextNumbers.At next → withTaken (singles n (wordsFrom s at)) then ≡ then xs (wordsFrom s next)

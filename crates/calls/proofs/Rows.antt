@@ -28,18 +28,18 @@ pub no-row : (w : Word) (ws : List Word) → found [] w ws ≡ none
 unfolding found
 no-row w ws = refl
 
-pub heard-by : {o o′ : Option Said} (call : Call) (numbers : List Float) → o ≡ o′ → Heard o′ call numbers → Heard o call numbers
-heard-by call numbers e h = subst (λ (x : Option Said). Heard x call numbers) (sym e) h
+pub heard-by : {o o′ : Option Said} (call : Call) (numbers : List Float) (file : List ℕ) → o ≡ o′ → Heard o′ call numbers file → Heard o call numbers file
+heard-by call numbers file e h = subst (λ (x : Option Said). Heard x call numbers file) (sym e) h
 
-pub empty-line : (line : List ℕ) (numbers : List Float) → length line ≡ 0 → Heard (callOf line) Call.Nothing numbers
+pub empty-line : (line : List ℕ) (numbers : List Float) (file : List ℕ) → length line ≡ 0 → Heard (callOf line) Call.Nothing numbers file
 unfolding callOf Heard
-empty-line [] numbers h = (refl, refl)
-empty-line (c ∷ cs) numbers h = absurd (omega arith)
+empty-line [] numbers file h = (refl, refl, refl)
+empty-line (c ∷ cs) numbers file h = absurd (omega arith)
 
-pub comment : (line : List ℕ) (numbers : List Float) → (length line ≡ 0 → ⊥) → getD line 0 0 ≡ 35 → Heard (callOf line) Call.Nothing numbers
+pub comment : (line : List ℕ) (numbers : List Float) (file : List ℕ) → (length line ≡ 0 → ⊥) → getD line 0 0 ≡ 35 → Heard (callOf line) Call.Nothing numbers file
 unfolding callOf Heard
-comment [] numbers some-char h = absurd (some-char refl)
-comment (c ∷ cs) numbers some-char h = rw (eq-eqb c 35 h) (refl, refl)
+comment [] numbers file some-char h = absurd (some-char refl)
+comment (c ∷ cs) numbers file some-char h = rw (eq-eqb c 35 h) (refl, refl, refl)
 
 pub by-word : (line : List ℕ) → (length line ≡ 0 → ⊥) → (getD line 0 0 ≡ 35 → ⊥) → (to : ℕ) → to ≡ endOf line 0 → callOf line ≡ found calls (take (to - 0) (drop 0 line)) (wordsFrom line (to + 1))
 unfolding callOf byFirst

@@ -4,12 +4,13 @@ use mathlib.Core.Bool.{Bool, cond}
 use mathlib.Core.List.{List, [], _∷_}
 use mathlib.Core.Option.{Option, none, some}
 use Prim.Native.Nat.{ℕ, zero, suc, _-_, _^_}
-use lib.Dec.{eqb}
+use lib.Dec.{ltb, eqb}
 use lib.ListN.{length, take}
 use lib.Ieee.{Float, binary32, binary64}
 use Rattle.rules.specs.declared.AutomationRate.{AutomationRate}
 use Rattle.rules.specs.declared.AutomationRate.the-variants as Rate
 use Rattle.text.specs.Floats.{floatIn}
+use Rattle.text.specs.Hex.{bytesUpTo}
 use Rattle.text.specs.Words.{Word, sameWord, wordsOf, wordsFrom, taken, isOver, countIn}
 use Rattle.calls.specs.declared.Call.{Call}
 use Rattle.calls.specs.declared.Call.the-variants as Call
@@ -44,6 +45,10 @@ module _ {B : Type 0} where
   -- "Counts are decimal", from 0 to `most`
   unfoldable pub withCount : ℕ → List Word → (ℕ → List Word → Option B) → Option B
   withCount most ws then = withTaken (taken (countIn most) ws) then
+
+  -- PART, "(1 to 65536 ..)" (02, C-11)
+  unfoldable pub withPart : List Word → (ℕ → List Word → Option B) → Option B
+  withPart ws then = withCount 65536 ws (λ n ws. cond (ltb 0 n) (then n ws) none)
 
   -- the line ends here
   unfoldable pub ending : List Word → B → Option B
@@ -115,28 +120,38 @@ pokeOf ws = withCount 8191 ws (λ i ws. withSingle ws (λ v ws. ending ws (Call.
 unfoldable pub stateOf : List Word → Option Call
 stateOf ws = ending ws Call.State
 
--- a call with the numbers that are said behind it
+-- `save` (02, C-11)
+unfoldable pub saveOf : List Word → Option Call
+saveOf ws = ending ws Call.Save
+
+-- a call with the numbers and the file's bytes that are said behind it
 abbrev pub Said : Type 0
-Said = Call × List Float
+Said = Call × List Float × List ℕ
 
 -- `curve T D N V1 .. VN`, "N from 0 to 5000"
 unfoldable pub curveOf : List Word → Option Said
 curveOf ws =
     withDouble ws (λ t ws. withDouble ws (λ d ws. withCount 5000 ws (λ n ws. withTaken (singles n ws) (λ xs ws.
-    ending ws (Call.Curve t d n, xs)))))
+    ending ws (Call.Curve t d n, xs, [])))))
 
 -- `block T P COUNT OUT IN I1 .. IIN`, "OUT and IN from 0 to 4096; COUNT any u64"; `plain ..`, "a block by the plain renderer; words .. as for `block`" (02, C-16)
 unfoldable pub blockOf : Renderer → List Word → Option Said
 blockOf by ws =
     withDouble ws (λ t ws. withDouble ws (λ p ws. withCount (2 ^ 64 - 1) ws (λ n ws. withCount 4096 ws (λ o ws. withCount 4096 ws (λ i ws.
-    withTaken (singles i ws) (λ xs ws. ending ws (Call.Block by t p n o i, xs)))))))
+    withTaken (singles i ws) (λ xs ws. ending ws (Call.Block by t p n o i, xs, [])))))))
+
+-- `load PART HEX RATE`, `load PART HEX RATE EDITION` (02, C-11), HEX "at most 30,000 bytes"
+unfoldable pub loadOf : List Word → Option Said
+loadOf ws =
+    withPart ws (λ part ws. withTaken (taken (bytesUpTo 30000) ws) (λ file ws. withTaken (taken rateIn ws) (λ rate ws.
+    withTaken (editionTaken ws) (λ edition ws. ending ws (Call.Load part (file .0) rate edition, [], file .1)))))
 
 -- ---- a line
 
--- a call that has no numbers behind it
+-- a call that has neither behind it
 unfoldable pub bare : Option Call → Option Said
 bare none = none
-bare (some c) = some (c, [])
+bare (some c) = some (c, [], [])
 
 -- the first word of each call, and what is read behind it
 pub data Row : Type 0 where
@@ -152,13 +167,14 @@ scheduling =
     ∷ row (99 ∷ 97 ∷ 110 ∷ 99 ∷ 101 ∷ 108 ∷ []) (λ ws. bare (cancelling Cancelling.Cancel ws))
     ∷ row (104 ∷ 111 ∷ 108 ∷ 100 ∷ []) (λ ws. bare (cancelling Cancelling.Hold ws)) ∷ []
 
--- make, block, plain, lend, poke, state, and these
+-- make, block, plain, lend, poke, state, save, load, and these
 unfoldable pub calls : List Row
 calls =
     row (109 ∷ 97 ∷ 107 ∷ 101 ∷ []) (λ ws. bare (makeOf ws)) ∷ row (98 ∷ 108 ∷ 111 ∷ 99 ∷ 107 ∷ []) (blockOf Renderer.Fast)
     ∷ row (112 ∷ 108 ∷ 97 ∷ 105 ∷ 110 ∷ []) (blockOf Renderer.Plain)
     ∷ row (108 ∷ 101 ∷ 110 ∷ 100 ∷ []) (λ ws. bare (lendOf ws)) ∷ row (112 ∷ 111 ∷ 107 ∷ 101 ∷ []) (λ ws. bare (pokeOf ws))
-    ∷ row (115 ∷ 116 ∷ 97 ∷ 116 ∷ 101 ∷ []) (λ ws. bare (stateOf ws)) ∷ scheduling
+    ∷ row (115 ∷ 116 ∷ 97 ∷ 116 ∷ 101 ∷ []) (λ ws. bare (stateOf ws)) ∷ row (115 ∷ 97 ∷ 118 ∷ 101 ∷ []) (λ ws. bare (saveOf ws))
+    ∷ row (108 ∷ 111 ∷ 97 ∷ 100 ∷ []) loadOf ∷ scheduling
 
 unfoldable pub found : List Row → Word → List Word → Option Said
 found [] w ws = none
@@ -170,8 +186,8 @@ byFirst (w ∷ ws) = found calls w ws
 
 -- "an empty line or one that begins with `#`" has no call
 unfoldable pub callOf : List ℕ → Option Said
-callOf [] = some (Call.Nothing, [])
-callOf (c ∷ cs) = cond (eqb c 35) (some (Call.Nothing, [])) (byFirst (wordsOf (c ∷ cs)))
+callOf [] = some (Call.Nothing, [], [])
+callOf (c ∷ cs) = cond (eqb c 35) (some (Call.Nothing, [], [])) (byFirst (wordsOf (c ∷ cs)))
 
 -- ---- what the code says
 
@@ -179,10 +195,10 @@ unfoldable pub heard : Option Call → Call
 heard none = Call.Unread
 heard (some c) = c
 
--- the call, and its numbers in front of the slice that was lent
-unfoldable pub Heard : Option Said → Call → List Float → Type 0
-Heard none r numbers = r ≡ Call.Unread
-Heard (some s) r numbers = (r ≡ s .0) × (take (length (s .1)) numbers ≡ s .1)
+-- the call, its numbers in front of the slice that was lent for them, and its bytes in front of the file's
+unfoldable pub Heard : Option Said → Call → List Float → List ℕ → Type 0
+Heard none r numbers file = r ≡ Call.Unread
+Heard (some s) r numbers file = (r ≡ s .0) × (take (length (s .1)) numbers ≡ s .1) × (take (length (s .2)) file ≡ s .2)
 
 unfoldable pub rateAt : List ℕ → NextRate → Option (AutomationRate × List Word)
 rateAt s (NextRate.Is r next) = some (r, wordsFrom s next)

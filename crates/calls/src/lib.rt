@@ -1,11 +1,14 @@
 // A line of the session language, read as the call that it is.
 ghost use mathlib.Core.Path.{_≡_};
+ghost use mathlib.Core.List.{List};
 ghost use Prim.Native.Nat.{ℕ, _≤_};
 ghost use lib.ListN.{length, take};
+ghost use lib.Ieee.{Float};
 ghost use Rattle.text.specs.Words.{wordsFrom, taken, countAt};
-ghost use Rattle.calls.specs.Language.{heard, Heard, rateIn, rateAt, editionTaken, numbersAt, countedAt, singles, counted, makeOf, setOf, timed, targetOf, curveOf, cancelling, blockOf, lendOf, pokeOf, stateOf, found, scheduling, callOf};
+ghost use Rattle.calls.specs.Language.{heard, Heard, rateIn, rateAt, editionTaken, numbersAt, countedAt, singles, counted, makeOf, setOf, timed, targetOf, curveOf, cancelling, blockOf, lendOf, pokeOf, stateOf, saveOf, loadOf, found, scheduling, callOf};
 use rules::AutomationRate;
 use rules::Bounds;
+use text::hex::next_bytes;
 use text::words::NextCount;
 use text::words::NextDouble;
 use text::words::NextSingle;
@@ -16,7 +19,8 @@ use text::words::over;
 use text::words::same;
 use text::words::word_end;
 
-// A call of the page, or a line that has none. The numbers of a curve and a block's input go into a lent slice.
+// A call of the page, or a line that has none. The numbers of a curve and a block's input go into a lent slice, and a file's bytes into
+// another.
 pub enum Call {
     Nothing,
     Unread,
@@ -73,6 +77,14 @@ pub enum Call {
         value: f32,
     },
     State,
+    Save,
+    // a file of so many bytes, in parts of so many
+    Load {
+        part: usize,
+        len: usize,
+        rate: AutomationRate,
+        edition: u64,
+    },
 }
 
 pub enum NextRate {
@@ -332,9 +344,54 @@ fn read_state(line: &[u8], at: usize) -> Call
     }
 }
 
+fn read_save(line: &[u8], at: usize) -> Call
+    ensures { λ r. ⌜ r ≡ heard (saveOf (wordsFrom (now (line .entry)) at)) ⌝ }
+{
+    if over(line, at) {
+        Call::Save
+    } else {
+        Call::Unread
+    }
+}
+
+fn read_load(line: &[u8], at: usize, file: &mut [u8]) -> Call
+    requires { ⌜ 30000 ≤ length (now file) ⌝ }
+    ensures { λ r. ⌜ ((numbers : List Float) → Heard (loadOf (wordsFrom (now (line .entry)) at)) r numbers (now (file .exit))) ⌝ }
+{
+    let NextCount::Is { value: part, next } = next_count(line, at, 65536) else {
+        return Call::Unread;
+    };
+    if part == 0 {
+        return Call::Unread;
+    }
+    let NextCount::Is { value: len, next } = next_bytes(line, next, 30000, file) else {
+        return Call::Unread;
+    };
+    let NextRate::Is { rate, next } = next_rate(line, next) else {
+        return Call::Unread;
+    };
+    let NextCount::Is {
+        value: edition,
+        next,
+    } = next_edition(line, next)
+    else {
+        return Call::Unread;
+    };
+    if over(line, next) {
+        Call::Load {
+            part: part as usize,
+            len: len as usize,
+            rate,
+            edition,
+        }
+    } else {
+        Call::Unread
+    }
+}
+
 fn read_curve(line: &[u8], at: usize, numbers: &mut [f32]) -> Call
     requires { ⌜ 5000 ≤ length (now numbers) ⌝ }
-    ensures { λ r. ⌜ Heard (curveOf (wordsFrom (now (line .entry)) at)) r (now (numbers .exit)) ⌝ }
+    ensures { λ r. ⌜ ((file : List ℕ) → Heard (curveOf (wordsFrom (now (line .entry)) at)) r (now (numbers .exit)) file) ⌝ }
 {
     let NextDouble::Is { value: start, next } = next_double(line, at) else {
         return Call::Unread;
@@ -362,7 +419,7 @@ fn read_curve(line: &[u8], at: usize, numbers: &mut [f32]) -> Call
 
 fn read_block(line: &[u8], at: usize, by: Renderer, numbers: &mut [f32]) -> Call
     requires { ⌜ 4096 ≤ length (now numbers) ⌝ }
-    ensures { λ r. ⌜ Heard (blockOf by (wordsFrom (now (line .entry)) at)) r (now (numbers .exit)) ⌝ }
+    ensures { λ r. ⌜ ((file : List ℕ) → Heard (blockOf by (wordsFrom (now (line .entry)) at)) r (now (numbers .exit)) file) ⌝ }
 {
     let NextDouble::Is { value: time, next } = next_double(line, at) else {
         return Call::Unread;
@@ -404,7 +461,7 @@ fn read_block(line: &[u8], at: usize, by: Renderer, numbers: &mut [f32]) -> Call
 // The calls that change the waiting events.
 fn read_scheduling(word: &[u8], line: &[u8], at: usize, numbers: &mut [f32]) -> Call
     requires { ⌜ 5000 ≤ length (now numbers) ⌝ }
-    ensures { λ r. ⌜ Heard (found scheduling (now (word .entry)) (wordsFrom (now (line .entry)) at)) r (now (numbers .exit)) ⌝ }
+    ensures { λ r. ⌜ ((file : List ℕ) → Heard (found scheduling (now (word .entry)) (wordsFrom (now (line .entry)) at)) r (now (numbers .exit)) file) ⌝ }
 {
     if same(word, b"set") {
         return read_set(line, at);
@@ -433,10 +490,11 @@ fn read_scheduling(word: &[u8], line: &[u8], at: usize, numbers: &mut [f32]) -> 
     Call::Unread
 }
 
-// The call of a line, which has no newline; the numbers of a curve or an input are then in front of `numbers`.
-pub fn read_call(line: &[u8], numbers: &mut [f32]) -> Call
-    requires { ⌜ 5000 ≤ length (now numbers) ⌝ }
-    ensures { λ r. ⌜ Heard (callOf (now (line .entry))) r (now (numbers .exit)) ⌝ }
+// The call of a line, which has no newline; the numbers of a curve or an input are then in front of `numbers`, and a file's bytes in
+// front of `file`.
+pub fn read_call(line: &[u8], numbers: &mut [f32], file: &mut [u8]) -> Call
+    requires { ⌜ (5000 ≤ length (now numbers)) × (30000 ≤ length (now file)) ⌝ }
+    ensures { λ r. ⌜ Heard (callOf (now (line .entry))) r (now (numbers .exit)) (now (file .exit)) ⌝ }
 {
     if line.len() == 0 {
         return Call::Nothing;
@@ -464,6 +522,12 @@ pub fn read_call(line: &[u8], numbers: &mut [f32]) -> Call
     }
     if same(word, b"state") {
         return read_state(line, next);
+    }
+    if same(word, b"save") {
+        return read_save(line, next);
+    }
+    if same(word, b"load") {
+        return read_load(line, next, file);
     }
     read_scheduling(word, line, next, numbers)
 }

@@ -27,7 +27,7 @@ use Rattle.clashes.specs.Clashes.{spanOf, curveIn, eventIn, orElse, cove
 
 -- their places among the calls, as a `match` tells them
 abbrev others : List ℕ
-others = 0 ∷ 1 ∷ 2 ∷ 9 ∷ 10 ∷ 11 ∷ 12 ∷ 13 ∷ 14 ∷ []
+others = 0 ∷ 1 ∷ 2 ∷ 9 ∷ 10 ∷ 11 ∷ 12 ∷ 13 ∷ 14 ∷ 15 ∷ 16 ∷ []
 
 pub no-clash : (q : List Event) (call : Call) → OneOf others (tagOf the-type call) → Clash.None ≡ clashOf q call
 unfolding clashOf
@@ -46,6 +46,8 @@ no-clash q (Call.Block by t p n o i) h = refl
 no-clash q (Call.Lend n) h = refl
 no-clash q (Call.Poke i v) h = refl
 no-clash q Call.State h = refl
+no-clash q Call.Save h = refl
+no-clash q (Call.Load part n rate edition) h = refl
 
 -- ---- the others: whether something is in the way
 

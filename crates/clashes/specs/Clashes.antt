@@ -68,6 +68,8 @@ clashOf q (Call.Block by t p n o i) = Clash.None
 clashOf q (Call.Lend n) = Clash.None
 clashOf q (Call.Poke i v) = Clash.None
 clashOf q Call.State = Clash.None
+clashOf q Call.Save = Clash.None
+clashOf q (Call.Load part n rate edition) = Clash.None
 
 -- ---- in words
 

@@ -1,4 +1,3 @@
-pub mod Patterns
 pub mod Words
 pub mod Written
 pub mod Read

@@ -12,7 +12,8 @@ use Rattle.rules.specs.declared.MaybeTime.{MaybeTime}
 use Rattle.rules.specs.declared.MaybeTime.the-variants as MaybeTime
 use Rattle.rules.specs.declared.Event.{Event}
 use Rattle.rules.specs.declared.Event.the-variants as Event
-use Rattle.coding.specs.Coding.{eventWords, placeOf, timeIn, eventOf, eventAt, eventsIn, flagOf, bitsOf, wordsOf, wordsFor, writtenAt, SingleBits, DoubleBits, TimeBits, PutsWords, PutsEvent}
+use Rattle.words.specs.Words.{SingleBits, DoubleBits}
+use Rattle.coding.specs.Coding.{eventWords, placeOf, timeIn, eventOf, eventAt, eventsIn, flagOf, bitsOf, wordsOf, wordsFor, writtenAt, TimeBits, PutsWords, PutsEvent}
 
 -- ---- one event
 

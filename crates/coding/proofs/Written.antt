@@ -19,7 +19,8 @@ use Rattle.timeline.specs.declared.AudioParamEvent.{AudioParamEvent}
 use Rattle.timeline.specs.declared.AudioParamEventTimeline.{AudioParamEventTimeline}
 use Rattle.timeline.specs.Timeline.{made}
 use Rattle.timeline.proofs.Laws.{Filled, filled-made, waits-of}
-use Rattle.coding.specs.Coding.{headWords, stateLength, stateVersion, placeOf, rateIn, rateWord, editionWord, eventAt, eventsIn, paramIn, wordsOf, wordsFor, headOf, stateOf, flagOf, lastFlag, lastTime, lastValue, SingleBits, TimeBits, PutsEvent, PutsLast, PutsHead, Queues}
+use Rattle.words.specs.Words.{SingleBits}
+use Rattle.coding.specs.Coding.{headWords, stateLength, stateVersion, placeOf, rateIn, rateWord, editionWord, eventAt, eventsIn, paramIn, wordsOf, wordsFor, headOf, stateOf, flagOf, lastFlag, lastTime, lastValue, TimeBits, PutsEvent, PutsLast, PutsHead, Queues}
 use Rattle.coding.proofs.Words.{six, event-behind, events-front, events-more, words-more, words-length}
 
 -- ---- the queue of a state

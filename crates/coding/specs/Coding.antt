@@ -2,11 +2,11 @@
 use mathlib.Core.Path.{_≡_}
 use mathlib.Core.Bool.{Bool, cond, _&&_}
 use mathlib.Core.List.{List, [], _∷_, _++_}
-use Prim.Native.Nat.{ℕ, zero, suc, _+_, _*_, _%_, _^_, _≤_}
+use Prim.Native.Nat.{ℕ, zero, suc, _+_, _*_, _≤_}
 use lib.Dec.{leb, eqb}
 use lib.ListN.{length, getD, take, drop}
 use lib.Seq.{sets}
-use lib.Ieee.{Float, binary32, binary64, ofBits, toBits}
+use lib.Ieee.{Float, binary32, binary64, toBits}
 use Rattle.rules.specs.declared.MaybeTime.{MaybeTime}
 use Rattle.rules.specs.declared.MaybeTime.the-variants as MaybeTime
 use Rattle.rules.specs.declared.LastEvent.{LastEvent}
@@ -27,6 +27,7 @@ use Rattle.timeline.specs.Timeline.{waiting}
 use Rattle.param.specs.declared.AudioParam.{AudioParam}
 use Rattle.param.specs.declared.Outcome.{Outcome}
 use Rattle.param.specs.Param.{paramOf, structOf, unmade, SoundParam}
+use Rattle.words.specs.Words.{singleIn, doubleIn}
 
 -- ---- the layout
 
@@ -49,13 +50,6 @@ abbrev pub placeOf : ℕ → ℕ
 placeOf i = headWords + eventWords * i
 
 -- ---- what is read
-
--- a float is its bits, every NaN the one NaN; an f32's are the low 32 of its number
-abbrev pub singleIn : ℕ → Float
-singleIn n = ofBits binary32 (n % 2 ^ 32)
-
-abbrev pub doubleIn : ℕ → Float
-doubleIn n = ofBits binary64 n
 
 -- 0, or the time that follows
 unfoldable pub timeIn : ℕ → ℕ → MaybeTime
@@ -170,15 +164,7 @@ writtenAt s at ws = take at s ++ ws ++ drop (at + length ws) s
 
 -- ---- what the functions ensure
 
--- a float's bits give it back
-pub record SingleBits (x : Float) (n : ℕ) : Type 0 where
-  pub is : n ≡ toBits binary32 x
-  pub back : singleIn (toBits binary32 x) ≡ x
-
-pub record DoubleBits (x : Float) (n : ℕ) : Type 0 where
-  pub is : n ≡ toBits binary64 x
-  pub back : doubleIn (toBits binary64 x) ≡ x
-
+-- a time's bits give it back
 pub record TimeBits (t : MaybeTime) (n : ℕ) : Type 0 where
   pub is : n ≡ bitsOf t
   pub back : timeIn (flagOf t) (bitsOf t) ≡ t

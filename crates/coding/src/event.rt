@@ -3,12 +3,12 @@ ghost use mathlib.Core.Path.{_≡_};
 ghost use Prim.Native.Nat.{_+_, _≤_};
 ghost use lib.ListN.{length};
 ghost use Rattle.coding.specs.Coding.{timeIn, eventOf, eventAt, flagOf, TimeBits, PutsWords, PutsEvent};
-use crate::bits::double_bits;
-use crate::bits::double_in;
-use crate::bits::single_bits;
-use crate::bits::single_in;
 use rules::Event;
 use rules::MaybeTime;
+use words::double_bits;
+use words::double_in;
+use words::single_bits;
+use words::single_in;
 
 pub fn time_in(flag: u64, time: u64) -> MaybeTime
     ensures { λ r. ⌜ r ≡ timeIn flag time ⌝ }

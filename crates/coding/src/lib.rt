@@ -3,10 +3,6 @@ ghost use mathlib.Core.Path.{_≡_};
 ghost use lib.ListN.{length};
 ghost use Rattle.param.specs.Param.{paramOf, SoundParam, unmade};
 ghost use Rattle.coding.specs.Coding.{stateLength, lastIn, rateIn, rateWord, editionWord, PutsLast, PutsHead, Queues, Decodes, Encodes};
-use bits::double_bits;
-use bits::double_in;
-use bits::single_bits;
-use bits::single_in;
 use event::event_at;
 use event::flag_of;
 use event::put_event;
@@ -23,9 +19,12 @@ use rules::Finished;
 use rules::LastEvent;
 use timeline::AudioParamEvent;
 use timeline::AudioParamEventTimeline;
+use words::double_bits;
+use words::double_in;
+use words::single_bits;
+use words::single_in;
 
-mod bits; // bits.rt: floats as numbers
-mod event; // event.rt: one waiting event
+pub mod event; // event.rt: one waiting event
 
 // How many numbers a state has: its version, the parameter's own, then those of 64 events.
 pub const LENGTH: usize = 399;
@@ -37,7 +36,7 @@ const HEAD: usize = 15;
 
 const EVENT: usize = 6;
 
-fn rate_in(word: u64) -> AutomationRate
+pub fn rate_in(word: u64) -> AutomationRate
     ensures { λ r. ⌜ r ≡ rateIn word ⌝ }
 {
     if word == 0 {
@@ -122,7 +121,7 @@ pub fn decode(state: &[u64]) -> Outcome
     AudioParam::from_parts(bounds, rate, edition, intrinsic, timeline, block, end, last)
 }
 
-fn rate_word(rate: AutomationRate) -> u64
+pub fn rate_word(rate: AutomationRate) -> u64
     ensures { λ r. ⌜ r ≡ rateWord rate ⌝ }
 {
     match rate {

@@ -1,73 +1,47 @@
 -- What a state gives, the call on that, and what is written: the exported call, whatever the call is. Assumes nothing.
 use mathlib.Core.Path.{_≡_, refl, sym, ap, _∙_}
-use mathlib.Core.Bool.{Bool, true, false}
+use mathlib.Core.Bool.{true, false}
 use mathlib.Core.List.{List}
-use Prim.Native.Nat.{ℕ, _≤_}
+use Prim.Native.Nat.{ℕ}
 use native.Mathlib.Omega.{arith}
 use lib.Dec.{eqb}
-use lib.ListN.{length, length-append, length-drop}
+use lib.ListN.{length}
 use lib.Ieee.{Float}
-use borrow.Author.Tests.{eqb-true, eq-eqb, ne-eqb}
+use borrow.Author.Tests.{eq-eqb, ne-eqb}
 use Rattle.rules.specs.declared.AutomationRate.{AutomationRate}
 use Rattle.rules.specs.declared.Bounds.{Bounds}
 use Rattle.rules.specs.declared.Refusal.{Refusal}
-use Rattle.rules.specs.declared.Refusal.the-variants as Refusal
 use Rattle.rules.specs.declared.Verdict.{Verdict}
 use Rattle.rules.specs.declared.Verdict.the-variants as Verdict
-use Rattle.rules.specs.Numbers.{mostEvents}
-use Rattle.rules.specs.Refusals.{numberOf}
 use Rattle.rules.specs.Block.{Param, made, Command, Called, called, Call, Answer, answered}
-use Rattle.laws.proofs.Tests.{clash, both}
+use Rattle.laws.proofs.Tests.{clash}
 use Rattle.param.specs.declared.AudioParam.{AudioParam}
 use Rattle.param.specs.declared.Outcome.{Outcome}
 use Rattle.param.specs.declared.Processed.{Processed}
-use Rattle.param.specs.Param.{paramOf, structOf, unmade, SoundParam, Makes, Answers}
+use Rattle.param.specs.Param.{paramOf, SoundParam, Makes, Answers}
 use Rattle.param.specs.Processed.{Processes}
 use Rattle.param.proofs.Calls.{struct-back}
 use Rattle.param.proofs.Settled.{refused-same}
 use Rattle.param.proofs.Blocks.{refused-keeps}
 use Rattle.coding.specs.Coding.{stateLength, paramIn, isState, stateOf, Decodes, Encodes}
-use Rattle.coding.proofs.Words.{words-length}
-use Rattle.coding.proofs.Read.{encoded-accepted}
+use Rattle.card_coding.proofs.States.{reads-back, opened, shut}
+use Rattle.card_coding.proofs.Kept.{refusal-number}
 use Rattle.crackledray.specs.Exported.{badState, numberAs, stateAfter, told, Played, played, Begins, Tells, Plays, Closes}
 
 -- ---- numbers
 
 -- 0 is no refusal's number
 zero-answers : (v : Verdict) → numberAs v ≡ 0 → v ≡ Verdict.Answered
-unfolding numberAs numberOf
+unfolding numberAs
 zero-answers Verdict.Answered h = refl
-zero-answers (Verdict.Refused Refusal.Bounds) h = absurd (omega (arith, h))
-zero-answers (Verdict.Refused Refusal.NotFinite) h = absurd (omega (arith, h))
-zero-answers (Verdict.Refused Refusal.BeforeZero) h = absurd (omega (arith, h))
-zero-answers (Verdict.Refused Refusal.NotAbove) h = absurd (omega (arith, h))
-zero-answers (Verdict.Refused Refusal.ZeroTarget) h = absurd (omega (arith, h))
-zero-answers (Verdict.Refused Refusal.ShortCurve) h = absurd (omega (arith, h))
-zero-answers (Verdict.Refused Refusal.QueueFull) h = absurd (omega (arith, h))
-zero-answers (Verdict.Refused Refusal.StoreFull) h = absurd (omega (arith, h))
-zero-answers (Verdict.Refused Refusal.BadBlock) h = absurd (omega (arith, h))
-zero-answers (Verdict.Refused Refusal.OutOfOrder) h = absurd (omega (arith, h))
-zero-answers (Verdict.Refused Refusal.Inside) h = absurd (omega (arith, h))
-zero-answers (Verdict.Refused Refusal.UnknownEdition) h = absurd (omega (arith, h))
-zero-answers (Verdict.Refused Refusal.BadStore) h = absurd (omega (arith, h))
+zero-answers (Verdict.Refused why) h = absurd (refusal-number why h)
 
 -- ---- the state of a parameter
 
-accepted-long : (s : List ℕ) → isState s ≡ true → length s ≡ stateLength
-unfolding isState
-accepted-long s h = eqb-true (length s) stateLength (both (eqb (length s) stateLength) _ h .0)
-
-written-long : (p : Param) (s : List ℕ) → length (p .queue) ≤ mostEvents → length s ≡ stateLength → length (stateOf p s) ≡ stateLength
-unfolding stateOf
-written-long p s few long = simp (length-append, length-drop) (omega (arith, words-length (p .queue)))
-
 module _ {p : AudioParam} {s after : List ℕ} (f : SoundParam p) (long : length s ≡ stateLength) (e : Encodes p s after) where
-  pub reads-back : (isState after ≡ true) × (paramIn after ≡ paramOf p)
-  reads-back = (encoded-accepted f (ap length (e .is) ∙ written-long (paramOf p) s (f .sound .waiting .few) long) e, e .back)
-
   pub closes-answered : (v : Verdict) {n : ℕ} → n ≡ numberAs v → n ≡ 0 → Closes v (paramOf p) s n after
   unfolding stateAfter
-  closes-answered v h z = record { number = h; state = rw (zero-answers v (sym h ∙ z)) (e .is); reads = λ t. reads-back }
+  closes-answered v h z = record { number = h; state = rw (zero-answers v (sym h ∙ z)) (e .is); reads = λ t. reads-back f long e }
 
 pub closes-refused : (v : Verdict) {n : ℕ} (p : Param) (s : List ℕ) → n ≡ numberAs v → (n ≡ 0 → ⊥) → Closes v p s n s
 unfolding numberAs stateAfter
@@ -97,31 +71,9 @@ begins {s} {after} {b} {rate} {edition} {m} long made-it e h =
 -- ---- a call
 
 module _ {s : List ℕ} {d : Outcome} (x : Decodes s d) where
-  pub opened : d .verdict ≡ Verdict.Answered → (isState s ≡ true) × (paramOf (d .param) ≡ paramIn s)
-  opened h = go (isState s) refl
-    where
-      go : (b : Bool) → isState s ≡ b → (b ≡ true) × (paramOf (d .param) ≡ paramIn s)
-      go true e =
-          let is : d ≡ record { verdict = Verdict.Answered; param = structOf (paramIn s) } = x .gives ∙ rw e in
-          (refl, ap (λ (o : Outcome). paramOf (o .param)) is ∙ struct-back (paramIn s))
-      go false e = let is : d ≡ unmade = x .gives ∙ rw e in let z : _≡_ {A = ℕ} 0 1 = cc in absurd (omega arith)
-
-  pub opened-long : d .verdict ≡ Verdict.Answered → length s ≡ stateLength
-  opened-long h = accepted-long s (opened h .0)
-
-  pub shut : {why : Refusal} → d .verdict ≡ Verdict.Refused why → isState s ≡ false
-  shut {why} h = go (isState s) refl
-    where
-      go : (b : Bool) → isState s ≡ b → b ≡ false
-      go false e = refl
-      go true e =
-          let is : d ≡ record { verdict = Verdict.Answered; param = structOf (paramIn s) } = x .gives ∙ rw e in
-          let z : _≡_ {A = ℕ} 0 1 = cc in
-          absurd (omega arith)
-
   pub tells-bad : {store : List Float} {c : Command} {why : Refusal} → d .verdict ≡ Verdict.Refused why → Tells s store c badState s store
   unfolding told
-  tells-bad h = record { says = rw (shut h); reads = λ t. clash t (shut h) }
+  tells-bad h = record { says = rw (shut x h); reads = λ t. clash t (shut x h) }
 
   module _ {store left : List Float} {c : Command} {r : Outcome} {n : ℕ} {after : List ℕ} (h : d .verdict ≡ Verdict.Answered) (a : Answers (d .param) store c r left)
       (k : Closes (r .verdict) (paramOf (r .param)) s n after) where
@@ -129,13 +81,13 @@ module _ {s : List ℕ} {d : Outcome} (x : Decodes s d) where
     answer = called (paramIn s) store c
 
     verdict : r .verdict ≡ answer .verdict
-    verdict = a .verdict ∙ ap (λ (p : Param). called p store c .verdict) (opened h .1)
+    verdict = a .verdict ∙ ap (λ (p : Param). called p store c .verdict) (opened x h .1)
 
     param : paramOf (r .param) ≡ answer .param
-    param = ap paramOf (a .param) ∙ struct-back _ ∙ ap (λ (p : Param). called p store c .param) (opened h .1)
+    param = ap paramOf (a .param) ∙ struct-back _ ∙ ap (λ (p : Param). called p store c .param) (opened x h .1)
 
     left-is : left ≡ answer .store
-    left-is = a .left ∙ ap (λ (p : Param). called p store c .store) (opened h .1)
+    left-is = a .left ∙ ap (λ (p : Param). called p store c .store) (opened x h .1)
 
     state-reads : (isState after ≡ true) × (paramIn after ≡ answer .param)
     state-reads = go (r .verdict) refl
@@ -145,17 +97,17 @@ module _ {s : List ℕ} {d : Outcome} (x : Decodes s d) where
         go (Verdict.Refused why) e =
             let same : after ≡ s = k .state ∙ unfold stateAfter in rw e in
             let kept = refused-same (x .sound) a e .0 in
-            (rw same (opened h .0), ap paramIn same ∙ sym (opened h .1) ∙ ap paramOf (sym kept) ∙ param)
+            (rw same (opened x h .0), ap paramIn same ∙ sym (opened x h .1) ∙ ap paramOf (sym kept) ∙ param)
 
     pub tells : Tells s store c n after left
     unfolding told
-    tells = record { says = rw (opened h .0) (rw (k .number, k .state, verdict, param, left-is)); reads = λ t. state-reads }
+    tells = record { says = rw (opened x h .0) (rw (k .number, k .state, verdict, param, left-is)); reads = λ t. state-reads }
 
   -- ---- a block
 
   pub plays-bad : {store : List Float} {c : Call} {why : Refusal} (before : Played) → d .verdict ≡ Verdict.Refused why → before .state ≡ s → Plays s store c before before
   unfolding played
-  plays-bad before h e = record { says = rw (shut h); reads = λ t. clash t (shut h) }
+  plays-bad before h e = record { says = rw (shut x h); reads = λ t. clash t (shut x h) }
 
   module _ {store left output : List Float} {c : Call} {r : Processed} {n : ℕ} {after : List ℕ} (before : Played) (h : d .verdict ≡ Verdict.Answered)
       (a : Processes (d .param) store c r output left) (k : Closes (r .verdict) (paramOf (r .param)) s n after) where
@@ -163,7 +115,7 @@ module _ {s : List ℕ} {d : Outcome} (x : Decodes s d) where
     block = answered (paramIn s) store c
 
     by : {A : Type 0} (f : Answer → A) → f (answered (paramOf (d .param)) store c) ≡ f block
-    by f = ap (λ (p : Param). f (answered p store c)) (opened h .1)
+    by f = ap (λ (p : Param). f (answered p store c)) (opened x h .1)
 
     block-verdict : r .verdict ≡ block .verdict
     block-verdict = a .verdict ∙ by (λ (y : Answer). y .verdict)
@@ -179,14 +131,14 @@ module _ {s : List ℕ} {d : Outcome} (x : Decodes s d) where
         go (Verdict.Refused why) e =
             let same : after ≡ s = k .state ∙ unfold stateAfter in rw e in
             let kept = ap (λ (y : Processed). y .param) (refused-keeps a (x .sound) e .0) in
-            (rw same (opened h .0), ap paramIn same ∙ sym (opened h .1) ∙ ap paramOf (sym kept) ∙ block-param)
+            (rw same (opened x h .0), ap paramIn same ∙ sym (opened x h .1) ∙ ap paramOf (sym kept) ∙ block-param)
 
     pub plays : Plays s store c before (record { number = n; state = after; store = left; output = output; steps = r .steps; current = r .current; one = r .one })
     unfolding played
     plays =
         record {
           says =
-              rw (opened h .0)
+              rw (opened x h .0)
               (rw (k .number, k .state, block-verdict, block-param, a .left ∙ by (λ (y : Answer). y .store), a .written ∙ by (λ (y : Answer). y .output), a .steps ∙ by (λ (y : Answer). y .steps), a .current ∙ by (λ (y : Answer). y .current), a .one ∙ by (λ (y : Answer). y .oneValued)));
           reads = λ t. block-reads;
         }

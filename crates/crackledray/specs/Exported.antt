@@ -17,9 +17,9 @@ use Rattle.coding.specs.Coding.{stateLength, paramIn, isState, stateOf}
 
 -- ---- numbers
 
--- 0.7.0 of the calls and of the state: 65,536 × major + 256 × minor + patch
+-- 0.8.0 of the calls and of the state: 65,536 × major + 256 × minor + patch
 abbrev pub version : ℕ
-version = 1792
+version = 2048
 
 -- the number for a state that fails the test: none of document 01's
 abbrev pub badState : ℕ

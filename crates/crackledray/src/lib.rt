@@ -1,5 +1,5 @@
 // The parameter for programs in Rust or C: each call over a state, an array of plain numbers that the caller keeps, and the curve store.
-// A call gives 0, document 01's number of its refusal, or 100 where the state fails its test (coding's isState). Refused, nothing changes,
+// A call gives 0, document 01's number of its refusal, or 100 where the state fails its test (coding's isState); a file's calls 02's numbers too. Refused, nothing changes,
 // but that a make refused by 1 or 12 writes its empty parameter, and a refused block its 0 steps, current value 0 and not one-valued.
 ghost use mathlib.Core.Path.{_≡_};
 ghost use mathlib.Core.List.{[]};
@@ -8,13 +8,14 @@ ghost use Rattle.rules.specs.Block.{set, step, linear, exponential, target, cur
 ghost use Rattle.block.specs.Asked.{asked};
 ghost use Rattle.param.specs.Param.{paramOf, SoundParam};
 ghost use Rattle.coding.specs.Coding.{stateLength};
+ghost use Rattle.card_coding.specs.Calls.{badCard, WritesCard, OpensCard, HearsCard, EndsCard};
 ghost use Rattle.crackledray.specs.Exported.{version, badState, rateOf, numberAs, Begins, Tells, Plays, Closes};
 use param::AudioParam;
 use rules::AutomationRate;
 use rules::Bounds;
 use rules::Verdict;
 
-const VERSION: u32 = 0x00_0700;
+const VERSION: u32 = 0x00_0800;
 
 const BAD_STATE: u32 = 100;
 
@@ -271,4 +272,64 @@ pub extern "C" fn crackledray_block(
     let verdict = r.verdict;
     let p = r.param;
     close(verdict, p, state)
+}
+
+// ---- a schedule file for the memory card (02, C-11)
+
+// Writes the parameter of a state, before its first block, as a file into `out`. `at` is written where the state passes its test: how many bytes the file has;
+// refused, the event's place, or how many bytes it takes.
+#[no_mangle]
+pub extern "C" fn crackledray_card_write(
+    state: &[u64],
+    store: &[f32],
+    out: &mut [u8],
+    at: &mut usize,
+) -> u32
+    ensures { λ r. ⌜ WritesCard (now (state .entry)) (now (store .entry)) (now (out .entry)) (now (at .entry)) r (now (out .exit)) (now (at .exit)) ⌝ }
+{
+    card_coding::write(state, store, out, at)
+}
+
+// A reader before the first part: in `card` what is kept of it between the calls, in `numbers` its curves'.
+#[no_mangle]
+pub extern "C" fn crackledray_card_open(
+    card: &mut [u64],
+    numbers: &mut [f32],
+    k_rate: bool,
+    edition: u64,
+) -> u32
+    ensures { λ r. ⌜ OpensCard (rateOf «k_rate») edition (now (card .entry)) (now (numbers .entry)) r (now (card .exit)) (now (numbers .exit)) ⌝ }
+{
+    card_coding::open(card, numbers, rate_of(k_rate), edition)
+}
+
+// One part more. That a field is refused says the end.
+#[no_mangle]
+pub extern "C" fn crackledray_card_part(
+    card: &mut [u64],
+    window: &mut [u8],
+    numbers: &mut [f32],
+    part: &[u8],
+) -> u32
+    ensures { λ r. ⌜ HearsCard (now (card .entry)) (now (numbers .entry)) (now (window .entry)) (now (part .entry)) r (now (card .exit)) (now (numbers .exit)) (now (window .exit)) ⌝ }
+{
+    card_coding::part(card, window, numbers, part)
+}
+
+// The file's end: its parameter over the state, and its numbers in the store. `at` is written where the array and the state pass: how many bytes the file has;
+// refused, the offset of the field.
+#[no_mangle]
+pub extern "C" fn crackledray_card_end(
+    card: &[u64],
+    window: &[u8],
+    numbers: &mut [f32],
+    state: &mut [u64],
+    store: &mut [f32],
+    at: &mut usize,
+) -> u32
+    ensures { λ r. ⌜ EndsCard (now (card .entry)) (now (numbers .entry)) (now (window .entry))
+        (record { number = badCard; at = now (at .entry); state = now (state .entry); store = now (store .entry) })
+        (record { number = r; at = now (at .exit); state = now (state .exit); store = now (store .exit) }) ⌝ }
+{
+    card_coding::end(card, window, numbers, state, store, at)
 }

@@ -36,7 +36,7 @@ fn move_up(part: &mut [f32], from: usize, to: usize, n: usize)
     }
 }
 
-fn write(part: &mut [f32], at: usize, values: &[f32])
+pub fn write(part: &mut [f32], at: usize, values: &[f32])
     requires { ⌜ at + length (now values) ≤ length (now part) ⌝ }
     ensures { λ _. ⌜ now (part .exit) ≡ paste (now (part .entry)) at (now (values .entry)) (length (now (values .entry))) ⌝ }
 {

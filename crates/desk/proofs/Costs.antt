@@ -1,10 +1,12 @@
 -- What a desk keeps are the totals of a session of calls on a parameter just made that left its parameter, so that C-20's sums hold of them. Assumes nothing.
 use mathlib.Core.Path.{_≡_, refl, sym, ap, _∙_}
+use mathlib.Core.Bool.{Bool, true, false, cond}
 use mathlib.Core.List.{List, [], _∷_, _++_}
 use mathlib.Core.Option.{Option, none, some}
 use Prim.Native.Nat.{ℕ, _<_}
 use native.Mathlib.Omega.{arith}
-use lib.ListN.{take}
+use lib.ListN.{length, take}
+use lib.Dec.{eqb}
 use lib.Ieee.{Float}
 use Rattle.rules.specs.declared.Bounds.{Bounds}
 use Rattle.rules.specs.declared.AutomationRate.{AutomationRate}
@@ -19,9 +21,14 @@ use Rattle.costs.specs.Costs.{Asked, command, block, left, leftByAll, waitingIn
 use Rattle.costs.proofs.Costs.{one-more-left, one-more-costs, session-sums}
 use Rattle.tally.specs.Tally.{largest, capped, kept}
 use Rattle.tally.proofs.Kept.{kept-plus, kept-sums}
-use Rattle.desk.specs.Desk.{Table, unread, making, asked, lending, poking, playing, marks, stating, answerOf, saidTurn, tableOf, unmadeDesk}
+use Rattle.rules.specs.Numbers.{storeLength}
+use Rattle.card.specs.declared.CardVerdict.{CardVerdict}
+use Rattle.card.specs.declared.CardVerdict.the-variants as CardVerdict
+use Rattle.card.specs.Card.{Reader, read, Loaded, loaded, loadedAs, badStore}
+use Rattle.desk.specs.Desk.{Table, unread, making, asked, lending, poking, playing, marks, stating, saving, loadedTurn, loadingBy, loading, answerOf, saidTurn, tableOf, unmadeDesk}
 use Rattle.param.proofs.Calls.{struct-back}
 use Rattle.desk.proofs.Turns.{no-range}
+use Rattle.desk.proofs.Events.{Scheduled, read-scheduled}
 
 -- a table with a parameter that was made so and has had these calls
 pub record Counts (t : Table) : Type 0 where
@@ -70,30 +77,55 @@ making-counts : (b : Bounds) (r : AutomationRate) (n : ℕ) (t : Table) → Coun
 unfolding making leftByAll totals
 making-counts b r n t = record { bounds = b; rate = r; edition = n; calls = []; param = refl; totals = unfold kept capped in refl }
 
+-- what a reader's end gives, by whether the store is lent and by its verdict
+abbrev givenBy : Reader → Table → Bool → CardVerdict → Loaded
+givenBy r t b v =
+    cond b (loadedAs v r (t .param) (take storeLength (t .store))) (record { says = badStore; param = t .param; store = take storeLength (t .store) })
+
+-- a file's events are counted as the calls that they are
+loading-counts : (r : Reader) (t : Table) → Counts t → Scheduled (r .param) → Counts (loadingBy r t .table)
+unfolding loadingBy loadedTurn loaded loadedAs
+loading-counts r t k made-so = go (eqb (length (take storeLength (t .store))) storeLength) (r .verdict)
+  where
+    go : (b : Bool) (v : CardVerdict) → Counts (loadedTurn (givenBy r t b v .says .verdict) (givenBy r t b v) t .table)
+    go true CardVerdict.Answered =
+        record {
+          bounds = made-so .bounds;
+          rate = made-so .rate;
+          edition = made-so .edition;
+          calls = made-so .calls;
+          param = made-so .param;
+          totals = ap kept (sym (made-so .totals));
+        }
+    go true (CardVerdict.Refused f) = k
+    go false v = k
+
 -- ---- every line
 
-pub said-counts : (call : Call) (numbers : List Float) (t : Table) → Counts t → Counts (answerOf call numbers t .table)
-unfolding answerOf unread lending poking stating
-said-counts Call.Nothing numbers t k = k
-said-counts Call.Unread numbers t k = k
-said-counts (Call.Make b rate n) numbers t k = making-counts b rate n t
-said-counts (Call.Set v) numbers t k = asked-counts (rule.set v) t k
-said-counts (Call.Step v u) numbers t k = asked-counts (rule.step v u) t k
-said-counts (Call.Linear v u) numbers t k = asked-counts (rule.linear v u) t k
-said-counts (Call.Exponential v u) numbers t k = asked-counts (rule.exponential v u) t k
-said-counts (Call.Target v u c) numbers t k = asked-counts (rule.target v u c) t k
-said-counts (Call.Curve u d n) numbers t k = asked-counts (rule.curve u d (take n numbers)) t k
-said-counts (Call.Cancel u) numbers t k = asked-counts (rule.cancel u) t k
-said-counts (Call.Hold u) numbers t k = asked-counts (rule.hold u) t k
-said-counts (Call.Block by u p n o i) numbers t k = playing-counts u p n (take i numbers) (marks o) t k
-said-counts (Call.Lend n) numbers t k = same t _ k refl refl
-said-counts (Call.Poke i v) numbers t k = same t _ k refl refl
-said-counts Call.State numbers t k = k
+pub said-counts : (call : Call) (numbers : List Float) (file : List ℕ) (t : Table) → Counts t → Counts (answerOf call numbers file t .table)
+unfolding answerOf unread lending poking stating saving loading
+said-counts Call.Nothing numbers file t k = k
+said-counts Call.Unread numbers file t k = k
+said-counts (Call.Make b rate n) numbers file t k = making-counts b rate n t
+said-counts (Call.Set v) numbers file t k = asked-counts (rule.set v) t k
+said-counts (Call.Step v u) numbers file t k = asked-counts (rule.step v u) t k
+said-counts (Call.Linear v u) numbers file t k = asked-counts (rule.linear v u) t k
+said-counts (Call.Exponential v u) numbers file t k = asked-counts (rule.exponential v u) t k
+said-counts (Call.Target v u c) numbers file t k = asked-counts (rule.target v u c) t k
+said-counts (Call.Curve u d n) numbers file t k = asked-counts (rule.curve u d (take n numbers)) t k
+said-counts (Call.Cancel u) numbers file t k = asked-counts (rule.cancel u) t k
+said-counts (Call.Hold u) numbers file t k = asked-counts (rule.hold u) t k
+said-counts (Call.Block by u p n o i) numbers file t k = playing-counts u p n (take i numbers) (marks o) t k
+said-counts (Call.Lend n) numbers file t k = same t _ k refl refl
+said-counts (Call.Poke i v) numbers file t k = same t _ k refl refl
+said-counts Call.State numbers file t k = k
+said-counts Call.Save numbers file t k = k
+said-counts (Call.Load part n rate edition) numbers file t k = loading-counts (read rate edition (take n file)) t k (read-scheduled rate edition (take n file))
 
 pub line-counts : (o : Option Said) (t : Table) → Counts t → Counts (saidTurn o t .table)
 unfolding saidTurn unread
 line-counts none t k = k
-line-counts (some s) t k = said-counts (s .0) (s .1) t k
+line-counts (some s) t k = said-counts (s .0) (s .1) (s .2) t k
 
 -- before the first `make`
 pub first-counts : (s : List Float) → Counts (tableOf unmadeDesk s)

@@ -171,9 +171,9 @@ no-range = refl
 
 -- ---- the call that was read
 
-pub by-call : {call this : Call} (numbers : List Float) {d : Desk} {s : List Float} {l : List ℕ} {at : ℕ} {r : Answered} {s′ : List Float} {l′ : List ℕ}
-    → call ≡ this → Spoken 41999 (answerOf this numbers) d s l at r s′ l′ → Spoken 41999 (answerOf call numbers) d s l at r s′ l′
-by-call numbers {d} {s} {l} {at} {r} {s′} {l′} e spoken = subst (λ (x : Call). Spoken 41999 (answerOf x numbers) d s l at r s′ l′) (sym e) spoken
+pub by-call : {call this : Call} (numbers : List Float) (file : List ℕ) {d : Desk} {s : List Float} {l : List ℕ} {at : ℕ} {r : Answered} {s′ : List Float} {l′ : List ℕ}
+    → call ≡ this → Spoken 41999 (answerOf this numbers file) d s l at r s′ l′ → Spoken 41999 (answerOf call numbers file) d s l at r s′ l′
+by-call numbers file {d} {s} {l} {at} {r} {s′} {l′} e spoken = subst (λ (x : Call). Spoken 41999 (answerOf x numbers file) d s l at r s′ l′) (sym e) spoken
 
 pub ranged : {call this : Call} → call ≡ this → InRange call → InRange this
 ranged e h = subst InRange e h
@@ -185,7 +185,7 @@ abbrev theirs : List ℕ
 theirs = 3 ∷ 4 ∷ 5 ∷ 6 ∷ 7 ∷ 8 ∷ 9 ∷ 10 ∷ []
 
 abbrev others : List ℕ
-others = 0 ∷ 1 ∷ 2 ∷ 11 ∷ 12 ∷ 13 ∷ 14 ∷ []
+others = 0 ∷ 1 ∷ 2 ∷ 11 ∷ 12 ∷ 13 ∷ 14 ∷ 15 ∷ 16 ∷ []
 
 pub scheduling-by : (call : Call) → (OneOf theirs (tagOf the-type call) → isScheduling call ≡ true) × (OneOf others (tagOf the-type call) → isScheduling call ≡ false)
 unfolding isScheduling
@@ -204,6 +204,8 @@ scheduling-by (Call.Block by t p n o i) = (λ h. absurd (miss theirs 11 tt h), �
 scheduling-by (Call.Lend n) = (λ h. absurd (miss theirs 12 tt h), λ h. refl)
 scheduling-by (Call.Poke i v) = (λ h. absurd (miss theirs 13 tt h), λ h. refl)
 scheduling-by Call.State = (λ h. absurd (miss theirs 14 tt h), λ h. refl)
+scheduling-by Call.Save = (λ h. absurd (miss theirs 15 tt h), λ h. refl)
+scheduling-by (Call.Load part n rate edition) = (λ h. absurd (miss theirs 16 tt h), λ h. refl)
 
 -- ---- its newline
 

@@ -12,7 +12,7 @@ use Rattle.rules.specs.declared.Event.{Event}
 use Rattle.rules.specs.declared.Verdict.{Verdict}
 use Rattle.rules.specs.declared.Verdict.the-variants as Verdict
 use Rattle.rules.specs.Numbers.{plusZero, storeLength}
-use Rattle.rules.specs.Queue.{lengthOf, lengthsOf}
+use Rattle.rules.specs.Queue.{attached, lengthOf, lengthsOf}
 use Rattle.rules.specs.Refusals.{lowest, makingRows}
 use Rattle.rules.specs.Block.{Param, made, Command, called, answered}
 use Rattle.rules.specs.Block as rule
@@ -20,7 +20,7 @@ use Rattle.text.specs.Put.{Put}
 use Rattle.calls.specs.Language.{Said, callOf}
 use Rattle.calls.specs.declared.Call.{Call}
 use Rattle.calls.specs.declared.Call.the-variants as Call
-use Rattle.answers.specs.Answers.{verdictText, blockText, restText, stateText, eventText, listText, zerosText, areMarks, areZeros}
+use Rattle.answers.specs.Answers.{verdictText, savedText, faultText, blockText, restText, stateText, eventText, listText, zerosText, areMarks, areZeros}
 use Rattle.costs.specs.declared.Totals.{Totals}
 use Rattle.costs.specs.Costs.{waitingIn, nothing, plus, commandCost, blockCost}
 use Rattle.costs.specs.Seen.{commandSeen, blockSeen}
@@ -29,6 +29,12 @@ use Rattle.param.specs.declared.AudioParam.{AudioParam}
 use Rattle.param.specs.declared.Outcome.{Outcome}
 use Rattle.param.specs.declared.Processed.{Processed}
 use Rattle.param.specs.Param.{paramOf, structOf, nothingMade, SoundParam}
+use Rattle.card.specs.declared.CardVerdict.{CardVerdict}
+use Rattle.card.specs.declared.CardVerdict.the-variants as CardVerdict
+use Rattle.card.specs.declared.Judged.{Judged}
+use Rattle.card.specs.Card.{faultNumber, Reader, begun, fed, read, Loaded, loaded, fileOf, judged}
+use Rattle.card_reader.specs.declared.CardReader.{CardReader}
+use Rattle.card_reader.specs.Reader.{readingOf, SoundReader, SoundWindow}
 use Rattle.desk.specs.declared.Desk.{Desk}
 use Rattle.desk.specs.declared.Answered.{Answered}
 
@@ -145,30 +151,75 @@ stateLine p s =
 unfoldable pub stating : Table → Turn
 stating t = unchanged (stateLine (t .param) (t .store)) t
 
+-- ---- a schedule file (02, C-11)
+
+-- "`saved HEX`, or `refused 24 PLACE`"
+unfoldable pub fileLine : CardVerdict → ℕ → List ℕ → List ℕ
+fileLine CardVerdict.Answered place file = savedText file
+fileLine (CardVerdict.Refused f) place file = faultText (faultNumber f) place
+
+abbrev pub savedLine : Judged → List ℕ → List ℕ
+savedLine j file = fileLine (j .verdict) (j .at) file
+
+-- "write the parameter as a schedule file", "The first 4,096 numbers of the array are lent, whatever `lend` says"
+unfoldable pub saving : Table → Turn
+saving t =
+    let lent = take storeLength (t .store) in
+    unchanged (savedLine (judged (t .param) lent) (fileOf (t .param .bounds) (attached (t .param .queue) lent))) t
+
+-- each event of a file is an accepted call: so many are stored (C-20)
+abbrev pub eventsStored : ℕ → Totals
+eventsStored n = record { steps = 0; blocks = 0; stored = n; finished = 0; cancelled = 0; turned = 0 }
+
+-- "Answered, it is as a `make` (all 8,192 numbers cleared, 4,096 lent) and the events. Refused, nothing changes."
+unfoldable pub loadedTurn : CardVerdict → Loaded → Table → Turn
+loadedTurn CardVerdict.Answered l t =
+    record {
+      table =
+          record {
+            param = l .param;
+            lent = storeLength;
+            store = l .store ++ replicate storeLength plusZero;
+            totals = kept (eventsStored (waitingIn (l .param)));
+          };
+      text = verdictText Verdict.Answered;
+    }
+loadedTurn (CardVerdict.Refused f) l t = unchanged (faultText (faultNumber f) (l .says .at)) t
+
+-- by a reader at the file's end
+unfoldable pub loadingBy : Reader → Table → Turn
+loadingBy r t = let l = loaded r (t .param) (take storeLength (t .store)) in loadedTurn (l .says .verdict) l t
+
+-- "read a schedule file .. into a new parameter of that rate", in whatever parts it comes
+unfoldable pub loading : AutomationRate → ℕ → List ℕ → Table → Turn
+loading rate n file = loadingBy (read rate n file)
+
 -- ---- a line
 
--- the numbers of a curve, or of a block's input, are the first of `numbers`
-unfoldable pub answerOf : Call → List Float → Table → Turn
-answerOf Call.Nothing numbers = unchanged []
-answerOf Call.Unread numbers = unread
-answerOf (Call.Make b rate n) numbers = making b rate n
-answerOf (Call.Set v) numbers = asked (rule.set v)
-answerOf (Call.Step v t) numbers = asked (rule.step v t)
-answerOf (Call.Linear v t) numbers = asked (rule.linear v t)
-answerOf (Call.Exponential v t) numbers = asked (rule.exponential v t)
-answerOf (Call.Target v t c) numbers = asked (rule.target v t c)
-answerOf (Call.Curve t d n) numbers = asked (rule.curve t d (take n numbers))
-answerOf (Call.Cancel t) numbers = asked (rule.cancel t)
-answerOf (Call.Hold t) numbers = asked (rule.hold t)
-answerOf (Call.Block by t p n o i) numbers = playing t p n (take i numbers) (marks o)
-answerOf (Call.Lend n) numbers = lending n
-answerOf (Call.Poke i v) numbers = poking i v
-answerOf Call.State numbers = stating
+-- the numbers of a curve, or of a block's input, are the first of `numbers`, a file's bytes the first of `file`
+unfoldable pub answerOf : Call → List Float → List ℕ → Table → Turn
+answerOf Call.Nothing numbers file = unchanged []
+answerOf Call.Unread numbers file = unread
+answerOf (Call.Make b rate n) numbers file = making b rate n
+answerOf (Call.Set v) numbers file = asked (rule.set v)
+answerOf (Call.Step v t) numbers file = asked (rule.step v t)
+answerOf (Call.Linear v t) numbers file = asked (rule.linear v t)
+answerOf (Call.Exponential v t) numbers file = asked (rule.exponential v t)
+answerOf (Call.Target v t c) numbers file = asked (rule.target v t c)
+answerOf (Call.Curve t d n) numbers file = asked (rule.curve t d (take n numbers))
+answerOf (Call.Cancel t) numbers file = asked (rule.cancel t)
+answerOf (Call.Hold t) numbers file = asked (rule.hold t)
+answerOf (Call.Block by t p n o i) numbers file = playing t p n (take i numbers) (marks o)
+answerOf (Call.Lend n) numbers file = lending n
+answerOf (Call.Poke i v) numbers file = poking i v
+answerOf Call.State numbers file = stating
+answerOf Call.Save numbers file = saving
+answerOf (Call.Load part n rate edition) numbers file = loading rate edition (take n file)
 
 -- what a line says, or that it is none of these
 unfoldable pub saidTurn : Option Said → Table → Turn
 saidTurn none = unread
-saidTurn (some s) = answerOf (s .0) (s .1)
+saidTurn (some s) = answerOf (s .0) (s .1) (s .2)
 
 unfoldable pub withNewline : (Table → Turn) → Table → Turn
 withNewline turn t = record { table = turn t .table; text = turn t .text ++ (10 ∷ []) }
@@ -212,6 +263,12 @@ pub record Spoken (most : ℕ) (turn : Table → Turn) (d : Desk) (s : List Floa
   pub sound : SoundDesk (r .desk)
   pub room : r .next ≤ at + most
 
+-- a whole file is read, part by part
+pub record ReadsFile (rate : AutomationRate) (n : ℕ) (file : List ℕ) (r : CardReader) (numbers : List Float) (window : List ℕ) : Type 0 where
+  pub reading : readingOf r numbers window ≡ fed (begun rate n) file
+  pub sound : SoundReader r numbers
+  pub fits : SoundWindow r window
+
 -- the ranges of the page, as far as the code counts on them
 unfoldable pub InRange : Call → Type 0
 InRange Call.Nothing = Unit
@@ -229,6 +286,8 @@ InRange (Call.Block by t p n o i) = (o ≤ 4096) × (i ≤ 4096)
 InRange (Call.Lend n) = n ≤ 8192
 InRange (Call.Poke i v) = i < 8192
 InRange Call.State = Unit
+InRange Call.Save = Unit
+InRange (Call.Load part n rate edition) = (1 ≤ part) × (part ≤ 65536) × (n ≤ 30000)
 
 -- whether a call is one of those that change the waiting events
 unfoldable pub isScheduling : Call → Bool
@@ -247,6 +306,8 @@ isScheduling (Call.Block by t p n o i) = false
 isScheduling (Call.Lend n) = false
 isScheduling (Call.Poke i v) = false
 isScheduling Call.State = false
+isScheduling Call.Save = false
+isScheduling (Call.Load part n rate edition) = false
 
 -- the event at place i, as it is printed, and the room that it takes
 unfoldable pub firstText : List Event → List Float → List ℕ

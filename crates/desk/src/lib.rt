@@ -26,6 +26,8 @@ use calls::Call;
 use calls::Renderer;
 use calls::read_call;
 use costs::Totals;
+use files::load;
+use files::save;
 use param::AudioParam;
 use param::Outcome;
 use param::Processed;
@@ -39,6 +41,8 @@ use tally::none;
 use text::write::put_byte;
 use text::write::put_word;
 use timeline::length_of;
+
+mod files; // files.rt: a schedule file written and read
 
 // The parameter at hand, how many numbers of the store are lent to its calls, and what these have cost since it was made.
 pub struct Desk {
@@ -430,7 +434,7 @@ fn answer_scheduling(
     at: usize,
 ) -> Answered
     requires { ⌜ SoundDesk desk × InRange call × (isScheduling call ≡ true) × (5000 ≤ length (now numbers)) × (length (now store) ≡ 8192) × (at + 42000 ≤ length (now out)) ⌝ }
-    ensures { λ r. ⌜ Spoken 41999 (answerOf call (now (numbers .entry))) desk (now (store .entry)) (now (out .entry)) at r (now (store .exit)) (now (out .exit)) ⌝ }
+    ensures { λ r. ⌜ ((file : List ℕ) → Spoken 41999 (answerOf call (now (numbers .entry)) file) desk (now (store .entry)) (now (out .entry)) at r (now (store .exit)) (now (out .exit))) ⌝ }
 {
     match call {
         Call::Set { value } => set(desk, value, out, at),
@@ -454,17 +458,18 @@ fn answer_scheduling(
     }
 }
 
-// One call, whose numbers are in front of `numbers`.
+// One call, whose numbers are in front of `numbers`, and whose bytes in front of `file`.
 fn answer(
     desk: Desk,
     call: Call,
     numbers: &[f32],
+    file: &mut [u8],
     store: &mut [f32],
     out: &mut [u8],
     at: usize,
 ) -> Answered
-    requires { ⌜ SoundDesk desk × InRange call × (5000 ≤ length (now numbers)) × (length (now store) ≡ 8192) × (at + 42000 ≤ length (now out)) ⌝ }
-    ensures { λ r. ⌜ Spoken 41999 (answerOf call (now (numbers .entry))) desk (now (store .entry)) (now (out .entry)) at r (now (store .exit)) (now (out .exit)) ⌝ }
+    requires { ⌜ SoundDesk desk × InRange call × (5000 ≤ length (now numbers)) × (30000 ≤ length (now file)) × (length (now store) ≡ 8192) × (at + 42000 ≤ length (now out)) ⌝ }
+    ensures { λ r. ⌜ Spoken 41999 (answerOf call (now (numbers .entry)) (now (file .entry))) desk (now (store .entry)) (now (out .entry)) at r (now (store .exit)) (now (out .exit)) ⌝ }
 {
     match call {
         Call::Nothing => Answered { desk, next: at },
@@ -496,6 +501,13 @@ fn answer(
         Call::Lend { len } => lend(desk, len, out, at),
         Call::Poke { place, value } => poke(desk, place, value, store, out, at),
         Call::State => state(desk, &store[..], out, at),
+        Call::Save => save(desk, &store[..], file, out, at),
+        Call::Load {
+            part,
+            len,
+            rate,
+            edition,
+        } => load(desk, part, rate, edition, &file[..len], store, out, at),
         _ => answer_scheduling(desk, call, numbers, store, out, at),
     }
 }
@@ -505,15 +517,16 @@ pub fn answer_line(
     desk: Desk,
     line: &[u8],
     numbers: &mut [f32],
+    file: &mut [u8],
     store: &mut [f32],
     out: &mut [u8],
     at: usize,
 ) -> Answered
-    requires { ⌜ SoundDesk desk × (5000 ≤ length (now numbers)) × (length (now store) ≡ 8192) × (at + 42000 ≤ length (now out)) ⌝ }
+    requires { ⌜ SoundDesk desk × (5000 ≤ length (now numbers)) × (30000 ≤ length (now file)) × (length (now store) ≡ 8192) × (at + 42000 ≤ length (now out)) ⌝ }
     ensures { λ r. ⌜ Spoken 42000 (lineTurn (now (line .entry))) desk (now (store .entry)) (now (out .entry)) at r (now (store .exit)) (now (out .exit)) ⌝ }
 {
-    let call = read_call(line, numbers);
-    let r = answer(desk, call, &numbers[..], store, out, at);
+    let call = read_call(line, numbers, file);
+    let r = answer(desk, call, &numbers[..], file, store, out, at);
     let desk = r.desk;
     let next = put_byte(out, r.next, b'\n');
     Answered { desk, next }

@@ -73,7 +73,7 @@ pub fn last_line(lines: Lines) -> Next
 }
 
 // The bytes from one place to another, moved to the front; how many they are.
-fn moved(buf: &mut [u8], from: usize, to: usize) -> usize
+pub fn moved(buf: &mut [u8], from: usize, to: usize) -> usize
     requires { ⌜ (from ≤ to) × (to ≤ length (now buf)) ⌝ }
     ensures { λ r. ⌜ (r ≡ to - from) × (now (buf .exit) ≡ put (now (buf .entry)) 0 (take (to - from) (drop from (now (buf .entry))))) ⌝ }
 {

@@ -76,10 +76,10 @@ module _ (n : ℕ) (clash : Clash) (answer : List ℕ) where
     told-reply e = rw (read, e)
 
 -- the call that was read runs into what its line runs into
-pub heard-clash : (q : List Event) (o : Option Said) (call : Call) (numbers : List Float) → Heard o call numbers → clashOf q call ≡ clashIn q o
+pub heard-clash : (q : List Event) (o : Option Said) (call : Call) (numbers : List Float) (file : List ℕ) → Heard o call numbers file → clashOf q call ≡ clashIn q o
 unfolding Heard clashIn clashOf
-heard-clash q none call numbers h = ap (clashOf q) h
-heard-clash q (some s) call numbers h = ap (clashOf q) (h .0)
+heard-clash q none call numbers file h = ap (clashOf q) h
+heard-clash q (some s) call numbers file h = ap (clashOf q) (h .0)
 
 -- ---- by the line's translation
 

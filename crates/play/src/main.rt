@@ -55,11 +55,11 @@ fn put_not_read(out: &mut [u8], at: usize, n: u64) -> usize
 }
 
 // What the line runs into, should 11 refuse it.
-fn clash_in(desk: Desk, line: &[u8], numbers: &mut [f32]) -> Clash
-    requires { ⌜ SoundDesk desk × (5000 ≤ length (now numbers)) ⌝ }
+fn clash_in(desk: Desk, line: &[u8], numbers: &mut [f32], file: &mut [u8]) -> Clash
+    requires { ⌜ SoundDesk desk × (5000 ≤ length (now numbers)) × (30000 ≤ length (now file)) ⌝ }
     ensures { λ r. ⌜ r ≡ clashIn (paramOf (desk .param) .queue) (callOf (now (line .entry))) ⌝ }
 {
-    let call = read_call(line, numbers);
+    let call = read_call(line, numbers, file);
     let p = desk.param;
     clash_of(p.timeline(), call)
 }
@@ -94,9 +94,11 @@ fn answer_strict(
     requires { ⌜ SoundDesk desk × (5000 ≤ length (now numbers)) × (length (now store) ≡ 8192) × (42000 ≤ length (now said)) × (at + 168200 ≤ length (now out)) ⌝ }
     ensures { λ r. ⌜ Spoken 168200 (withNewline (strictTurn n (now (line .entry)))) desk (now (store .entry)) (now (out .entry)) at r (now (store .exit)) (now (out .exit)) ⌝ }
 {
+    // no line of a person has a file
+    let mut file = [0u8; 30000];
     // by the events that wait before the call
-    let clash = clash_in(desk, line, numbers);
-    let r = answer_line(desk, line, numbers, store, said, 0);
+    let clash = clash_in(desk, line, numbers, &mut file);
+    let r = answer_line(desk, line, numbers, &mut file, store, said, 0);
     let desk = r.desk;
     // without its newline
     let end = r.next - 1;

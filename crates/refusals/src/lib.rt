@@ -59,7 +59,7 @@ fn row(v: Verdict, why: Refusal, applies: bool) -> Verdict
     }
 }
 
-fn all_finite(values: &[f32]) -> bool
+pub fn all_finite(values: &[f32]) -> bool
     ensures { λ r. ⌜ r ≡ allFinite (now (values .entry)) ⌝ }
 {
     let mut i = 0usize;

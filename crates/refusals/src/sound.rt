@@ -22,7 +22,7 @@ fn is_number(t: f64) -> bool
 }
 
 // At or above +0: of the two zeros the one whose inverse is above 0.
-fn is_from_zero(t: f64) -> bool
+pub fn is_from_zero(t: f64) -> bool
     ensures { λ r. ⌜ r ≡ isFromZero t ⌝ }
 {
     0.0 < t || (t == 0.0 && 0.0 < 1.0 / t)

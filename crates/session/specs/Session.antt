@@ -36,17 +36,18 @@ linesTurn (suc n) input l = andThen (linesTurn n input l) (nextTurn input (nextO
 -- ---- what is kept and ensured
 
 -- the lengths of the buffers that are lent
-pub record Lent (numbers store : List Float) (out : List ℕ) : Type 0 where
+pub record Lent (numbers : List Float) (file : List ℕ) (store : List Float) (out : List ℕ) : Type 0 where
   pub numbers-long : length numbers ≡ 5000
+  pub file-long : length file ≡ 30000
   pub store-long : length store ≡ 8192
   pub out-long : 42000 ≤ length out
 
 -- a session that can go on: its desk, the lines that are left, and how many characters wait to be written
-pub record Going (d : Desk) (l : Lines) (n : ℕ) (input : List ℕ) (numbers store : List Float) (out : List ℕ) : Type 0 where
+pub record Going (d : Desk) (l : Lines) (n : ℕ) (input : List ℕ) (numbers : List Float) (file : List ℕ) (store : List Float) (out : List ℕ) : Type 0 where
   pub desk : SoundDesk d
   pub lines : Within input l
   pub at : n ≤ length out
-  pub lent : Lent numbers store out
+  pub lent : Lent numbers file store out
 
 -- some lines are answered: from the desk d, the lines l and the buffer `out`, written from n on, to d′, l′, n′ and out′
 pub record Through (input : List ℕ) (d : Desk) (l : Lines) (n : ℕ) (store : List Float) (out : List ℕ) (d′ : Desk) (l′ : Lines) (n′ : ℕ) (store′ : List Float) (out′ : List ℕ) : Type 0 where

@@ -33,15 +33,18 @@ fn answer_next(
     next: Next,
     input: &[u8],
     numbers: &mut [f32],
+    file: &mut [u8],
     store: &mut [f32],
     out: &mut [u8],
     at: usize,
 ) -> Answered
-    requires { ⌜ SoundDesk desk × LineIn (now input) next × Lent (now numbers) (now store) (now out) × (at + 42000 ≤ length (now out)) ⌝ }
+    requires { ⌜ SoundDesk desk × LineIn (now input) next × Lent (now numbers) (now file) (now store) (now out) × (at + 42000 ≤ length (now out)) ⌝ }
     ensures { λ r. ⌜ Spoken 42000 (nextTurn (now (input .entry)) next) desk (now (store .entry)) (now (out .entry)) at r (now (store .exit)) (now (out .exit)) ⌝ }
 {
     match next {
-        Next::Line { from, to } => answer_line(desk, &input[from..to], numbers, store, out, at),
+        Next::Line { from, to } => {
+            answer_line(desk, &input[from..to], numbers, file, store, out, at)
+        }
         Next::Long => answer_long(desk, out, at),
         Next::None => Answered { desk, next: at },
     }
@@ -52,11 +55,12 @@ fn answer_lines(
     s: Session,
     input: &[u8],
     numbers: &mut [f32],
+    file: &mut [u8],
     store: &mut [f32],
     out: &mut [u8],
 ) -> Session
-    requires { ⌜ Going (s .desk) (s .lines) (s .at) (now input) (now numbers) (now store) (now out) ⌝ }
-    ensures { λ r. ⌜ Going (r .desk) (r .lines) (r .at) (now (input .entry)) (now (numbers .exit)) (now (store .exit)) (now (out .exit)) ⌝ }
+    requires { ⌜ Going (s .desk) (s .lines) (s .at) (now input) (now numbers) (now file) (now store) (now out) ⌝ }
+    ensures { λ r. ⌜ Going (r .desk) (r .lines) (r .at) (now (input .entry)) (now (numbers .exit)) (now (file .exit)) (now (store .exit)) (now (out .exit)) ⌝ }
     ensures { λ r. ⌜ Through (now (input .entry)) (s .desk) (s .lines) (s .at) (now (store .entry)) (now (out .entry)) (r .desk) (r .lines) (r .at) (now (store .exit)) (now (out .exit)) ⌝ }
     ensures { λ r. ⌜ (r .at + 42000 ≤ length (now (out .entry)) → nextOf (now (input .entry)) (r .lines) .next ≡ Next.None) ⌝ }
 {
@@ -71,7 +75,7 @@ fn answer_lines(
             break;
         }
         let next = t.next;
-        let r = answer_next(desk, next, input, numbers, store, out, at);
+        let r = answer_next(desk, next, input, numbers, file, store, out, at);
         desk = r.desk;
         lines = rest;
         at = r.next;
@@ -99,13 +103,14 @@ fn turn(
     s: Session,
     input: &mut [u8],
     numbers: &mut [f32],
+    file: &mut [u8],
     store: &mut [f32],
     out: &mut [u8],
 ) -> Session
-    requires { ⌜ Going (s .desk) (s .lines) (s .at) (now input) (now numbers) (now store) (now out) ⌝ }
-    ensures { λ r. ⌜ Going (r .desk) (r .lines) (r .at) (now (input .exit)) (now (numbers .exit)) (now (store .exit)) (now (out .exit)) ⌝ }
+    requires { ⌜ Going (s .desk) (s .lines) (s .at) (now input) (now numbers) (now file) (now store) (now out) ⌝ }
+    ensures { λ r. ⌜ Going (r .desk) (r .lines) (r .at) (now (input .exit)) (now (numbers .exit)) (now (file .exit)) (now (store .exit)) (now (out .exit)) ⌝ }
 {
-    let s = answer_lines(s, &input[..], numbers, store, out);
+    let s = answer_lines(s, &input[..], numbers, file, store, out);
     let at = s.at;
     let desk = s.desk;
     if 0 < at {
@@ -135,19 +140,26 @@ fn turn(
 }
 
 // The line that the input ends with, where it has no newline.
-fn finish(s: Session, input: &[u8], numbers: &mut [f32], store: &mut [f32], out: &mut [u8])
-    requires { ⌜ Going (s .desk) (s .lines) (s .at) (now input) (now numbers) (now store) (now out) ⌝ }
+fn finish(
+    s: Session,
+    input: &[u8],
+    numbers: &mut [f32],
+    file: &mut [u8],
+    store: &mut [f32],
+    out: &mut [u8],
+)
+    requires { ⌜ Going (s .desk) (s .lines) (s .at) (now input) (now numbers) (now file) (now store) (now out) ⌝ }
 {
     let desk = s.desk;
     let next = last_line(s.lines);
-    let r = answer_next(desk, next, input, numbers, store, out, 0);
+    let r = answer_next(desk, next, input, numbers, file, store, out, 0);
     let end = r.next;
     io::write_all(STDOUT_FILENO, &out[..end]);
 }
 
 // The whole input, as it comes.
-fn serve(input: &mut [u8], numbers: &mut [f32], store: &mut [f32], out: &mut [u8])
-    requires { ⌜ Lent (now numbers) (now store) (now out) ⌝ }
+fn serve(input: &mut [u8], numbers: &mut [f32], file: &mut [u8], store: &mut [f32], out: &mut [u8])
+    requires { ⌜ Lent (now numbers) (now file) (now store) (now out) ⌝ }
 {
     let mut s = Session {
         desk: at_first(),
@@ -164,16 +176,17 @@ fn serve(input: &mut [u8], numbers: &mut [f32], store: &mut [f32], out: &mut [u8
         if !s.more {
             break;
         }
-        s = turn(s, input, numbers, store, out);
+        s = turn(s, input, numbers, file, store, out);
         turns -= 1;
     }
-    finish(s, &input[..], numbers, store, out);
+    finish(s, &input[..], numbers, file, store, out);
 }
 
 fn main() {
     let mut input = io::large_buffer();
     let mut out = io::large_buffer();
     let mut numbers = [0.0f32; 5000];
+    let mut file = [0u8; 30000];
     let mut store = [0.0f32; 8192];
-    serve(&mut input, &mut numbers, &mut store, &mut out);
+    serve(&mut input, &mut numbers, &mut file, &mut store, &mut out);
 }

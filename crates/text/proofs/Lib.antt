@@ -1,4 +1,5 @@
 pub mod Back
+pub mod Pairs
 pub mod Patterns
 pub mod Reading
 pub mod Said

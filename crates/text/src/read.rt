@@ -64,7 +64,7 @@ pub fn count_in(word: &[u8]) -> Number
 }
 
 // A word of exactly so many hexadecimal digits.
-fn bits_in(word: &[u8], digits: usize) -> Number
+pub fn bits_in(word: &[u8], digits: usize) -> Number
     ensures { λ r. ⌜ r ≡ asNumber (bitsIn digits (now (word .entry))) ⌝ }
 {
     if word.len() == digits {
@@ -75,7 +75,7 @@ fn bits_in(word: &[u8], digits: usize) -> Number
 }
 
 // `from_bits` of every pattern: a NaN's own bits are not kept.
-fn single_of(bits: u32) -> f32
+pub fn single_of(bits: u32) -> f32
     ensures { λ r. ⌜ r ≡ ofBits binary32 bits ⌝ }
 {
     if 0x7f80_0000 < bits % 0x8000_0000 {
@@ -85,7 +85,7 @@ fn single_of(bits: u32) -> f32
     }
 }
 
-fn double_of(bits: u64) -> f64
+pub fn double_of(bits: u64) -> f64
     ensures { λ r. ⌜ r ≡ ofBits binary64 bits ⌝ }
 {
     if 0x7ff0_0000_0000_0000 < bits % 0x8000_0000_0000_0000 {

@@ -80,7 +80,7 @@ pub fn single_bits(x: f32) -> u32
     if x != x { 0x7fc0_0000 } else { f32::to_bits(x) }
 }
 
-fn double_bits(x: f64) -> u64
+pub fn double_bits(x: f64) -> u64
     ensures { λ r. ⌜ r ≡ toBits binary64 x ⌝ }
 {
     if x != x {

@@ -4,7 +4,7 @@ use crackledray::raw;
 #[allow(dead_code)]
 #[path = "../../../oracle/src/oracle/session.rs"]
 mod session;
-use session::{curve_numbers, hex32, hex64, list32, Block, Call, Line};
+use session::{curve_numbers, hex32, hex64, hex_file, list32, Block, Call, Line, Load};
 
 const LENT: usize = 8192;
 
@@ -64,6 +64,8 @@ impl Desk {
                 Call::Hold(t) => raw::crackledray_hold(s, n, *t, store, lent),
                 Call::Block(block) => return self.block(block),
                 Call::State => return self.state(),
+                Call::Save => return self.save(),
+                Call::Load(load) => return self.load(load),
                 Call::Lend(length) => {
                     self.lent = *length;
                     0
@@ -110,6 +112,63 @@ impl Desk {
             ),
             n => format!("refused {n} {rest}"),
         }
+    }
+
+    fn save(&self) -> String {
+        let (mut file, mut at) = (vec![0; raw::FILE_LENGTH], 0);
+        let number = unsafe {
+            raw::crackledray_card_write(
+                self.state.as_ptr(),
+                raw::STATE,
+                self.store.as_ptr(),
+                raw::STORE,
+                file.as_mut_ptr(),
+                file.len(),
+                &mut at,
+            )
+        };
+        match number {
+            0 => format!("saved {}", hex_file(&file[..at])),
+            n => format!("refused {n} {at}"),
+        }
+    }
+
+    /// In the parts that the line says; the store is the caller's until the end.
+    fn load(&mut self, load: &Load) -> String {
+        let (mut card, mut window) = ([0; raw::CARD_LENGTH], vec![0; raw::WINDOW_LENGTH]);
+        let (mut numbers, mut at) = (vec![0.0; raw::STORE], 0);
+        let edition = load.edition.unwrap_or(1).into();
+        let (c, w, n) = (card.as_mut_ptr(), window.as_mut_ptr(), numbers.as_mut_ptr());
+        let (many, wide, long) = (raw::CARD_LENGTH, raw::WINDOW_LENGTH, raw::STORE);
+        let number = unsafe {
+            let opened = raw::crackledray_card_open(c, many, n, long, !load.a_rate, edition);
+            assert_eq!(opened, 0);
+            for part in load.file.chunks(load.part) {
+                let (bytes, length) = (part.as_ptr(), part.len());
+                let heard = raw::crackledray_card_part(c, many, w, wide, n, long, bytes, length);
+                assert_eq!(heard, 0);
+            }
+            let (state, store) = (self.state.as_mut_ptr(), self.store.as_mut_ptr());
+            raw::crackledray_card_end(
+                c,
+                many,
+                w,
+                wide,
+                n,
+                long,
+                state,
+                raw::STATE,
+                store,
+                long,
+                &mut at,
+            )
+        };
+        if number != 0 {
+            return format!("refused {number} {at}");
+        }
+        self.store[raw::STORE..].fill(0.0);
+        self.lent = raw::STORE;
+        "ok".to_string()
     }
 
     fn state(&self) -> String {

@@ -1,8 +1,12 @@
-//! One audio parameter, proved: its scheduling calls and its block renderer, named as in web-audio-api-rs.
+//! One audio parameter, proved: its scheduling calls and its block renderer, named as in web-audio-api-rs, and a schedule file
+//! written and read.
 //!
 //! Assumed: x86-64 (what the archive links into), floats rounded to nearest, subnormals on.
 
+mod card;
 pub mod raw;
+
+pub use card::{CardError, CardReader};
 
 use raw::{COUNT, LONG_COUNT, STATE, STORE};
 
@@ -37,7 +41,7 @@ impl Edition {
     }
 }
 
-/// Why a call is refused, with document 01's numbers; the last is the library's own.
+/// Why a call is refused, with document 01's numbers and, of a file, 02's; those from 100 on are the library's own.
 #[derive(Clone, Copy, Debug, PartialEq, Eq)]
 #[repr(u32)]
 pub enum Error {
@@ -67,12 +71,28 @@ pub enum Error {
     UnknownEdition = 12,
     /// the curve store has not 4,096 numbers
     BadStore = 14,
+    /// a field's tag is not 1 to 6
+    UnknownTag = 20,
+    /// a field's length is not that of its tag
+    WrongLength = 21,
+    /// an event before the range, a second range, or none by the end
+    Misplaced = 22,
+    /// the file ends inside a field
+    CutShort = 23,
+    /// in writing: a held event, a block already answered, or a curve number that is not finite
+    Unwritable = 24,
+    /// an event earlier than the one before it, a time of -0, or a time constant of 0
+    OutOfTurn = 28,
     /// the state fails its test; that of an `AudioParam`, which calls left, never does
     BadState = 100,
+    /// in writing: the slice is shorter than the file
+    NoRoom = 101,
+    /// a part of more than 65,536 bytes
+    LongPart = 102,
 }
 
 impl Error {
-    pub const ALL: [Error; 14] = [
+    pub const ALL: [Error; 22] = [
         Error::Bounds,
         Error::NotFinite,
         Error::BeforeZero,
@@ -86,7 +106,15 @@ impl Error {
         Error::Inside,
         Error::UnknownEdition,
         Error::BadStore,
+        Error::UnknownTag,
+        Error::WrongLength,
+        Error::Misplaced,
+        Error::CutShort,
+        Error::Unwritable,
+        Error::OutOfTurn,
         Error::BadState,
+        Error::NoRoom,
+        Error::LongPart,
     ];
 
     pub fn number(self) -> u32 {

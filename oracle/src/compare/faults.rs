@@ -1,8 +1,9 @@
 //! The self-test: faults planted in the port's answers, before the judging.
 //! Six, one for each field that is compared, and two just beyond 01's limits; two
 //! that the reference alone can find, where the Rust has nothing to compare; six of
-//! the editions, which the Rust has not; and five of `plain`.
+//! the editions, which the Rust has not; five of `plain`; and six of cards.
 
+use crate::card_faults::{cut_first, high_byte_first, hold_saved, kept_fields, later, own_first};
 use crate::edition_faults::{behind_128, kept, over_first, over_second, unknown_first, unmarked};
 use crate::plain_faults::{k_stays, not_carried, plain_behind_128, steps_summed, stops_at_place};
 use crate::shrink::shrunk;
@@ -58,6 +59,16 @@ const PLAIN_FAULTS: [Fault; 5] = [
     ("the steps summed over the places", steps_summed, With::Reference),
     ("nothing carried on behind `plain`", not_carried, With::Reference),
     ("the places of `plain` behind 128 hold the one before", plain_behind_128, With::Reference),
+];
+
+/// In sessions with cards.
+const CARD_FAULTS: [Fault; 6] = [
+    ("the lengths of a saved file's fields high byte first", high_byte_first, With::Reference),
+    ("a held event saved", hold_saved, With::Reference),
+    ("an offset one byte later", later, With::Reference),
+    ("23 ahead of 21", cut_first, With::Reference),
+    ("01's own numbers ahead of 28", own_first, With::Reference),
+    ("a refused file's fields kept up to its fault", kept_fields, With::Reference),
 ];
 
 /// The answer with one of its words changed.
@@ -210,11 +221,12 @@ fn found_of(sides: &Sides, sessions: &[Session], faults: &[Fault]) -> usize {
     all
 }
 
-/// Each fault must be found wherever it is planted; `again` are the sessions with `plain`.
-/// True if all were.
-pub fn self_test(sides: &Sides, sessions: &[Session], again: &[Session]) -> bool {
-    let all = found_of(sides, sessions, &FAULTS) + found_of(sides, again, &PLAIN_FAULTS);
-    let faults = FAULTS.len() + PLAIN_FAULTS.len();
-    out::print(&format!("{all} of {faults} faults were found\n"));
-    all == faults
+/// Each fault must be found wherever it is planted; in the sessions of one and of both
+/// editions, those with `plain`, those with cards. True if all were.
+pub fn self_test(sides: &Sides, sessions: [Vec<Session>; 3]) -> bool {
+    let faults = [&FAULTS[..], &PLAIN_FAULTS, &CARD_FAULTS];
+    let found = sessions.iter().zip(faults).map(|(some, faults)| found_of(sides, some, faults));
+    let (found, all): (usize, usize) = (found.sum(), faults.concat().len());
+    out::print(&format!("{found} of {all} faults were found\n"));
+    found == all
 }

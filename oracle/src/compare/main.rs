@@ -1,12 +1,13 @@
 //! The port beside the Rust, on random sessions; beside the interpreter alone on those
-//! of both editions, which the Rust has not. All of them are played once more with
-//! `plain` for `block` (02, C-16), and with them some that fade out.
+//! of both editions and those with cards, which the Rust has not. All but the last are
+//! played once more with `plain` for `block` (02, C-16), and with them some that fade out.
 //!
 //! `compare RUST PORT FOLDER PAGE WORDS..`, called by the script of the same
 //! name with the two programs, this folder and docs/DIFFERENCES.md. WORDS:
 //! `[N [SEED]]`, `--self-test` or `--page` (see README.md). Ends with 1 if
 //! anything differed otherwise than the page names, with 2 if it cannot run.
 
+mod card_faults;
 mod edition_faults;
 mod faults;
 mod page;
@@ -15,6 +16,7 @@ mod shrink;
 mod sides;
 
 use comparing::again::again;
+use comparing::cards::cards;
 use comparing::fades::fading;
 use comparing::family::{editions, random, run_length};
 use comparing::session::Session;
@@ -49,15 +51,22 @@ fn show(sides: &Sides, played: Played, what: &str, wanted: fn(&Verdict) -> bool)
     out::print(&text);
 }
 
-/// The session at this place of a run: N of the mixture, then those of both editions.
+/// The session at this place of a run: N of the mixture, then those of both editions, then
+/// those with cards.
 fn drawn(seed: u64, place: usize, n: usize) -> Session {
-    match place.checked_sub(n) {
-        None => random(seed, place, None),
-        Some(number) => editions(seed, number),
+    match (place.checked_sub(n), place.checked_sub(run_length(n))) {
+        (None, _) => random(seed, place, None),
+        (Some(number), None) => editions(seed, number),
+        (_, Some(number)) => cards(seed, number),
     }
 }
 
-/// The same with `plain` for `block`; behind them those that fade out.
+/// How many sessions are played first: one with cards for every four.
+fn first_length(n: usize) -> usize {
+    run_length(n) + n.div_ceil(4)
+}
+
+/// The same but for cards, with `plain` for `block`; behind them those that fade out.
 fn drawn_again(seed: u64, place: usize, n: usize) -> Session {
     match place.checked_sub(run_length(n)) {
         None => again(seed, place.checked_sub(n).unwrap_or(place), &drawn(seed, place, n)),
@@ -84,7 +93,7 @@ fn show_wrong(sides: &Sides, summary: &Summary, played: Played) {
 fn run(sides: &Sides, n: usize, seed: u64) -> Summary {
     let mut summary = Summary::default();
     let session = |i: usize| drawn(seed, i, n);
-    play(sides, run_length(n), session, "", &mut summary, Summary::add);
+    play(sides, first_length(n), session, "", &mut summary, Summary::add);
     let session = |i: usize| drawn_again(seed, i, n);
     play(sides, again_length(n), session, " with `plain`", &mut summary, Summary::add_again);
     summary
@@ -127,9 +136,10 @@ fn shortcomings(summary: &Summary, page: &Page, n: usize) -> Vec<String> {
         }
     }
     all.extend(summary.editions.shortcomings());
+    all.extend(summary.carded.shortcomings());
     all.extend(summary.again.shortcomings());
-    let played = summary.sessions + summary.editions.sessions;
-    for (played, n) in [(played, run_length(n)), (summary.again.sessions, again_length(n))] {
+    let first = summary.sessions + summary.editions.sessions + summary.carded.sessions;
+    for (played, n) in [(first, first_length(n)), (summary.again.sessions, again_length(n))] {
         if played < n {
             all.push(format!("stopped after {played} of {n} sessions"));
         }
@@ -162,11 +172,10 @@ fn main() {
     let number = |i: usize, otherwise: u64| rest.get(i).map_or(Some(otherwise), |w| w.parse().ok());
     let good = match (rest.first().map(String::as_str), number(0, 2000), number(1, 1)) {
         (Some("--self-test"), ..) => {
-            let sessions: Vec<Session> =
-                (0..run_length(BATCH)).map(|i| drawn(1, i, BATCH)).collect();
-            let again: Vec<Session> =
-                (0..again_length(BATCH)).map(|i| drawn_again(1, i, BATCH)).collect();
-            faults::self_test(&sides, &sessions, &again)
+            let sessions = (0..run_length(BATCH)).map(|i| drawn(1, i, BATCH)).collect();
+            let again = (0..again_length(BATCH)).map(|i| drawn_again(1, i, BATCH)).collect();
+            let carded = (0..BATCH).map(|i| cards(1, i)).collect();
+            faults::self_test(&sides, [sessions, again, carded])
         }
         (Some("--page"), ..) => {
             page.print(&sides);

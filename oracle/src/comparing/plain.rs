@@ -36,9 +36,13 @@ fn plains(words: &[&str]) -> Vec<String> {
     words.iter().map(|w| plain(w)).collect()
 }
 
-/// A call; a block's output length only where it is not its count, or before an input.
+/// A call; a block's output length only where it is not its count, or before an input; a
+/// file by its bytes.
 pub fn call(call: &Call) -> String {
     let line = write_call(call);
+    if matches!(call, Call::Load(_)) {
+        return line;
+    }
     let words: Vec<&str> = line.split(' ').collect();
     let mut shown = plains(&words);
     let numbers = match call {

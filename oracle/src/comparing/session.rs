@@ -37,10 +37,15 @@ impl Session {
         self.calls.iter().map(|call| write_call(call) + "\n").collect()
     }
 
-    /// The Rust has one edition: what is made under another it cannot be asked for.
+    /// The Rust has one edition and no cards: what is made under another edition, or read
+    /// from a file, it cannot be asked for.
     pub fn has_rust(&self) -> bool {
         let other = |call: &Call| matches!(call, Call::Make { edition: Some(n), .. } if *n != 1);
-        !self.calls.iter().any(other)
+        !self.has_cards() && !self.calls.iter().any(other)
+    }
+
+    pub fn has_cards(&self) -> bool {
+        self.calls.iter().any(|call| matches!(call, Call::Save | Call::Load(_)))
     }
 
     /// The first call from which on the sides hold different parameters, by what name.

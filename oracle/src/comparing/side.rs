@@ -12,7 +12,7 @@ use std::time::Duration;
 const PATIENCE: Duration = Duration::from_secs(60);
 
 /// What stands for an answer that a program did not give.
-const MISSING: &str = "(no answer)";
+pub const MISSING: &str = "(no answer)";
 
 #[derive(Clone)]
 pub struct Side {

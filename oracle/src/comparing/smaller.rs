@@ -1,6 +1,7 @@
 //! Sessions that are a little smaller than one: what shrinking tries.
 
-use reference::session::{Block, Call};
+use crate::files::fields;
+use reference::session::{Block, Call, Load};
 
 /// Smaller sessions: with calls left out, many first; then with one call
 /// simpler. The first call, the `make`, stays: it parts a session from others.
@@ -53,13 +54,31 @@ fn simpler(call: &Call) -> Vec<Call> {
         Call::Hold(t) => vec![times(&t, &Call::Hold)],
         Call::Curve(t, d, numbers) => vec![simpler_curve(t, d, &numbers)],
         Call::Block(block) => vec![simpler_block(&block)],
-        Call::Lend(_) | Call::Poke(..) | Call::State => Vec::new(),
+        Call::Load(load) => vec![simpler_load(&load)],
+        Call::Lend(_) | Call::Poke(..) | Call::State | Call::Save => Vec::new(),
     };
     lists.concat()
 }
 
 fn made(&[min, default, max]: &[f32; 3], a_rate: bool, edition: Option<u8>) -> Call {
     Call::Make { min, default, max, a_rate, edition }
+}
+
+/// With a field or a byte left out, in one part, without its edition.
+fn simpler_load(load: &Load) -> Vec<Call> {
+    let (fields, file) = (fields(&load.file), &load.file);
+    let without = |i: usize| [&fields[..i], &fields[i + 1..]].concat().concat();
+    let mut files: Vec<Vec<u8>> = (0..fields.len()).map(without).collect();
+    files.extend(file.len().checked_sub(1).map(|n| file[..n].to_vec()));
+    let with = |file| Call::Load(Load { file, ..load.clone() });
+    let mut all: Vec<Call> = files.into_iter().map(with).collect();
+    if load.part < 65536 {
+        all.push(Call::Load(Load { part: 65536, ..load.clone() }));
+    }
+    if load.edition.is_some() {
+        all.push(Call::Load(Load { edition: None, ..load.clone() }));
+    }
+    all
 }
 
 fn simpler_curve(t: f64, d: f64, numbers: &[f32]) -> Vec<Call> {

@@ -1,6 +1,7 @@
 //! What many verdicts come to, and its print.
 
 use crate::again::Again;
+use crate::carded::Carded;
 use crate::editions::Editions;
 use crate::session::Session;
 use crate::verdict::{Limit, Tally, Verdict};
@@ -25,15 +26,20 @@ pub struct Summary {
     /// By name: sessions that differed so, and sessions that claim it.
     by_name: BTreeMap<&'static str, (usize, usize)>,
     pub tally: Tally,
-    /// The others.
+    /// Those of both editions.
     pub editions: Editions,
-    /// All of them, with `plain` for `block`.
+    /// Those with cards.
+    pub carded: Carded,
+    /// All of them but those with cards, with `plain` for `block`.
     pub again: Again,
 }
 
 impl Summary {
     pub fn add(&mut self, session: &Session, verdict: &Verdict) {
         self.not_01 += usize::from(verdict.not_01.is_some());
+        if session.has_cards() {
+            return self.carded.add(session);
+        }
         if !session.has_rust() {
             return self.editions.add(session);
         }
@@ -125,7 +131,7 @@ impl fmt::Display for Summary {
         writeln!(f, "\nsecond list, against 01's measured limits")?;
         print_limit(f, "targets", -20., &self.tally.target)?;
         print_limit(f, "exponentials", -18., &self.tally.exponential)?;
-        write!(f, "{}{}", self.editions, self.again)?;
+        write!(f, "{}{}{}", self.editions, self.carded, self.again)?;
         let all = if self.not_01 == 0 { "all" } else { "NOT all" };
         writeln!(f, "\nthe port gives {all} answers of oracle/reference, the interpreter")
     }

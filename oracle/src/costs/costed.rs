@@ -121,5 +121,6 @@ fn line(call: &Call) -> String {
         Call::Lend(n) => format!("lend {n}"),
         Call::Poke(i, v) => format!("poke {i}{}", values(&[*v])),
         Call::State => "state".to_string(),
+        Call::Save | Call::Load(_) => unreachable!("no card is drawn here"),
     }
 }

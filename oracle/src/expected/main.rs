@@ -19,7 +19,6 @@ mod burst;
 use comparing::line::compared;
 use comparing::session::{sessions, Session};
 use reference::param::Reference;
-use reference::session::{read_line, Line};
 use std::fs;
 use std::path::Path;
 
@@ -45,11 +44,7 @@ impl Gate {
         let mut reference = Reference::empty();
         let mut given = answers.lines();
         for (i, line) in text.lines().enumerate() {
-            let answer = match read_line(line) {
-                Line::Blank => String::new(),
-                Line::Unread => "unread".to_string(),
-                Line::Call(call) => reference.answer(&call),
-            };
+            let answer = reference.answer_line(line);
             if given.next() != Some(answer.as_str()) {
                 self.refused.push(format!("{path}, line {}: the reference says {answer}", i + 1));
             }

@@ -16,7 +16,8 @@ pub(crate) struct Oracle {
     processor: AudioParamProcessor,
     /// A panic left the parameter half changed; the library frees such a node.
     broken: bool,
-    /// Made under another edition than the first: the Rust has no such parameter.
+    /// Made under another edition than the first, or behind a file: the Rust has no such
+    /// parameter, and cannot tell whether the file is read.
     absent: bool,
 }
 
@@ -37,11 +38,13 @@ impl Oracle {
 
     /// The answer to a call; a panic is answered `panic`, what the Rust has not `-`.
     pub(crate) fn answer(&mut self, call: &Call) -> String {
-        if let Call::Make { edition, .. } = call {
-            self.absent = edition.is_some_and(|number| number != 1);
+        match call {
+            Call::Make { edition, .. } => self.absent = edition.is_some_and(|number| number != 1),
+            Call::Load(_) => self.absent = true,
+            _ => (),
         }
         match call {
-            _ if self.absent => "-".to_string(),
+            _ if self.absent || *call == Call::Save => "-".to_string(),
             Call::Make { min, default, max, a_rate, .. } => {
                 self.make(*min, *default, *max, *a_rate)
             }

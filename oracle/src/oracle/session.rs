@@ -1,6 +1,7 @@
 //! The session language: reading a line as a call, and writing numbers.
 //! Shared by every program in this folder; the pages are session-language.md and, for
-//! the fifth word of `make` and the word `plain`, session-language-02.md.
+//! the fifth word of `make` and the words `plain`, `save` and `load`,
+//! session-language-02.md.
 
 /// One call, as a line of a session says it.
 #[derive(Clone, Debug, PartialEq)]
@@ -25,6 +26,8 @@ pub enum Call {
     Lend(usize),
     Poke(usize, f32),
     State,
+    Save,
+    Load(Load),
 }
 
 /// The numbers of a block call: `out` is the length of the output lent. `plain` is one
@@ -37,6 +40,16 @@ pub struct Block {
     pub count: u64,
     pub out: usize,
     pub input: Vec<f32>,
+}
+
+/// A schedule file that comes in parts of so many bytes (02, C-11), and the parameter that
+/// it is read into.
+#[derive(Clone, Debug, PartialEq)]
+pub struct Load {
+    pub part: usize,
+    pub file: Vec<u8>,
+    pub a_rate: bool,
+    pub edition: Option<u8>,
 }
 
 /// What a line is: nothing to answer, a call, or unread.
@@ -82,8 +95,43 @@ fn read_call(words: &[&str]) -> Option<Call> {
         ("lend", [n]) => Call::Lend(within(n, 8192)?),
         ("poke", [i, v]) => Call::Poke(within(i, 8191)?, f32_of(v)?),
         ("state", []) => Call::State,
+        ("save", []) => Call::Save,
+        ("load", words) => Call::Load(load_of(words)?),
         _ => return None,
     })
+}
+
+fn load_of(words: &[&str]) -> Option<Load> {
+    let [part, file, rate @ ("a" | "k"), edition @ ..] = words else { return None };
+    Some(Load {
+        part: within(part, 65536).filter(|n| *n > 0)?,
+        file: file_of(file)?,
+        a_rate: *rate == "a",
+        edition: edition_of(edition)?,
+    })
+}
+
+/// Two digits for each byte, of at most 30,000; `-` for none.
+fn file_of(word: &str) -> Option<Vec<u8>> {
+    match word.len() {
+        _ if word == "-" => Some(Vec::new()),
+        2..=60_000 => word.as_bytes().chunks(2).map(byte_of).collect(),
+        _ => None,
+    }
+}
+
+fn byte_of(pair: &[u8]) -> Option<u8> {
+    let [high, low] = pair else { return None };
+    Some(digit(*high)? << 4 | digit(*low)?)
+}
+
+/// A lower-case hexadecimal digit.
+fn digit(byte: u8) -> Option<u8> {
+    match byte {
+        b'0'..=b'9' => Some(byte - b'0'),
+        b'a'..=b'f' => Some(byte - b'a' + 10),
+        _ => None,
+    }
 }
 
 /// One word, a decimal from 0 to 255, or none.
@@ -105,8 +153,7 @@ fn numbers(n: &str, most: usize, words: &[&str]) -> Option<Vec<f32>> {
 
 /// Exactly `digits` lower-case hexadecimal digits.
 fn bits(word: &str, digits: usize) -> Option<u64> {
-    let lower = |b: u8| b.is_ascii_digit() || (b'a'..=b'f').contains(&b);
-    if word.len() != digits || !word.bytes().all(lower) {
+    if word.len() != digits || !word.bytes().all(|b| digit(b).is_some()) {
         return None;
     }
     u64::from_str_radix(word, 16).ok()
@@ -149,6 +196,15 @@ pub fn list32(values: &[f32], before: &str) -> String {
     values.iter().map(|v| format!("{before}{}", hex32(*v))).collect()
 }
 
+/// A file's bytes as `save` prints them.
+pub fn hex_file(file: &[u8]) -> String {
+    let digit = |n: u8| char::from(b"0123456789abcdef"[usize::from(n)]);
+    match file {
+        [] => "-".to_string(),
+        _ => file.iter().flat_map(|b| [digit(b >> 4), digit(b & 15)]).collect(),
+    }
+}
+
 /// A curve's numbers as `state` prints them: N:V1,V2,..,VN
 pub fn curve_numbers(values: &[f32]) -> String {
     let words: Vec<String> = values.iter().map(|v| hex32(*v)).collect();
@@ -159,9 +215,8 @@ pub fn curve_numbers(values: &[f32]) -> String {
 pub fn write_call(call: &Call) -> String {
     match call {
         Call::Make { min, default, max, a_rate, edition } => {
-            let rate = if *a_rate { "a" } else { "k" };
-            let edition = edition.map_or(String::new(), |n| format!(" {n}"));
-            format!("make{} {rate}{edition}", list32(&[*min, *default, *max], " "))
+            let range = list32(&[*min, *default, *max], " ");
+            format!("make{range} {}", under(*a_rate, *edition))
         }
         Call::Set(v) => format!("set {}", hex32(*v)),
         Call::Step(v, t) => format!("step {} {}", hex32(*v), hex64(*t)),
@@ -183,7 +238,17 @@ pub fn write_call(call: &Call) -> String {
         Call::Lend(n) => format!("lend {n}"),
         Call::Poke(i, v) => format!("poke {i} {}", hex32(*v)),
         Call::State => "state".to_string(),
+        Call::Save => "save".to_string(),
+        Call::Load(Load { part, file, a_rate, edition }) => {
+            format!("load {part} {} {}", hex_file(file), under(*a_rate, *edition))
+        }
     }
+}
+
+/// The last words of a `make` or `load`: its rate and, where it has one, its edition.
+fn under(a_rate: bool, edition: Option<u8>) -> String {
+    let rate = if a_rate { "a" } else { "k" };
+    edition.map_or(rate.to_string(), |n| format!("{rate} {n}"))
 }
 
 /// Answers every line of standard input by `answer`, in order.

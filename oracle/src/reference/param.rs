@@ -1,5 +1,6 @@
 //! The parameter by 01: its calls with their refusals, the store, the answers.
 
+use crate::card::{self, Fault};
 use crate::claims::{Claims, Reach};
 use crate::costs::Costs;
 use crate::edition::Edition;
@@ -7,7 +8,8 @@ use crate::near::{Near, Value};
 use crate::numbers::mixed;
 use crate::places::{Look, Start};
 use crate::queue::{cancel, claim_arrival, hold, insert, inside, rust_inside, Event, Kind};
-use crate::session::{curve_numbers, hex32, hex64, list32, Block, Call};
+use crate::session::{curve_numbers, hex32, hex64, hex_file, list32, read_line};
+use crate::session::{Block, Call, Line, Load};
 use crate::walk::{Facts, Walk};
 
 const STORE: usize = 4096;
@@ -34,7 +36,7 @@ pub struct Reference {
 
 /// The number of the first row that applies: "the lowest number is given", but for
 /// C-14's 11, "given after 6 and before 7 and 8".
-fn refusal(rows: &[(u8, bool)]) -> Option<u8> {
+pub fn refusal(rows: &[(u8, bool)]) -> Option<u8> {
     rows.iter().find(|(_, applies)| *applies).map(|(number, _)| *number)
 }
 
@@ -47,7 +49,7 @@ fn plus_zero(time: f64) -> f64 {
     time + 0.
 }
 
-fn is_minus_zero(time: f64) -> bool {
+pub fn is_minus_zero(time: f64) -> bool {
     time == 0. && time.is_sign_negative()
 }
 
@@ -84,14 +86,43 @@ impl Reference {
         self.edition
     }
 
-    /// The totals since the last `make`, refused or not; before the first, of all calls.
+    pub fn range(&self) -> [f32; 3] {
+        [self.min, self.default, self.max]
+    }
+
+    /// The totals since the last `make`, refused or not, or answered `load`; before the
+    /// first, of all calls.
     pub fn costs(&self) -> Costs {
         Costs { waiting: self.queue.len() as u64, ..self.costs }
     }
 
+    /// The answer to a line of a session.
+    pub fn answer_line(&mut self, line: &str) -> String {
+        match read_line(line) {
+            Line::Blank => String::new(),
+            Line::Unread => "unread".to_string(),
+            Line::Call(call) => self.answer(&call),
+        }
+    }
+
     pub fn answer(&mut self, call: &Call) -> String {
         self.claims = Claims::default();
-        let refused = match call {
+        match call {
+            Call::Block(b) if b.plain => self.plain(b),
+            Call::Block(b) => self.block(b),
+            Call::State => self.state(),
+            Call::Save => match self.saved() {
+                Ok(file) => format!("saved {}", hex_file(&file)),
+                Err(fault) => fault.to_string(),
+            },
+            Call::Load(load) => self.load(load),
+            _ => self.command(call).map_or("ok".to_string(), |n| format!("refused {n}")),
+        }
+    }
+
+    /// A call that is answered or refused with a number alone.
+    pub fn command(&mut self, call: &Call) -> Option<u8> {
+        match call {
             Call::Make { min, default, max, a_rate, edition } => {
                 self.make([*min, *default, *max], *a_rate, *edition)
             }
@@ -103,13 +134,10 @@ impl Reference {
             Call::Curve(t, d, values) => self.curve(*t, *d, values),
             Call::Cancel(t) => self.cancel(*t),
             Call::Hold(t) => self.hold(*t),
-            Call::Block(b) if b.plain => return self.plain(b),
-            Call::Block(b) => return self.block(b),
             Call::Lend(n) => self.lend(*n),
             Call::Poke(i, v) => self.poke(*i, *v),
-            Call::State => return self.state(),
-        };
-        refused.map_or("ok".to_string(), |n| format!("refused {n}"))
+            _ => unreachable!("it has another answer"),
+        }
     }
 
     /// "An unknown edition gets 12, after 1, with the same empty parameter, of the first
@@ -477,6 +505,27 @@ impl Reference {
         samples
     }
 
+    /// The schedule file of what waits, the curves' numbers as they stand in the store
+    /// (02, C-11).
+    pub fn saved(&self) -> Result<Vec<u8>, Fault> {
+        let mut seen = self.clone();
+        seen.read_store();
+        card::write(self.range(), &seen.queue, self.played.is_some())
+    }
+
+    /// "A refused reading leaves the parameter and store that the caller had. An answered
+    /// one is as making a parameter, then each event in turn" (02, C-11). param.rs has no
+    /// files, so that nothing is claimed.
+    fn load(&mut self, load: &Load) -> String {
+        match card::read(load) {
+            Ok(read) => {
+                *self = Self { claims: Claims::default(), ..read };
+                "ok".to_string()
+            }
+            Err(fault) => fault.to_string(),
+        }
+    }
+
     fn state(&mut self) -> String {
         self.claim_nears();
         let mut seen = self.clone();
@@ -489,7 +538,7 @@ impl Reference {
             (true, Edition::Second) => "a2",
             (false, Edition::Second) => "k2",
         };
-        let bounds = list32(&[self.min, self.default, self.max], " ");
+        let bounds = list32(&self.range(), " ");
         let times = |(t, end): (f64, f64)| format!("{}:{}", hex64(t), hex64(end));
         let block = self.played.map_or("-".to_string(), times);
         let pair = |(t, v): (f64, Value)| format!("{}:{}", hex64(t), hex32(v.value));

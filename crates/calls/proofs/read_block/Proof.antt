@@ -19,7 +19,7 @@ enum-told c = search needs
 
 returns : tie.Need-returns
 unfolding blockOf
-returns c = unheard _ (double-not _ _ _ (c .before .before .next-double .ensures) (c .enum-told .given .1))
+returns c = λ file. unheard _ file (double-not _ _ _ (c .before .before .next-double .ensures) (c .enum-told .given .1))
 
 next-double-requires-2 : tie.Need-next-double-requires-2
 next-double-requires-2 c κs = search needs
@@ -34,7 +34,7 @@ returns-2 : tie.Need-returns-2
 unfolding blockOf
 returns-2 c =
     let f1 = c .before .before .before .before in
-    unheard _
+    λ file. unheard _ file
     (double-is _ _ _ (f1 .before .before .next-double .ensures) (f1 .time .given .1)
     ∙ double-not _ _ _ (c .before .before .next-double2 .ensures) (c .enum-told2 .given .1))
 
@@ -52,7 +52,7 @@ unfolding blockOf
 returns-3 c =
     let f2 = c .before .before .before .before in
     let f1 = f2 .before .before .before .before in
-    unheard _
+    λ file. unheard _ file
     (double-is _ _ _ (f1 .before .before .next-double .ensures) (f1 .time .given .1)
     ∙ double-is _ _ _ (f2 .before .before .next-double2 .ensures) (f2 .period .given .1)
     ∙ count-not _ _ (2 ^ 64 - 1) _ (c .before .before .next-count .ensures) (c .enum-told3 .given .1))
@@ -72,7 +72,7 @@ returns-4 c =
     let f3 = c .before .before .before .before in
     let f2 = f3 .before .before .before .before in
     let f1 = f2 .before .before .before .before in
-    unheard _
+    λ file. unheard _ file
     (double-is _ _ _ (f1 .before .before .next-double .ensures) (f1 .time .given .1)
     ∙ double-is _ _ _ (f2 .before .before .next-double2 .ensures) (f2 .period .given .1)
     ∙ count-is _ _ (2 ^ 64 - 1) _ (f3 .before .before .next-count .ensures) (f3 .count .given .1)
@@ -97,7 +97,7 @@ returns-5 c =
     let f3 = f4 .before .before .before .before in
     let f2 = f3 .before .before .before .before in
     let f1 = f2 .before .before .before .before in
-    unheard _
+    λ file. unheard _ file
     (double-is _ _ _ (f1 .before .before .next-double .ensures) (f1 .time .given .1)
     ∙ double-is _ _ _ (f2 .before .before .next-double2 .ensures) (f2 .period .given .1)
     ∙ count-is _ _ (2 ^ 64 - 1) _ (f3 .before .before .next-count .ensures) (f3 .count .given .1)
@@ -117,7 +117,7 @@ returns-6 c =
     let f3 = f4 .before .before .before .before in
     let f2 = f3 .before .before .before .before in
     let f1 = f2 .before .before .before .before in
-    heard-with (c .before .before .before .input .given .0 .0) _
+    λ file. heard-with _ file (c .before .before .before .input .given .0 .0)
     (double-is _ _ _ (f1 .before .before .next-double .ensures) (f1 .time .given .1)
     ∙ double-is _ _ _ (f2 .before .before .next-double2 .ensures) (f2 .period .given .1)
     ∙ count-is _ _ (2 ^ 64 - 1) _ (f3 .before .before .next-count .ensures) (f3 .count .given .1)
@@ -135,7 +135,7 @@ returns-7 c =
     let f3 = f4 .before .before .before .before in
     let f2 = f3 .before .before .before .before in
     let f1 = f2 .before .before .before .before in
-    unheard _
+    λ file. unheard _ file
     (double-is _ _ _ (f1 .before .before .next-double .ensures) (f1 .time .given .1)
     ∙ double-is _ _ _ (f2 .before .before .next-double2 .ensures) (f2 .period .given .1)
     ∙ count-is _ _ (2 ^ 64 - 1) _ (f3 .before .before .next-count .ensures) (f3 .count .given .1)

@@ -10,21 +10,23 @@ use Rattle.calls.proofs.read_call.Reads as reads
 use Rattle.calls.proofs.read_call.Lts as lts
 use Rattle.calls.proofs.read_block.Reads as read-block-reads
 use Rattle.calls.proofs.read_lend.Reads as read-lend-reads
+use Rattle.calls.proofs.read_load.Reads as read-load-reads
 use Rattle.calls.proofs.read_make.Reads as read-make-reads
 use Rattle.calls.proofs.read_poke.Reads as read-poke-reads
+use Rattle.calls.proofs.read_save.Reads as read-save-reads
 use Rattle.calls.proofs.read_scheduling.Reads as read-scheduling-reads
 use Rattle.calls.proofs.read_state.Reads as read-state-reads
 use Rattle.text.proofs.words.same.Reads as same-reads
 use Rattle.text.proofs.words.word_end.Reads as word-end-reads
 
 returns : tie.Need-returns
-returns c = empty-line _ _ (c .if1 .taken)
+returns c = empty-line _ _ _ (c .if1 .taken)
 
 shared-slice-read-if2 : tie.Need-shared-slice-read-if2
 shared-slice-read-if2 c = search needs
 
 returns-2 : tie.Need-returns-2
-returns-2 c = comment _ _ (c .before .before .if1 .left) (c .if2 .taken)
+returns-2 c = comment _ _ _ (c .before .before .if1 .left) (c .if2 .taken)
 
 word-end-requires : tie.Need-word-end-requires
 word-end-requires c κs = search needs
@@ -53,10 +55,10 @@ read-make-requires c κs = search needs
 returns-3 : tie.Need-returns-3
 unfolding calls
 returns-3 c =
-    heard-by _ _
+    heard-by _ _ _
     (by-word _ (c .before .before .before .before .before .before .before .before .if1 .left) (c .before .before .before .before .before .before .if2 .left) _ (c .before .before .before .before .before .word-end .ensures .0)
     ∙ this-row _ _ _ _ _ (c .before .before .same .ensures) (c .before .if3 .taken))
-    (heard-bare _ _ (c .read-make .ensures))
+    (heard-bare _ _ _ (c .read-make .ensures))
 
 slice-aggregate-same-2 : tie.Need-slice-aggregate-same-2
 slice-aggregate-same-2 c = search needs
@@ -74,11 +76,11 @@ returns-4 : tie.Need-returns-4
 unfolding calls
 returns-4 c =
     let e1 = c .before .before .before .before .before .before .before in
-    heard-by _ _
+    heard-by _ _ _
     (by-word _ (e1 .before .before .before .before .before .before .before .if1 .left) (e1 .before .before .before .before .before .if2 .left) _ (e1 .before .before .before .before .word-end .ensures .0)
     ∙ next-row _ _ _ _ _ (e1 .before .same .ensures) (e1 .if3 .left)
     ∙ this-row _ _ _ _ _ (c .before .before .before .before .before .same2 .ensures) (c .before .before .before .before .if4 .taken))
-    (c .before .before .read-block .ensures)
+    (c .before .before .read-block .ensures _)
 
 slice-aggregate-same-3 : tie.Need-slice-aggregate-same-3
 slice-aggregate-same-3 c = search needs
@@ -97,12 +99,12 @@ unfolding calls
 returns-5 c =
     let e2 = c .before .before .before .before .before .before .before in
     let e1 = e2 .before .before .before in
-    heard-by _ _
+    heard-by _ _ _
     (by-word _ (e1 .before .before .before .before .before .before .before .if1 .left) (e1 .before .before .before .before .before .if2 .left) _ (e1 .before .before .before .before .word-end .ensures .0)
     ∙ next-row _ _ _ _ _ (e1 .before .same .ensures) (e1 .if3 .left)
     ∙ next-row _ _ _ _ _ (e2 .before .same2 .ensures) (e2 .if4 .left)
     ∙ this-row _ _ _ _ _ (c .before .before .before .before .before .same3 .ensures) (c .before .before .before .before .if5 .taken))
-    (c .before .before .read-block2 .ensures)
+    (c .before .before .read-block2 .ensures _)
 
 slice-aggregate-same-4 : tie.Need-slice-aggregate-same-4
 slice-aggregate-same-4 c = search needs
@@ -119,13 +121,13 @@ returns-6 c =
     let e3 = c .before .before .before .before in
     let e2 = e3 .before .before .before in
     let e1 = e2 .before .before .before in
-    heard-by _ _
+    heard-by _ _ _
     (by-word _ (e1 .before .before .before .before .before .before .before .if1 .left) (e1 .before .before .before .before .before .if2 .left) _ (e1 .before .before .before .before .word-end .ensures .0)
     ∙ next-row _ _ _ _ _ (e1 .before .same .ensures) (e1 .if3 .left)
     ∙ next-row _ _ _ _ _ (e2 .before .same2 .ensures) (e2 .if4 .left)
     ∙ next-row _ _ _ _ _ (e3 .before .same3 .ensures) (e3 .if5 .left)
     ∙ this-row _ _ _ _ _ (c .before .before .same4 .ensures) (c .before .if6 .taken))
-    (heard-bare _ _ (c .read-lend .ensures))
+    (heard-bare _ _ _ (c .read-lend .ensures))
 
 slice-aggregate-same-5 : tie.Need-slice-aggregate-same-5
 slice-aggregate-same-5 c = search needs
@@ -143,14 +145,14 @@ returns-7 c =
     let e3 = e4 .before .before .before in
     let e2 = e3 .before .before .before in
     let e1 = e2 .before .before .before in
-    heard-by _ _
+    heard-by _ _ _
     (by-word _ (e1 .before .before .before .before .before .before .before .if1 .left) (e1 .before .before .before .before .before .if2 .left) _ (e1 .before .before .before .before .word-end .ensures .0)
     ∙ next-row _ _ _ _ _ (e1 .before .same .ensures) (e1 .if3 .left)
     ∙ next-row _ _ _ _ _ (e2 .before .same2 .ensures) (e2 .if4 .left)
     ∙ next-row _ _ _ _ _ (e3 .before .same3 .ensures) (e3 .if5 .left)
     ∙ next-row _ _ _ _ _ (e4 .before .same4 .ensures) (e4 .if6 .left)
     ∙ this-row _ _ _ _ _ (c .before .before .same5 .ensures) (c .before .if7 .taken))
-    (heard-bare _ _ (c .read-poke .ensures))
+    (heard-bare _ _ _ (c .read-poke .ensures))
 
 slice-aggregate-same-6 : tie.Need-slice-aggregate-same-6
 slice-aggregate-same-6 c = search needs
@@ -169,7 +171,7 @@ returns-8 c =
     let e3 = e4 .before .before .before in
     let e2 = e3 .before .before .before in
     let e1 = e2 .before .before .before in
-    heard-by _ _
+    heard-by _ _ _
     (by-word _ (e1 .before .before .before .before .before .before .before .if1 .left) (e1 .before .before .before .before .before .if2 .left) _ (e1 .before .before .before .before .word-end .ensures .0)
     ∙ next-row _ _ _ _ _ (e1 .before .same .ensures) (e1 .if3 .left)
     ∙ next-row _ _ _ _ _ (e2 .before .same2 .ensures) (e2 .if4 .left)
@@ -177,13 +179,16 @@ returns-8 c =
     ∙ next-row _ _ _ _ _ (e4 .before .same4 .ensures) (e4 .if6 .left)
     ∙ next-row _ _ _ _ _ (e5 .before .same5 .ensures) (e5 .if7 .left)
     ∙ this-row _ _ _ _ _ (c .before .before .same6 .ensures) (c .before .if8 .taken))
-    (heard-bare _ _ (c .read-state .ensures))
+    (heard-bare _ _ _ (c .read-state .ensures))
 
-read-scheduling-requires : tie.Need-read-scheduling-requires
-read-scheduling-requires c κs = search needs
+slice-aggregate-same-7 : tie.Need-slice-aggregate-same-7
+slice-aggregate-same-7 c = search needs
 
-same-length-3 : tie.Need-same-length-3
-same-length-3 c = search needs
+same-requires-7 : tie.Need-same-requires-7
+same-requires-7 c κs = search needs
+
+read-save-requires : tie.Need-read-save-requires
+read-save-requires c κs = search needs
 
 returns-9 : tie.Need-returns-9
 unfolding calls
@@ -194,15 +199,79 @@ returns-9 c =
     let e3 = e4 .before .before .before in
     let e2 = e3 .before .before .before in
     let e1 = e2 .before .before .before in
-    heard-by _ _
+    heard-by _ _ _
     (by-word _ (e1 .before .before .before .before .before .before .before .if1 .left) (e1 .before .before .before .before .before .if2 .left) _ (e1 .before .before .before .before .word-end .ensures .0)
     ∙ next-row _ _ _ _ _ (e1 .before .same .ensures) (e1 .if3 .left)
     ∙ next-row _ _ _ _ _ (e2 .before .same2 .ensures) (e2 .if4 .left)
     ∙ next-row _ _ _ _ _ (e3 .before .same3 .ensures) (e3 .if5 .left)
     ∙ next-row _ _ _ _ _ (e4 .before .same4 .ensures) (e4 .if6 .left)
     ∙ next-row _ _ _ _ _ (e5 .before .same5 .ensures) (e5 .if7 .left)
-    ∙ next-row _ _ _ _ _ (e6 .before .same6 .ensures) (e6 .if8 .left))
-    (c .before .before .read-scheduling .ensures)
+    ∙ next-row _ _ _ _ _ (e6 .before .same6 .ensures) (e6 .if8 .left)
+    ∙ this-row _ _ _ _ _ (c .before .before .same7 .ensures) (c .before .if9 .taken))
+    (heard-bare _ _ _ (c .read-save .ensures))
+
+slice-aggregate-same-8 : tie.Need-slice-aggregate-same-8
+slice-aggregate-same-8 c = search needs
+
+same-requires-8 : tie.Need-same-requires-8
+same-requires-8 c κs = search needs
+
+read-load-requires : tie.Need-read-load-requires
+read-load-requires c κs = c .before .before .before .before .before .before .before .before .before .before .before .before .before .before .before .before .before .before .before .before .before .before .before .before .before .before .before .before .before .before .before .before .before .pre .1
+
+same-length-3 : tie.Need-same-length-3
+same-length-3 c = search needs
+
+returns-10 : tie.Need-returns-10
+unfolding calls
+returns-10 c =
+    let e7 = c .before .before .before .before .before .before .before in
+    let e6 = e7 .before .before .before in
+    let e5 = e6 .before .before .before in
+    let e4 = e5 .before .before .before in
+    let e3 = e4 .before .before .before in
+    let e2 = e3 .before .before .before in
+    let e1 = e2 .before .before .before in
+    heard-by _ _ _
+    (by-word _ (e1 .before .before .before .before .before .before .before .if1 .left) (e1 .before .before .before .before .before .if2 .left) _ (e1 .before .before .before .before .word-end .ensures .0)
+    ∙ next-row _ _ _ _ _ (e1 .before .same .ensures) (e1 .if3 .left)
+    ∙ next-row _ _ _ _ _ (e2 .before .same2 .ensures) (e2 .if4 .left)
+    ∙ next-row _ _ _ _ _ (e3 .before .same3 .ensures) (e3 .if5 .left)
+    ∙ next-row _ _ _ _ _ (e4 .before .same4 .ensures) (e4 .if6 .left)
+    ∙ next-row _ _ _ _ _ (e5 .before .same5 .ensures) (e5 .if7 .left)
+    ∙ next-row _ _ _ _ _ (e6 .before .same6 .ensures) (e6 .if8 .left)
+    ∙ next-row _ _ _ _ _ (e7 .before .same7 .ensures) (e7 .if9 .left)
+    ∙ this-row _ _ _ _ _ (c .before .before .before .before .before .same8 .ensures) (c .before .before .before .before .if10 .taken))
+    (c .before .before .read-load .ensures _)
+
+read-scheduling-requires : tie.Need-read-scheduling-requires
+read-scheduling-requires c κs = c .before .before .before .before .before .before .before .before .before .before .before .before .before .before .before .before .before .before .before .before .before .before .before .before .before .before .before .before .before .before .before .before .before .pre .0
+
+same-length-4 : tie.Need-same-length-4
+same-length-4 c = search needs
+
+returns-11 : tie.Need-returns-11
+unfolding calls
+returns-11 c =
+    let e8 = c .before .before .before .before in
+    let e7 = e8 .before .before .before in
+    let e6 = e7 .before .before .before in
+    let e5 = e6 .before .before .before in
+    let e4 = e5 .before .before .before in
+    let e3 = e4 .before .before .before in
+    let e2 = e3 .before .before .before in
+    let e1 = e2 .before .before .before in
+    heard-by _ _ _
+    (by-word _ (e1 .before .before .before .before .before .before .before .if1 .left) (e1 .before .before .before .before .before .if2 .left) _ (e1 .before .before .before .before .word-end .ensures .0)
+    ∙ next-row _ _ _ _ _ (e1 .before .same .ensures) (e1 .if3 .left)
+    ∙ next-row _ _ _ _ _ (e2 .before .same2 .ensures) (e2 .if4 .left)
+    ∙ next-row _ _ _ _ _ (e3 .before .same3 .ensures) (e3 .if5 .left)
+    ∙ next-row _ _ _ _ _ (e4 .before .same4 .ensures) (e4 .if6 .left)
+    ∙ next-row _ _ _ _ _ (e5 .before .same5 .ensures) (e5 .if7 .left)
+    ∙ next-row _ _ _ _ _ (e6 .before .same6 .ensures) (e6 .if8 .left)
+    ∙ next-row _ _ _ _ _ (e7 .before .same7 .ensures) (e7 .if9 .left)
+    ∙ next-row _ _ _ _ _ (e8 .before .same8 .ensures) (e8 .if10 .left))
+    (c .before .before .read-scheduling .ensures _)
 
 pub read-call-spec : {M : Type 1} → statement M
 read-call-spec =
@@ -242,6 +311,15 @@ read-call-spec =
     same-requires-6
     read-state-requires
     returns-8
-    read-scheduling-requires
+    slice-aggregate-same-7
+    same-requires-7
+    read-save-requires
+    returns-9
+    slice-aggregate-same-8
+    same-requires-8
+    read-load-requires
     same-length-3
-    returns-9)
+    returns-10
+    read-scheduling-requires
+    same-length-4
+    returns-11)

@@ -18,7 +18,7 @@ enum-told c = search needs
 
 returns : tie.Need-returns
 unfolding curveOf
-returns c = unheard _ (double-not _ _ _ (c .before .before .next-double .ensures) (c .enum-told .given .1))
+returns c = λ file. unheard _ file (double-not _ _ _ (c .before .before .next-double .ensures) (c .enum-told .given .1))
 
 next-double-requires-2 : tie.Need-next-double-requires-2
 next-double-requires-2 c κs = search needs
@@ -32,7 +32,7 @@ enum-told-2 c = search needs
 returns-2 : tie.Need-returns-2
 unfolding curveOf
 returns-2 c =
-    unheard _
+    λ file. unheard _ file
     (double-is _ _ _ (c .before .before .before .before .before .before .next-double .ensures) (c .before .before .before .before .start .given .1)
     ∙ double-not _ _ _ (c .before .before .next-double2 .ensures) (c .enum-told2 .given .1))
 
@@ -51,7 +51,7 @@ same-length c = search needs
 returns-3 : tie.Need-returns-3
 unfolding curveOf
 returns-3 c =
-    unheard _
+    λ file. unheard _ file
     (double-is _ _ _ (c .before .before .before .before .before .before .before .before .before .before .before .before .before .next-double .ensures) (c .before .before .before .before .before .before .before .before .before .before .before .start .given .1)
     ∙ double-is _ _ _ (c .before .before .before .before .before .before .before .before .before .next-double2 .ensures) (c .before .before .before .before .before .before .before .duration .given .1)
     ∙ counted-not _ _ _ 5000 _ (c .before .before .before .before .next-counted .ensures) (c .enum-told3 .given .1))
@@ -65,7 +65,7 @@ same-length-2 c = search needs
 returns-4 : tie.Need-returns-4
 unfolding curveOf
 returns-4 c =
-    heard-with (c .before .before .before .len .given .0 .0) _
+    λ file. heard-with _ file (c .before .before .before .len .given .0 .0)
     (double-is _ _ _ (c .before .before .before .before .before .before .before .before .before .before .before .before .before .before .before .before .next-double .ensures) (c .before .before .before .before .before .before .before .before .before .before .before .before .before .before .start .given .1)
     ∙ double-is _ _ _ (c .before .before .before .before .before .before .before .before .before .before .before .before .next-double2 .ensures) (c .before .before .before .before .before .before .before .before .before .before .duration .given .1)
     ∙ counted-is _ _ _ 5000 _ (c .before .before .before .before .before .before .before .next-counted .ensures) (c .before .before .before .len .given .1)
@@ -77,7 +77,7 @@ same-length-3 c = search needs
 returns-5 : tie.Need-returns-5
 unfolding curveOf
 returns-5 c =
-    unheard _
+    λ file. unheard _ file
     (double-is _ _ _ (c .before .before .before .before .before .before .before .before .before .before .before .before .before .before .before .before .next-double .ensures) (c .before .before .before .before .before .before .before .before .before .before .before .before .before .before .start .given .1)
     ∙ double-is _ _ _ (c .before .before .before .before .before .before .before .before .before .before .before .before .next-double2 .ensures) (c .before .before .before .before .before .before .before .before .before .before .duration .given .1)
     ∙ counted-is _ _ _ 5000 _ (c .before .before .before .before .before .before .before .next-counted .ensures) (c .before .before .before .len .given .1)

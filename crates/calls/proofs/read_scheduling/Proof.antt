@@ -27,9 +27,9 @@ read-set-requires c κs = search needs
 returns : tie.Need-returns
 unfolding scheduling
 returns c =
-    heard-by _ _
+    λ file. heard-by _ _ file
     (this-row _ _ _ _ _ (c .before .before .same .ensures) (c .before .if1 .taken))
-    (heard-bare _ _ (c .read-set .ensures))
+    (heard-bare _ _ file (c .read-set .ensures))
 
 slice-aggregate-same-2 : tie.Need-slice-aggregate-same-2
 slice-aggregate-same-2 c = search needs
@@ -44,10 +44,10 @@ returns-2 : tie.Need-returns-2
 unfolding scheduling
 returns-2 c =
     let e1 = c .before .before .before .before in
-    heard-by _ _
+    λ file. heard-by _ _ file
     (next-row _ _ _ _ _ (e1 .before .same .ensures) (e1 .if1 .left)
     ∙ this-row _ _ _ _ _ (c .before .before .same2 .ensures) (c .before .if2 .taken))
-    (heard-bare _ _ (c .read-timed .ensures))
+    (heard-bare _ _ file (c .read-timed .ensures))
 
 slice-aggregate-same-3 : tie.Need-slice-aggregate-same-3
 slice-aggregate-same-3 c = search needs
@@ -63,11 +63,11 @@ unfolding scheduling
 returns-3 c =
     let e2 = c .before .before .before .before in
     let e1 = e2 .before .before .before in
-    heard-by _ _
+    λ file. heard-by _ _ file
     (next-row _ _ _ _ _ (e1 .before .same .ensures) (e1 .if1 .left)
     ∙ next-row _ _ _ _ _ (e2 .before .same2 .ensures) (e2 .if2 .left)
     ∙ this-row _ _ _ _ _ (c .before .before .same3 .ensures) (c .before .if3 .taken))
-    (heard-bare _ _ (c .read-timed2 .ensures))
+    (heard-bare _ _ file (c .read-timed2 .ensures))
 
 slice-aggregate-same-4 : tie.Need-slice-aggregate-same-4
 slice-aggregate-same-4 c = search needs
@@ -84,12 +84,12 @@ returns-4 c =
     let e3 = c .before .before .before .before in
     let e2 = e3 .before .before .before in
     let e1 = e2 .before .before .before in
-    heard-by _ _
+    λ file. heard-by _ _ file
     (next-row _ _ _ _ _ (e1 .before .same .ensures) (e1 .if1 .left)
     ∙ next-row _ _ _ _ _ (e2 .before .same2 .ensures) (e2 .if2 .left)
     ∙ next-row _ _ _ _ _ (e3 .before .same3 .ensures) (e3 .if3 .left)
     ∙ this-row _ _ _ _ _ (c .before .before .same4 .ensures) (c .before .if4 .taken))
-    (heard-bare _ _ (c .read-timed3 .ensures))
+    (heard-bare _ _ file (c .read-timed3 .ensures))
 
 slice-aggregate-same-5 : tie.Need-slice-aggregate-same-5
 slice-aggregate-same-5 c = search needs
@@ -107,13 +107,13 @@ returns-5 c =
     let e3 = e4 .before .before .before in
     let e2 = e3 .before .before .before in
     let e1 = e2 .before .before .before in
-    heard-by _ _
+    λ file. heard-by _ _ file
     (next-row _ _ _ _ _ (e1 .before .same .ensures) (e1 .if1 .left)
     ∙ next-row _ _ _ _ _ (e2 .before .same2 .ensures) (e2 .if2 .left)
     ∙ next-row _ _ _ _ _ (e3 .before .same3 .ensures) (e3 .if3 .left)
     ∙ next-row _ _ _ _ _ (e4 .before .same4 .ensures) (e4 .if4 .left)
     ∙ this-row _ _ _ _ _ (c .before .before .same5 .ensures) (c .before .if5 .taken))
-    (heard-bare _ _ (c .read-target .ensures))
+    (heard-bare _ _ file (c .read-target .ensures))
 
 slice-aggregate-same-6 : tie.Need-slice-aggregate-same-6
 slice-aggregate-same-6 c = search needs
@@ -135,14 +135,14 @@ returns-6 c =
     let e3 = e4 .before .before .before in
     let e2 = e3 .before .before .before in
     let e1 = e2 .before .before .before in
-    heard-by _ _
+    λ file. heard-by _ _ file
     (next-row _ _ _ _ _ (e1 .before .same .ensures) (e1 .if1 .left)
     ∙ next-row _ _ _ _ _ (e2 .before .same2 .ensures) (e2 .if2 .left)
     ∙ next-row _ _ _ _ _ (e3 .before .same3 .ensures) (e3 .if3 .left)
     ∙ next-row _ _ _ _ _ (e4 .before .same4 .ensures) (e4 .if4 .left)
     ∙ next-row _ _ _ _ _ (e5 .before .same5 .ensures) (e5 .if5 .left)
     ∙ this-row _ _ _ _ _ (c .before .before .before .before .before .same6 .ensures) (c .before .before .before .before .if6 .taken))
-    (c .before .before .read-curve .ensures)
+    (c .before .before .read-curve .ensures file)
 
 slice-aggregate-same-7 : tie.Need-slice-aggregate-same-7
 slice-aggregate-same-7 c = search needs
@@ -162,7 +162,7 @@ returns-7 c =
     let e3 = e4 .before .before .before in
     let e2 = e3 .before .before .before in
     let e1 = e2 .before .before .before in
-    heard-by _ _
+    λ file. heard-by _ _ file
     (next-row _ _ _ _ _ (e1 .before .same .ensures) (e1 .if1 .left)
     ∙ next-row _ _ _ _ _ (e2 .before .same2 .ensures) (e2 .if2 .left)
     ∙ next-row _ _ _ _ _ (e3 .before .same3 .ensures) (e3 .if3 .left)
@@ -170,7 +170,7 @@ returns-7 c =
     ∙ next-row _ _ _ _ _ (e5 .before .same5 .ensures) (e5 .if5 .left)
     ∙ next-row _ _ _ _ _ (e6 .before .same6 .ensures) (e6 .if6 .left)
     ∙ this-row _ _ _ _ _ (c .before .before .same7 .ensures) (c .before .if7 .taken))
-    (heard-bare _ _ (c .read-cancelling .ensures))
+    (heard-bare _ _ file (c .read-cancelling .ensures))
 
 slice-aggregate-same-8 : tie.Need-slice-aggregate-same-8
 slice-aggregate-same-8 c = search needs
@@ -191,7 +191,7 @@ returns-8 c =
     let e3 = e4 .before .before .before in
     let e2 = e3 .before .before .before in
     let e1 = e2 .before .before .before in
-    heard-by _ _
+    λ file. heard-by _ _ file
     (next-row _ _ _ _ _ (e1 .before .same .ensures) (e1 .if1 .left)
     ∙ next-row _ _ _ _ _ (e2 .before .same2 .ensures) (e2 .if2 .left)
     ∙ next-row _ _ _ _ _ (e3 .before .same3 .ensures) (e3 .if3 .left)
@@ -200,7 +200,7 @@ returns-8 c =
     ∙ next-row _ _ _ _ _ (e6 .before .same6 .ensures) (e6 .if6 .left)
     ∙ next-row _ _ _ _ _ (e7 .before .same7 .ensures) (e7 .if7 .left)
     ∙ this-row _ _ _ _ _ (c .before .before .same8 .ensures) (c .before .if8 .taken))
-    (heard-bare _ _ (c .read-cancelling2 .ensures))
+    (heard-bare _ _ file (c .read-cancelling2 .ensures))
 
 returns-9 : tie.Need-returns-9
 unfolding scheduling
@@ -213,7 +213,7 @@ returns-9 c =
     let e3 = e4 .before .before .before in
     let e2 = e3 .before .before .before in
     let e1 = e2 .before .before .before in
-    unheard _
+    λ file. unheard _ file
     (next-row _ _ _ _ _ (e1 .before .same .ensures) (e1 .if1 .left)
     ∙ next-row _ _ _ _ _ (e2 .before .same2 .ensures) (e2 .if2 .left)
     ∙ next-row _ _ _ _ _ (e3 .before .same3 .ensures) (e3 .if3 .left)

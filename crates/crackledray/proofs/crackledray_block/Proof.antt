@@ -1,6 +1,7 @@
 -- `crackledray_block` meets its contract. Assumes nothing.
 use mathlib.Core.Path.{refl}
-use Rattle.crackledray.proofs.Closing.{opened-long, plays-bad, plays}
+use Rattle.card_coding.proofs.States.{opened-long}
+use Rattle.crackledray.proofs.Closing.{plays-bad, plays}
 use borrow.Author.Needs.{needs}
 use Rattle.crackledray.proofs.crackledray_block.Statement.{statement}
 use Rattle.crackledray.proofs.crackledray_block.Tie as tie

@@ -17,11 +17,12 @@ read-call-requires c κs = search needs
 
 answer-requires : tie.Need-answer-requires
 answer-requires c κs =
-    let a = c .before .before .before .before .before .before .before .before .before .before .before .pre in
-    (a .0, heard-in-range _ _ _ (c .before .before .before .before .before .read-call .ensures), omega (arith, a .1, c .before .before .before .before .before .read-call .kept .1 .0), a .2, a .3)
+    let a = c .before .before .before .before .before .before .before .before .before .before .before .before .before .before .before .before .pre in
+    let k = c .before .before .before .before .before .before .before .before .read-call in
+    (a .0, heard-in-range _ _ _ _ (k .ensures), omega (arith, a .1, k .kept .1 .0), omega (arith, a .2, k .kept .1 .1 .0), a .3, a .4)
 
 put-byte-requires : tie.Need-put-byte-requires
-put-byte-requires c κs = search needs
+put-byte-requires c κs = omega (arith, c .before .before .before .before .before .before .before .before .before .before .before .before .before .before .before .before .before .before .before .before .before .before .before .before .before .pre .4, c .before .before .before .before .before .before .before .before .answer .ensures .room, c .before .before .before .before .before .before .before .before .answer .kept .1 .1 .1 .1 .1 .0)
 
 same-length : tie.Need-same-length
 same-length c = search needs
@@ -32,9 +33,12 @@ same-length-2 c = search needs
 same-length-3 : tie.Need-same-length-3
 same-length-3 c = search needs
 
+same-length-4 : tie.Need-same-length-4
+same-length-4 c = search needs
+
 returns : tie.Need-returns
 unfolding lineTurn
-returns c = newline (heard-turn _ _ _ (c .before .before .before .before .before .before .before .before .before .before .before .before .before .before .before .read-call .ensures)) (c .before .before .before .before .before .before .before .before .before .answer .ensures) (c .before .before .put-byte .ensures) (c .before .before .before .before .before .before .before .before .before .before .before .before .before .before .before .before .before .before .before .before .before .pre .3)
+returns c = newline (heard-turn _ _ _ _ (c .before .before .before .before .before .before .before .before .before .before .before .before .before .before .before .before .before .before .before .before .read-call .ensures)) (c .before .before .before .before .before .before .before .before .before .before .before .answer .ensures) (c .before .before .put-byte .ensures) (c .before .before .before .before .before .before .before .before .before .before .before .before .before .before .before .before .before .before .before .before .before .before .before .before .before .before .before .before .pre .4)
 
 pub answer-line-spec : {M : Type 1} → statement M
 answer-line-spec =
@@ -46,4 +50,5 @@ answer-line-spec =
     same-length
     same-length-2
     same-length-3
+    same-length-4
     returns)

@@ -72,7 +72,7 @@ returns : tie.Need-returns
 unfolding answerOf
 returns c =
     let a = c .before .before .before .before .before .before .before .before .before .before .args in
-    by-call (a .numbers .now) (c .before .before .before .before .before .call .given .1) (c .before .before .set .ensures (a .store .now))
+    λ file. by-call (a .numbers .now) file (c .before .before .before .before .before .call .given .1) (c .before .before .set .ensures (a .store .now))
 
 same-length-2 : tie.Need-same-length-2
 same-length-2 c = search needs
@@ -81,7 +81,7 @@ returns-2 : tie.Need-returns-2
 unfolding answerOf
 returns-2 c =
     let a = c .before .before .before .before .before .before .before .before .before .before .args in
-    by-call (a .numbers .now) (c .before .before .before .before .before .call2 .given .1) (c .before .before .step .ensures (a .store .now))
+    λ file. by-call (a .numbers .now) file (c .before .before .before .before .before .call2 .given .1) (c .before .before .step .ensures (a .store .now))
 
 same-length-3 : tie.Need-same-length-3
 same-length-3 c = search needs
@@ -90,7 +90,7 @@ returns-3 : tie.Need-returns-3
 unfolding answerOf
 returns-3 c =
     let a = c .before .before .before .before .before .before .before .before .before .before .args in
-    by-call (a .numbers .now) (c .before .before .before .before .before .call3 .given .1) (c .before .before .linear .ensures (a .store .now))
+    λ file. by-call (a .numbers .now) file (c .before .before .before .before .before .call3 .given .1) (c .before .before .linear .ensures (a .store .now))
 
 same-length-4 : tie.Need-same-length-4
 same-length-4 c = search needs
@@ -99,7 +99,7 @@ returns-4 : tie.Need-returns-4
 unfolding answerOf
 returns-4 c =
     let a = c .before .before .before .before .before .before .before .before .before .before .args in
-    by-call (a .numbers .now) (c .before .before .before .before .before .call4 .given .1) (c .before .before .exponential .ensures (a .store .now))
+    λ file. by-call (a .numbers .now) file (c .before .before .before .before .before .call4 .given .1) (c .before .before .exponential .ensures (a .store .now))
 
 same-length-5 : tie.Need-same-length-5
 same-length-5 c = search needs
@@ -108,7 +108,7 @@ returns-5 : tie.Need-returns-5
 unfolding answerOf
 returns-5 c =
     let a = c .before .before .before .before .before .before .before .before .before .before .args in
-    by-call (a .numbers .now) (c .before .before .before .before .before .call5 .given .1) (c .before .before .target .ensures (a .store .now))
+    λ file. by-call (a .numbers .now) file (c .before .before .before .before .before .call5 .given .1) (c .before .before .target .ensures (a .store .now))
 
 same-length-6 : tie.Need-same-length-6
 same-length-6 c = search needs
@@ -118,7 +118,7 @@ same-length-7 c = search needs
 
 returns-6 : tie.Need-returns-6
 unfolding answerOf
-returns-6 c = by-call (c .before .before .before .before .before .before .before .before .before .before .before .before .before .before .args .numbers .now) (c .before .before .before .before .before .before .before .before .before .call6 .given .1) (c .before .before .before .before .curve .ensures)
+returns-6 c = λ file. by-call (c .before .before .before .before .before .before .before .before .before .before .before .before .before .before .args .numbers .now) file (c .before .before .before .before .before .before .before .before .before .call6 .given .1) (c .before .before .before .before .curve .ensures)
 
 same-length-8 : tie.Need-same-length-8
 same-length-8 c = search needs
@@ -128,7 +128,7 @@ same-length-9 c = search needs
 
 returns-7 : tie.Need-returns-7
 unfolding answerOf
-returns-7 c = by-call (c .before .before .before .before .before .before .before .before .before .before .before .before .before .args .numbers .now) (c .before .before .before .before .before .before .before .before .call7 .given .1) (c .before .before .before .before .cancel .ensures)
+returns-7 c = λ file. by-call (c .before .before .before .before .before .before .before .before .before .before .before .before .before .args .numbers .now) file (c .before .before .before .before .before .before .before .before .call7 .given .1) (c .before .before .before .before .cancel .ensures)
 
 same-length-10 : tie.Need-same-length-10
 same-length-10 c = search needs
@@ -138,7 +138,7 @@ same-length-11 c = search needs
 
 returns-8 : tie.Need-returns-8
 unfolding answerOf
-returns-8 c = by-call (c .before .before .before .before .before .before .before .before .before .before .before .before .before .args .numbers .now) (c .before .before .before .before .before .before .before .before .call8 .given .1) (c .before .before .before .before .hold .ensures)
+returns-8 c = λ file. by-call (c .before .before .before .before .before .before .before .before .before .before .before .before .before .args .numbers .now) file (c .before .before .before .before .before .before .before .before .call8 .given .1) (c .before .before .before .before .hold .ensures)
 
 returns-9 : tie.Need-returns-9
 returns-9 c =

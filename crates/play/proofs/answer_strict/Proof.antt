@@ -15,34 +15,43 @@ use Rattle.play.proofs.clash_in.Reads as clash-in-reads
 use Rattle.play.proofs.put_told.Reads as put-told-reads
 use Rattle.text.proofs.write.put_byte.Reads as put-byte-reads
 
+slice-aggregate-clash-in : tie.Need-slice-aggregate-clash-in
+slice-aggregate-clash-in c = search needs
+
 clash-in-requires : tie.Need-clash-in-requires
 clash-in-requires c κs = search needs
 
+slice-aggregate-answer-line : tie.Need-slice-aggregate-answer-line
+slice-aggregate-answer-line c = search needs
+
 answer-line-requires : tie.Need-answer-line-requires
-answer-line-requires c κs = search needs
+answer-line-requires c κs =
+    let a = c .before .before .before .before .before .before .before .before .before .before .before .before .before .before .before .pre in
+    let k = c .before .before .before .before .before .before .before .clash-in .kept .1 .1 in
+    (a .0, omega (arith, a .1, k .0), omega (arith, k .1 .0), a .2, omega (arith, a .3))
 
 sub-end : tie.Need-sub-end
 sub-end c =
-    omega (arith, long _ (c .before .before .before .before .before .before .before .before .answer-line .ensures))
+    omega (arith, long _ (c .before .before .before .before .before .before .before .before .before .answer-line .ensures))
 
 slice-reshare-prefix-put-told : tie.Need-slice-reshare-prefix-put-told
 slice-reshare-prefix-put-told c =
-    within _ _ _ (c .before .before .before .before .before .before .before .before .before .answer-line .ensures .room) (c .before .before .before .before .before .before .before .before .before .before .before .before .before .before .before .before .before .before .before .before .before .before .pre .3) (c .before .before .before .before .before .before .before .before .before .answer-line .kept .1 .1 .1 .1 .0)
+    within _ _ _ (c .before .before .before .before .before .before .before .before .before .before .answer-line .ensures .room) (c .before .before .before .before .before .before .before .before .before .before .before .before .before .before .before .before .before .before .before .before .before .before .before .before .before .before .pre .3) (c .before .before .before .before .before .before .before .before .before .before .answer-line .kept .1 .1 .1 .1 .1 .0)
 
 slice-aggregate-put-told : tie.Need-slice-aggregate-put-told
 slice-aggregate-put-told c =
-    sym (length-take-le _ _ (within _ _ _ (c .before .before .before .before .before .before .before .before .before .before .answer-line .ensures .room) (c .before .before .before .before .before .before .before .before .before .before .before .before .before .before .before .before .before .before .before .before .before .before .before .pre .3) (c .before .before .before .before .before .before .before .before .before .before .answer-line .kept .1 .1 .1 .1 .0)))
+    sym (length-take-le _ _ (within _ _ _ (c .before .before .before .before .before .before .before .before .before .before .before .answer-line .ensures .room) (c .before .before .before .before .before .before .before .before .before .before .before .before .before .before .before .before .before .before .before .before .before .before .before .before .before .before .before .pre .3) (c .before .before .before .before .before .before .before .before .before .before .before .answer-line .kept .1 .1 .1 .1 .1 .0)))
 
 put-told-requires : tie.Need-put-told-requires
 put-told-requires c κs =
-    room-for _ _ _ _ (length-take-le _ _ (within _ _ _ (c .before .before .before .before .before .before .before .before .before .before .answer-line .ensures .room) (c .before .before .before .before .before .before .before .before .before .before .before .before .before .before .before .before .before .before .before .before .before .before .before .pre .3) (c .before .before .before .before .before .before .before .before .before .before .answer-line .kept .1 .1 .1 .1 .0))) (c .before .before .before .before .before .before .before .before .before .before .answer-line .ensures .room) (c .before .before .before .before .before .before .before .before .before .before .before .before .before .before .before .before .before .before .before .before .before .before .before .pre .4)
+    room-for _ _ _ _ (length-take-le _ _ (within _ _ _ (c .before .before .before .before .before .before .before .before .before .before .before .answer-line .ensures .room) (c .before .before .before .before .before .before .before .before .before .before .before .before .before .before .before .before .before .before .before .before .before .before .before .before .before .before .before .pre .3) (c .before .before .before .before .before .before .before .before .before .before .before .answer-line .kept .1 .1 .1 .1 .1 .0))) (c .before .before .before .before .before .before .before .before .before .before .before .answer-line .ensures .room) (c .before .before .before .before .before .before .before .before .before .before .before .before .before .before .before .before .before .before .before .before .before .before .before .before .before .before .before .pre .4)
 
 put-byte-requires : tie.Need-put-byte-requires
 put-byte-requires c κs =
-    room-left _ _ _ _ (nearby _ _ _ _ (length-take-le (c .before .before .before .before .before .before .before .before .before .before .before .before .before .before .answer-line .result .next - 1) (c .before .before .before .before .before .before .before .before .before .before .before .before .before .before .answer-line .last .1 .1 .1 .1 .0) (within _ _ _ (c .before .before .before .before .before .before .before .before .before .before .before .before .before .before .answer-line .ensures .room) (c .before .before .before .before .before .before .before .before .before .before .before .before .before .before .before .before .before .before .before .before .before .before .before .before .before .before .before .pre .3) (c .before .before .before .before .before .before .before .before .before .before .before .before .before .before .answer-line .kept .1 .1 .1 .1 .0))) (c .before .before .before .before .before .before .before .before .before .before .before .before .before .before .answer-line .ensures .room) (c .before .before .before .put-told .ensures .1)) (c .before .before .before .before .before .before .before .before .before .before .before .before .before .before .before .before .before .before .before .before .before .before .before .before .before .before .before .pre .4) (search needs)
+    room-left _ _ _ _ (nearby _ _ _ _ (length-take-le (c .before .before .before .before .before .before .before .before .before .before .before .before .before .before .before .answer-line .result .next - 1) (c .before .before .before .before .before .before .before .before .before .before .before .before .before .before .before .answer-line .last .1 .1 .1 .1 .1 .0) (within _ _ _ (c .before .before .before .before .before .before .before .before .before .before .before .before .before .before .before .answer-line .ensures .room) (c .before .before .before .before .before .before .before .before .before .before .before .before .before .before .before .before .before .before .before .before .before .before .before .before .before .before .before .before .before .before .before .pre .3) (c .before .before .before .before .before .before .before .before .before .before .before .before .before .before .before .answer-line .kept .1 .1 .1 .1 .1 .0))) (c .before .before .before .before .before .before .before .before .before .before .before .before .before .before .before .answer-line .ensures .room) (c .before .before .before .put-told .ensures .1)) (c .before .before .before .before .before .before .before .before .before .before .before .before .before .before .before .before .before .before .before .before .before .before .before .before .before .before .before .before .before .before .before .pre .4) (search needs)
 
 same-length : tie.Need-same-length
-same-length c = search (needs, c .before .before .before .before .before .before .before .before .before .before .before .before .before .before .before .before .before .answer-line .kept .1 .1 .0, c .before .before .before .before .before .before .before .before .before .before .before .before .before .before .before .before .before .before .before .before .before .before .before .clash-in .kept .1 .1 .0)
+same-length c = search (needs, c .before .before .before .before .before .before .before .before .before .before .before .before .before .before .before .before .before .before .answer-line .kept .1 .1 .0, c .before .before .before .before .before .before .before .before .before .before .before .before .before .before .before .before .before .before .before .before .before .before .before .before .before .before .clash-in .kept .1 .1 .0)
 
 same-length-2 : tie.Need-same-length-2
 same-length-2 c = search needs
@@ -55,16 +64,18 @@ same-length-4 c = search needs
 
 returns : tie.Need-returns
 returns c =
-    let a = c .before .before .before .before .before .before .before .before .before .before .before .before .before .before .before .before .before .answer-line .ensures in
+    let a = c .before .before .before .before .before .before .before .before .before .before .before .before .before .before .before .before .before .before .answer-line .ensures in
     let t = c .before .before .before .before .before .before .put-told .ensures in
-    let near = nearby _ _ _ _ (length-take-le (c .before .before .before .before .before .before .before .before .before .before .before .before .before .before .before .before .before .answer-line .result .next - 1) (c .before .before .before .before .before .before .before .before .before .before .before .before .before .before .before .before .before .answer-line .last .1 .1 .1 .1 .0) (within _ _ _ (c .before .before .before .before .before .before .before .before .before .before .before .before .before .before .before .before .before .answer-line .ensures .room) (c .before .before .before .before .before .before .before .before .before .before .before .before .before .before .before .before .before .before .before .before .before .before .before .before .before .before .before .before .before .before .pre .3) (c .before .before .before .before .before .before .before .before .before .before .before .before .before .before .before .before .before .answer-line .kept .1 .1 .1 .1 .0))) (a .room) (t .1) in
-    for-a-person _ a _ (c .before .before .before .before .before .before .before .before .before .before .before .before .before .before .before .before .before .before .before .before .before .before .before .clash-in .ensures) (t .0) (le-of-lt (room-left _ _ _ _ near (c .before .before .before .before .before .before .before .before .before .before .before .before .before .before .before .before .before .before .before .before .before .before .before .before .before .before .before .before .before .before .pre .4) refl)) (c .before .before .put-byte .ensures) (omega (arith, near, c .before .before .put-byte .ensures .place))
+    let near = nearby _ _ _ _ (length-take-le (c .before .before .before .before .before .before .before .before .before .before .before .before .before .before .before .before .before .before .answer-line .result .next - 1) (c .before .before .before .before .before .before .before .before .before .before .before .before .before .before .before .before .before .before .answer-line .last .1 .1 .1 .1 .1 .0) (within _ _ _ (c .before .before .before .before .before .before .before .before .before .before .before .before .before .before .before .before .before .before .answer-line .ensures .room) (c .before .before .before .before .before .before .before .before .before .before .before .before .before .before .before .before .before .before .before .before .before .before .before .before .before .before .before .before .before .before .before .before .before .before .pre .3) (c .before .before .before .before .before .before .before .before .before .before .before .before .before .before .before .before .before .before .answer-line .kept .1 .1 .1 .1 .1 .0))) (a .room) (t .1) in
+    for-a-person _ a _ (c .before .before .before .before .before .before .before .before .before .before .before .before .before .before .before .before .before .before .before .before .before .before .before .before .before .before .clash-in .ensures) (t .0) (le-of-lt (room-left _ _ _ _ near (c .before .before .before .before .before .before .before .before .before .before .before .before .before .before .before .before .before .before .before .before .before .before .before .before .before .before .before .before .before .before .before .before .before .before .pre .4) refl)) (c .before .before .put-byte .ensures) (omega (arith, near, c .before .before .put-byte .ensures .place))
 
 pub answer-strict-spec : {M : Type 1} → statement M
 answer-strict-spec =
     tie.close
     (tie.spec
+    slice-aggregate-clash-in
     clash-in-requires
+    slice-aggregate-answer-line
     answer-line-requires
     sub-end
     slice-reshare-prefix-put-told

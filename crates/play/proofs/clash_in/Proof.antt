@@ -16,19 +16,22 @@ timeline-requires c κs = search needs
 
 clash-of-requires : tie.Need-clash-of-requires
 clash-of-requires c κs =
-    let h = c .before .before .before .before .before .before .before .before .pre .0 .param .neat in
+    let h = c .before .before .before .before .before .before .before .before .before .before .before .before .pre .0 .param .neat in
     subst Neat (h .clean ∙ sym (c .timeline .ensures)) h
 
 same-length : tie.Need-same-length
 same-length c = search needs
 
+same-length-2 : tie.Need-same-length-2
+same-length-2 c = search needs
+
 returns : tie.Need-returns
 returns c =
-    let h = c .before .before .before .before .before .before .before .before .before .pre .0 .param .neat in
-    let call = c .before .before .before .before .before .read-call in
+    let h = c .before .before .before .before .before .before .before .before .before .before .before .before .before .pre .0 .param .neat in
+    let call = c .before .before .before .before .before .before .before .read-call in
     c .clash-of .ensures ∙ ap (λ (q : AudioParamEventTimeline). clashOf (waiting q) (call .result)) (c .before .timeline .ensures ∙ sym (h .clean))
-    ∙ heard-clash _ _ _ _ (call .ensures)
+    ∙ heard-clash _ _ _ _ _ (call .ensures)
 
 pub clash-in-spec : {M : Type 1} → statement M
 clash-in-spec =
-    tie.close (tie.spec read-call-requires timeline-requires clash-of-requires same-length returns)
+    tie.close (tie.spec read-call-requires timeline-requires clash-of-requires same-length same-length-2 returns)

@@ -18,16 +18,18 @@ last-line-requires c κs = search needs
 
 answer-next-requires : tie.Need-answer-next-requires
 answer-next-requires c κs =
-    let g = c .before .before .before .before .before .before .before .before .before .pre in
-    (g .desk, subst (LineIn _) (sym (c .before .before .before .last-line .ensures)) (last-in _ _ (g .lines)), g .lent, g .lent .out-long)
+    let g = c .before .before .before .before .before .before .before .before .before .before .before .pre in
+    (g .desk, subst (LineIn _) (sym (c .before .before .before .before .last-line .ensures)) (last-in _ _ (g .lines)), g .lent, g .lent .out-long)
 
 slice-reshare-prefix-write-all : tie.Need-slice-reshare-prefix-write-all
-slice-reshare-prefix-write-all c = search needs
+slice-reshare-prefix-write-all c =
+    let r = c .before .before .before .before .before .before .before .before .answer-next in
+    omega (arith, r .ensures .room, r .kept .1 .1 .1 .1 .1 .1 .0, c .before .before .before .before .before .before .before .before .before .before .before .before .before .before .before .before .before .before .before .before .pre .lent .out-long)
 
 slice-aggregate-write-all : tie.Need-slice-aggregate-write-all
 slice-aggregate-write-all c =
-    let r = c .before .before .before .before .before .before .before .answer-next in
-    sym (length-take-le (r .result .next) (r .last .1 .1 .1 .1 .1 .0) (omega (arith, r .ensures .room, r .kept .1 .1 .1 .1 .1 .0, c .before .before .before .before .before .before .before .before .before .before .before .before .before .before .before .before .before .pre .lent .out-long)))
+    let r = c .before .before .before .before .before .before .before .before .before .answer-next in
+    sym (length-take-le (r .result .next) (r .last .1 .1 .1 .1 .1 .1 .0) (omega (arith, r .ensures .room, r .kept .1 .1 .1 .1 .1 .1 .0, c .before .before .before .before .before .before .before .before .before .before .before .before .before .before .before .before .before .before .before .before .before .pre .lent .out-long)))
 
 write-all-requires : tie.Need-write-all-requires
 write-all-requires c κs = search needs
@@ -40,6 +42,9 @@ same-length-2 c = search needs
 
 same-length-3 : tie.Need-same-length-3
 same-length-3 c = search needs
+
+same-length-4 : tie.Need-same-length-4
+same-length-4 c = search needs
 
 returns : tie.Need-returns
 returns c = search needs
@@ -56,4 +61,5 @@ finish-spec =
     same-length
     same-length-2
     same-length-3
+    same-length-4
     returns)

@@ -21,7 +21,7 @@ slice-reshare-prefix-write-all : tie.Need-slice-reshare-prefix-write-all
 slice-reshare-prefix-write-all c = search needs
 
 slice-aggregate-write-all : tie.Need-slice-aggregate-write-all
-slice-aggregate-write-all c = let r = c .before .before .before .before .before .before .before .before .before .answer-lines in sym (length-take-le (r .result .at) (r .last .1 .1 .1 .1 .0) (r .ensures .0 .at))
+slice-aggregate-write-all c = let r = c .before .before .before .before .before .before .before .before .before .before .before .answer-lines in sym (length-take-le (r .result .at) (r .last .1 .1 .1 .1 .1 .0) (r .ensures .0 .at))
 
 write-all-requires : tie.Need-write-all-requires
 write-all-requires c κs = search needs
@@ -38,6 +38,9 @@ same-length-3 c = search needs
 same-length-4 : tie.Need-same-length-4
 same-length-4 c = search needs
 
+same-length-5 : tie.Need-same-length-5
+same-length-5 c = search needs
+
 returns : tie.Need-returns
 returns c = search needs
 
@@ -45,13 +48,10 @@ make-room-requires : tie.Need-make-room-requires
 make-room-requires c κs = search needs
 
 read-more-requires : tie.Need-read-more-requires
-read-more-requires c κs = left-within _ _ (c .before .before .before .make-room .ensures) (c .before .before .before .before .before .before .before .before .before .before .before .before .before .answer-lines .ensures .0 .lines) .inside
+read-more-requires c κs = left-within _ _ (c .before .before .before .make-room .ensures) (c .before .before .before .before .before .before .before .before .before .before .before .before .before .before .before .answer-lines .ensures .0 .lines) .inside
 
-add-t30 : tie.Need-add-t30
-add-t30 c = record { fits = omega (arith, c .before .before .read-more .ensures, c .before .before .before .before .before .before .make-room .kept .0, c .before .before .before .before .before .before .before .before .before .before .before .before .before .before .before .before .before .before .before .before .before .before .before .before .before .good .1 .0 .0) }
-
-same-length-5 : tie.Need-same-length-5
-same-length-5 c = search needs
+add-t33 : tie.Need-add-t33
+add-t33 c = record { fits = omega (arith, c .before .before .read-more .ensures, c .before .before .before .before .before .before .make-room .kept .0, c .before .before .before .before .before .before .before .before .before .before .before .before .before .before .before .before .before .before .before .before .before .before .before .before .before .before .before .before .before .good .1 .0 .0) }
 
 same-length-6 : tie.Need-same-length-6
 same-length-6 c = search needs
@@ -62,9 +62,15 @@ same-length-7 c = search needs
 same-length-8 : tie.Need-same-length-8
 same-length-8 c = search needs
 
+same-length-9 : tie.Need-same-length-9
+same-length-9 c = search needs
+
+same-length-10 : tie.Need-same-length-10
+same-length-10 c = search needs
+
 returns-2 : tie.Need-returns-2
 returns-2 c =
-    let r = c .before .before .before .before .before .before .before .before .before .before .before .before .before .before .before .before .answer-lines .ensures .0 in
+    let r = c .before .before .before .before .before .before .before .before .before .before .before .before .before .before .before .before .before .before .answer-lines .ensures .0 in
     let w = left-within _ _ (c .before .before .before .before .before .before .make-room .ensures) (r .lines) in
     record {
       desk = r .desk;
@@ -85,12 +91,14 @@ turn-spec =
     same-length-2
     same-length-3
     same-length-4
+    same-length-5
     returns
     make-room-requires
     read-more-requires
-    add-t30
-    same-length-5
+    add-t33
     same-length-6
     same-length-7
     same-length-8
+    same-length-9
+    same-length-10
     returns-2)

@@ -1,0 +1,12 @@
+pub mod Fields
+pub mod Parts
+pub mod Written
+pub mod Arrives
+pub mod Kept
+pub mod Accepts
+pub mod Turns
+pub mod Back
+pub mod Same
+pub mod Bound
+pub mod Reached
+pub mod Table

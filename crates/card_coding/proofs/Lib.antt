@@ -1,0 +1,5 @@
+pub mod States
+pub mod Kept
+pub mod Calls
+pub mod Ended
+pub mod Chain

@@ -1,0 +1,5 @@
+pub mod Parts
+pub mod Turns
+pub mod Judging
+pub mod Formats
+pub mod Saving
