@@ -1,28 +1,28 @@
 -- What the writer writes the reader accepts: of a queue before the first block each event is in turn, and its call is answered behind those before it. Assumes nothing.
-use mathlib.Core.Path.{_≡_, refl, sym, ap, _∙_}
-use mathlib.Core.Bool.{Bool, true, false, not, _&&_, _||_}
+use mathlib.Core.Path.{_≡_, refl, sym, _∙_}
+use mathlib.Core.Bool.{Bool, true, false, not}
 use mathlib.Core.List.{List, [], _∷_, _++_}
-use Prim.Native.Nat.{ℕ, suc, _+_, _*_, _≤_, _<_}
+use Prim.Native.Nat.{suc, _+_, _*_, _≤_, _<_}
 use native.Mathlib.Nat.{zero-mul}
 use native.Mathlib.Omega.{arith}
-use lib.Dec.{leb, ltb, eqb, T}
+use lib.Dec.{T}
 use lib.ListN.{length, length-append}
 use lib.Ieee as Ieee
 use lib.Ieee.{Float, nan, inf, fin, binary64, fits}
-use borrow.Author.Tests.{not-true, not-false, lt-leb, le-ltb, eq-eqb, leb-true}
+use borrow.Author.Tests.{not-true, lt-leb, le-ltb, eq-eqb, leb-true}
 use Rattle.rules.specs.declared.MaybeTime.{MaybeTime}
 use Rattle.rules.specs.declared.MaybeTime.the-variants as MaybeTime
 use Rattle.rules.specs.declared.Event.{Event}
 use Rattle.rules.specs.declared.Event.the-variants as Event
 use Rattle.rules.specs.declared.Verdict.the-variants as Verdict
 use Rattle.rules.specs.Numbers.{mostEvents, storeLength, plusZero, isFinite, isZero, isPositive, isNegative, takenTime}
-use Rattle.rules.specs.Queue.{Waiting, holdOr, filedUnder, curveEnd, isInside, covers, any, anyCovers, isFiledInside, anyInside, eventsOf, packed, lengthOf, lengthsOf}
-use Rattle.rules.specs.Refusals.{Row, row, lowest, allFinite, isPeriod, isCrossed, isEarlier, valueRows, exponentialRows, targetRows, curveRows}
+use Rattle.rules.specs.Queue.{Waiting, holdOr, filedUnder, curveEnd, covers, any, anyCovers, isFiledInside, anyInside, eventsOf, packed, lengthOf, lengthsOf}
+use Rattle.rules.specs.Refusals.{lowest, allFinite, isPeriod, isCrossed, isEarlier, valueRows, exponentialRows, targetRows, curveRows}
 use Rattle.rules.specs.Block.{Command, step, linear, exponential, target, curve, Param, withQueue, called}
 use Rattle.laws.specs.Fits.{Fits, AllFit}
-use Rattle.laws.specs.Sound.{isTaken, isFromZero, isSpan, isClear, isDue, all, areClear, areDue, reachOf, goesBefore, inOrder, SoundQueue}
+use Rattle.laws.specs.Sound.{isFromZero, isClear, isDue, all, areDue, goesBefore, inOrder, SoundQueue}
 use Rattle.laws.specs.Apart.{isApart, areApart}
-use Rattle.laws.proofs.Tests.{never, clash, both, and, neither}
+use Rattle.laws.proofs.Tests.{never, clash, both, and}
 use Rattle.laws.proofs.Order.{le-not-lt}
 use Rattle.laws.proofs.Results.{positive-from-zero, taken-parts}
 use Rattle.laws.proofs.Clear.{all-parts, step-parts, linear-parts, exponential-parts, target-parts, curve-parts}

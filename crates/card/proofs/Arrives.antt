@@ -1,25 +1,25 @@
 -- An event that is not earlier than the last stands behind all others, and its time is as it was given. Assumes nothing.
-use mathlib.Core.Path.{_≡_, refl, sym, ap, _∙_, subst}
+use mathlib.Core.Path.{_≡_, refl, sym, ap, _∙_}
 use mathlib.Core.Bool.{Bool, true, false, cond, not, _&&_, _||_}
 use mathlib.Core.List.{List, [], _∷_, _++_, append-nil}
-use Prim.Native.Nat.{ℕ, zero, suc, _+_, _*_, _^_, _≤_, _<_}
+use Prim.Native.Nat.{zero, suc, _+_, _*_, _^_, _<_}
 use native.Mathlib.Nat.{pow-suc, mul-pos, zero-lt-suc, zero-mul}
 use native.Mathlib.Omega.{arith}
 use lib.Dec.{T, eqb, eqb→eq}
-use lib.ListN.{length, take, drop}
+use lib.ListN.{length}
 use lib.Seq.{take-length, drop-length}
 use lib.IntN.{ℤ, pos, negsuc}
 use lib.Ieee as Ieee
 use lib.Ieee.{Float, nan, inf, fin, binary64, fits, up, down}
 use lib.Ieee.Fits.{up-pos}
-use borrow.Author.Tests.{not-false, eqb-true}
+use borrow.Author.Tests.{eqb-true}
 use Rattle.rules.specs.declared.MaybeTime.the-variants as MaybeTime
 use Rattle.rules.specs.declared.Event.{Event}
 use Rattle.rules.specs.Numbers.{plusZero, isZero, takenTime}
 use Rattle.rules.specs.Queue.{Waiting, filedUnder, eventsOf, numbersOf, packed, hasNotLater, placeBehind, putAt, inserted, arrived}
 use Rattle.rules.specs.Refusals.{isEarlier}
 use Rattle.laws.specs.Sound.{isNumber, isFromZero, areClear}
-use Rattle.laws.proofs.Tests.{never, clash}
+use Rattle.laws.proofs.Tests.{never}
 use Rattle.laws.proofs.Order.{not-lt}
 use Rattle.laws.proofs.Clear.{all-parts, clear-number}
 use Rattle.laws.proofs.Events.{events-length, events-inserted}

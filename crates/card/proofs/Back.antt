@@ -9,32 +9,30 @@ use lib.Dec.{eqb}
 use lib.ListN.{length}
 use lib.Ieee.{Float}
 use borrow.Author.Tests.{not-false, eq-eqb, eqb-true}
-use Rattle.rules.specs.declared.MaybeTime.{MaybeTime}
-use Rattle.rules.specs.declared.MaybeTime.the-variants as MaybeTime
 use Rattle.rules.specs.declared.Bounds.{Bounds}
 use Rattle.rules.specs.declared.AutomationRate.{AutomationRate}
-use Rattle.rules.specs.declared.Edition.{Edition}
-use Rattle.rules.specs.declared.Edition.the-variants as Edition
 use Rattle.rules.specs.declared.Event.{Event}
 use Rattle.rules.specs.declared.Verdict.the-variants as Verdict
 use Rattle.rules.specs.Numbers.{storeLength}
-use Rattle.rules.specs.Queue.{Waiting, eventsOf, numbersOf, packed, attached, lengthOf, lengthsOf}
+use Rattle.rules.specs.Queue.{Waiting, eventsOf, numbersOf, packed, attached, lengthsOf}
 use Rattle.rules.specs.Refusals.{lowest, areBounds, isEdition, makingRows, allFinite}
-use Rattle.rules.specs.Block.{Param, fresh, withQueue, editionOf, made, madeAs}
+use Rattle.rules.specs.Block.{Param, fresh, editionOf, made, madeAs}
 use Rattle.laws.specs.Fits.{AllFit}
-use Rattle.laws.specs.Sound.{isClear, areClear, areDue, hasPlayed, Sound}
-use Rattle.laws.proofs.Tests.{never, clash, neither}
-use Rattle.laws.proofs.Events.{events-append, events-attached}
+use Rattle.laws.specs.Editions.{numberOfEdition}
+use Rattle.laws.specs.Sound.{isClear, areClear, areDue, hasPlayed}
+use Rattle.laws.proofs.Tests.{never, neither}
+use Rattle.laws.proofs.Events.{events-attached}
 use Rattle.laws.proofs.Store.{attached-fits}
+use Rattle.laws.proofs.Editions.{edition-back}
 use Rattle.card.specs.declared.CardVerdict.{CardVerdict}
 use Rattle.card.specs.declared.CardVerdict.the-variants as CardVerdict
 use Rattle.card.specs.declared.Fault.the-variants as Fault
 use Rattle.card.specs.declared.Judged.{Judged}
-use Rattle.card.specs.Card.{isKept, fieldLength, Reader, Reading, opened, rangedAs, fieldTurn, taken, fed, atEnd, endTurn, begun, read, eventField, fieldsOf, rangeField, fileOf, isUnwritable, isHeld, Loaded, loadedAs, loaded, badStore, unwritable, judgedFrom, judged}
-use Rattle.card.specs.Back.{FitBounds, FitWaiting, anyUnwritable, Unplayed, numberOfEdition, lastTime, behind}
+use Rattle.card.specs.Card.{isAccepted, Reader, opened, rangedAs, fieldTurn, taken, fed, atEnd, endTurn, read, eventField, fieldsOf, rangeField, fileOf, isUnwritable, isHeld, Loaded, loadedAs, loaded, badStore, unwritable, judgedFrom, judged}
+use Rattle.card.specs.Back.{FitBounds, FitWaiting, anyUnwritable, Unplayed, lastTime, behind}
 use Rattle.card.proofs.Parts.{taken-one}
 use Rattle.card.proofs.Written.{event-field, event-written, range-field, bounds-written, turn-event, turn-range}
-use Rattle.card.proofs.Accepts.{Writable, AllWritable, writable-middle, writable-fit, Good, accepts, all-front, events-middle, lengths-middle}
+use Rattle.card.proofs.Accepts.{AllWritable, writable-middle, writable-fit, Good, accepts, all-front, events-middle, lengths-middle}
 use Rattle.card.proofs.Turns.{turn-adds}
 
 -- ---- a run of events' fields
@@ -61,7 +59,7 @@ module _ (rate : AutomationRate) (n : ℕ) (b : Bounds) where
 
   reads-fields : (vs ws : List Waiting) → Good (ws ++ vs)
       → taken (length (fieldsOf vs)) (fieldsOf vs) (behind rate n b ws) ≡ record { reader = behind rate n b (ws ++ vs); rest = [] }
-  unfolding fieldsOf taken isKept
+  unfolding fieldsOf taken isAccepted
   reads-fields [] ws g = ap (λ (ys : List Waiting). record { reader = behind rate n b ys; rest = [] }) (sym (append-nil ws))
   reads-fields (v ∷ vs) ws g =
       let few = few-numbers ws v vs g in
@@ -92,7 +90,7 @@ module _ (rate : AutomationRate) (n : ℕ) (b : Bounds) where
         turn-range (w .0) (opened rate n) (w .1) refl ∙ rw (bounds-written b rest f, answered) (kept-range rest)
 
     pub reads-file : (ws : List Waiting) → Good ws → read rate n (fileOf b ws) ≡ behind rate n b ws
-    unfolding read fed fileOf isKept atEnd endTurn
+    unfolding read fed fileOf isAccepted atEnd endTurn
     reads-file ws g =
         let w = range-field b (fieldsOf ws) in
         let all : taken (length (rangeField b ++ fieldsOf ws)) (rangeField b ++ fieldsOf ws) (opened rate n) ≡ record { reader = behind rate n b ws; rest = [] } =
@@ -128,21 +126,21 @@ refused-exactly p store lent = rw (eq-eqb (length store) storeLength lent) (go (
 
 -- so where it is answered
 pub judged-lent : (p : Param) (store : List Float) → judged p store .verdict ≡ CardVerdict.Answered → length store ≡ storeLength
-unfolding judged isKept
-judged-lent p store h = go (eqb (length store) storeLength) refl (ap isKept h)
+unfolding judged isAccepted
+judged-lent p store h = go (eqb (length store) storeLength) refl (ap isAccepted h)
   where
     rest : Judged
     rest = cond (hasPlayed (p .lastBlock)) (unwritable 0) (judgedFrom 0 (attached (p .queue) store) (length (fileOf (p .bounds) (attached (p .queue) store))))
 
-    go : (b : Bool) → eqb (length store) storeLength ≡ b → isKept (cond (not b) badStore rest .verdict) ≡ true → length store ≡ storeLength
+    go : (b : Bool) → eqb (length store) storeLength ≡ b → isAccepted (cond (not b) badStore rest .verdict) ≡ true → length store ≡ storeLength
     go true e k = eqb-true (length store) storeLength e
     go false e k = never k
 
 none-unwritable : (p : Param) (store : List Float) → judged p store .verdict ≡ CardVerdict.Answered → anyUnwritable (attached (p .queue) store) ≡ false
-unfolding isKept
-none-unwritable p store h = go (hasPlayed (p .lastBlock)) (anyUnwritable (attached (p .queue) store)) (ap isKept (sym (refused-exactly p store (judged-lent p store h)) ∙ h))
+unfolding isAccepted
+none-unwritable p store h = go (hasPlayed (p .lastBlock)) (anyUnwritable (attached (p .queue) store)) (ap isAccepted (sym (refused-exactly p store (judged-lent p store h)) ∙ h))
   where
-    go : (a b : Bool) → isKept (cond (a || b) (CardVerdict.Refused Fault.Unwritable) CardVerdict.Answered) ≡ true → b ≡ false
+    go : (a b : Bool) → isAccepted (cond (a || b) (CardVerdict.Refused Fault.Unwritable) CardVerdict.Answered) ≡ true → b ≡ false
     go true b k = never k
     go false true k = never k
     go false false k = refl
@@ -154,11 +152,6 @@ all-writable (w ∷ ws) h f fit =
     let a = neither (isHeld (w .event) || not (allFinite (w .numbers))) (anyUnwritable ws) h in
     let b = neither (isHeld (w .event)) (not (allFinite (w .numbers))) (a .0) in
     (record { long = fit .0; free = b .0; finite = not-false (allFinite (w .numbers)) (b .1); event = f .0 .0; numbers = f .0 .1 }, all-writable ws (a .1) (f .1) (fit .1))
-
-edition-back : (e : Edition) → (editionOf (numberOfEdition e) ≡ e) × (isEdition (numberOfEdition e) ≡ true)
-unfolding editionOf numberOfEdition isEdition
-edition-back Edition.First = (refl, refl)
-edition-back Edition.Second = (refl, refl)
 
 -- before the first block no event is at +infinity
 new-due : (p : Param) → Unplayed p → areDue false (p .queue) ≡ true
@@ -196,15 +189,15 @@ module _ (p : Param) (store : List Float) (u : Unplayed p) (f : FitBounds (p .bo
 
 -- ---- a refused reading
 
-pub refused-changes-nothing : (r : Reader) (p : Param) (store : List Float) → isKept (loaded r p store .says .verdict) ≡ false
+pub refused-changes-nothing : (r : Reader) (p : Param) (store : List Float) → isAccepted (loaded r p store .says .verdict) ≡ false
     → (loaded r p store .param ≡ p) × (loaded r p store .store ≡ store)
-unfolding loaded loadedAs isKept
+unfolding loaded loadedAs isAccepted
 refused-changes-nothing r p store h = go (eqb (length store) storeLength) (r .verdict) h
   where
     after : Bool → CardVerdict → Loaded
     after b v = cond b (loadedAs v r p store) (record { says = badStore; param = p; store = store })
 
-    go : (b : Bool) (v : CardVerdict) → isKept (after b v .says .verdict) ≡ false → (after b v .param ≡ p) × (after b v .store ≡ store)
+    go : (b : Bool) (v : CardVerdict) → isAccepted (after b v .says .verdict) ≡ false → (after b v .param ≡ p) × (after b v .store ≡ store)
     go false v k = (refl, refl)
     go true CardVerdict.Answered k = never (sym k)
     go true (CardVerdict.Refused f) k = (refl, refl)

@@ -1,5 +1,5 @@
 -- How long a file can be: at most 17,867 bytes, those of 63 targets and a curve of 4,096 numbers (reading 9 of 02). Assumes nothing.
-use mathlib.Core.Path.{_≡_, refl, sym, ap, _∙_}
+use mathlib.Core.Path.{_≡_, refl, ap, _∙_}
 use mathlib.Core.List.{List, [], _∷_, _++_}
 use Prim.Native.Nat.{ℕ, zero, suc, _+_, _*_, _≤_, _<_}
 use native.Mathlib.Omega.{arith}
@@ -9,9 +9,9 @@ use Rattle.rules.specs.declared.Bounds.{Bounds}
 use Rattle.rules.specs.declared.Event.{Event}
 use Rattle.rules.specs.declared.Event.the-variants as Event
 use Rattle.rules.specs.Numbers.{mostEvents, storeLength}
-use Rattle.rules.specs.Queue.{Waiting, eventsOf, numbersOf, attached, lengthOf, lengthsOf}
+use Rattle.rules.specs.Queue.{Waiting, numbersOf, attached, lengthOf, lengthsOf}
 use Rattle.rules.specs.Block.{Param}
-use Rattle.laws.specs.Fits.{Fits, AllFit}
+use Rattle.laws.specs.Fits.{AllFit}
 use Rattle.laws.specs.Sound.{Sound}
 use Rattle.laws.proofs.Store.{attached-fits, attached-length, attached-numbers}
 use Rattle.words.specs.Words.{singleBytes, doubleBytes, numbersBytes}

@@ -1,11 +1,11 @@
 -- A field's bytes: where it is whole and its length is its tag's, its numbers lie inside; what stands behind it counts for nothing. Assumes nothing.
 use mathlib.Core.Path.{_≡_, refl, sym, ap, _∙_}
 use mathlib.Core.Bool.{Bool, true, false, cond, not, _&&_}
-use mathlib.Core.List.{List, [], _∷_, _++_}
-use Prim.Native.Nat.{ℕ, zero, suc, _+_, _-_, _*_, _/_, _%_, _≤_, _<_}
+use mathlib.Core.List.{List, [], _++_}
+use Prim.Native.Nat.{ℕ, zero, suc, _+_, _-_, _*_, _/_, _%_, _≤_}
 use native.Mathlib.Omega.{arith}
 use lib.Dec.{leb, eqb}
-use lib.ListN.{length, getD, List·getD-append, length-append}
+use lib.ListN.{length, List·getD-append, length-append}
 use lib.Ieee.{Float}
 use borrow.Author.Tests.{leb-true, eqb-true, not-false, le-leb}
 use Rattle.rules.specs.declared.Verdict.{Verdict}
@@ -13,7 +13,7 @@ use Rattle.rules.specs.declared.Verdict.the-variants as Verdict
 use Rattle.rules.specs.Refusals.{lowest, makingRows}
 use Rattle.rules.specs.Block.{Command, step, linear, exponential, target, curve, Called, called}
 use Rattle.laws.proofs.Tests.{never, both, and}
-use Rattle.words.specs.Words.{wordAt, singleAt, doubleAt, singlesAt}
+use Rattle.words.specs.Words.{singleAt, doubleAt, singlesAt}
 use Rattle.words.proofs.Bytes.{word-front, single-front, double-front, singles-front}
 use Rattle.card.specs.declared.Fault.the-variants as Fault
 use Rattle.card.specs.Card.{tagOf, hasHead, lengthIn, fieldLength, isWhole, isTag, isRange, fitsTag, numbersIn, boundsIn, eventIn, Reader, refusedBy, isWrong, isMisplaced, timeOf, rangedAs, takenAs, eventTurn, contentsTurn, fieldTurn}

@@ -1,29 +1,24 @@
 -- An event's call that is answered, and not out of turn, puts it behind all others: the reader behind some events is then behind one more. Assumes nothing.
 use mathlib.Core.Path.{_≡_, refl, sym, ap, _∙_}
-use mathlib.Core.Bool.{Bool, true, false, _||_}
+use mathlib.Core.Bool.{true, false, _||_}
 use mathlib.Core.List.{List, [], _∷_, _++_}
-use Prim.Native.Nat.{ℕ}
-use lib.Dec.{T}
 use lib.ListN.{length}
-use lib.Ieee.{Float, binary64, fits}
+use lib.Ieee.{Float}
 use Rattle.rules.specs.declared.MaybeTime.{MaybeTime}
 use Rattle.rules.specs.declared.MaybeTime.the-variants as MaybeTime
-use Rattle.rules.specs.declared.Bounds.{Bounds}
-use Rattle.rules.specs.declared.AutomationRate.{AutomationRate}
 use Rattle.rules.specs.declared.Event.{Event}
 use Rattle.rules.specs.declared.Event.the-variants as Event
 use Rattle.rules.specs.declared.Verdict.{Verdict}
 use Rattle.rules.specs.declared.Verdict.the-variants as Verdict
-use Rattle.rules.specs.Numbers.{isFinite, takenTime}
 use Rattle.rules.specs.Queue.{Waiting, alone, holdOr, filedUnder, eventsOf, packed, attached, inserted, lengthOf, targetEvent}
 use Rattle.rules.specs.Refusals.{lowest, valueRows, exponentialRows, targetRows, curveRows, isEarlier}
-use Rattle.rules.specs.Block.{Command, step, linear, exponential, target, curve, Param, fresh, withQueue, editionOf, Called, called, scheduledAs, calledAs}
+use Rattle.rules.specs.Block.{Command, Param, withQueue, Called, called, scheduledAs, calledAs}
 use Rattle.laws.specs.Fits.{AllFit}
 use Rattle.laws.specs.Sound.{isNumber, areClear}
 use Rattle.laws.proofs.Tests.{never, neither}
 use Rattle.laws.proofs.Order.{finite-number}
 use Rattle.laws.proofs.Store.{packed-back, no-numbers}
-use Rattle.laws.proofs.Rows.{Scheduled, value-answered, exponential-answered, target-answered, curve-answered}
+use Rattle.laws.proofs.Rows.{value-answered, exponential-answered, target-answered, curve-answered}
 use Rattle.card.specs.Card.{isHeld, hasHold, timeOf, isMinusZero, hasNoConstant, isOutOfTurn}
 use Rattle.card.specs.Back.{FitEvent, commandOf, lastTime}
 use Rattle.card.proofs.Arrives.{taken-is, inserted-last, arrived-last, packed-alone}

@@ -10,3 +10,4 @@ pub mod Same
 pub mod Bound
 pub mod Reached
 pub mod Table
+pub mod Digits

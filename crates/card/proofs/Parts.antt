@@ -2,16 +2,15 @@
 use mathlib.Core.Path.{_≡_, refl, sym, ap, _∙_}
 use mathlib.Core.Bool.{Bool, true, false, cond, _&&_}
 use mathlib.Core.List.{List, [], _∷_, _++_, append-assoc, append-nil}
-use Prim.Native.Nat.{ℕ, zero, suc, _+_, _≤_, _<_}
+use Prim.Native.Nat.{ℕ, zero, suc, _+_, _≤_}
 use native.Mathlib.Nat.{le-refl}
 use native.Mathlib.Omega.{arith}
-use lib.Dec.{leb}
-use lib.ListN.{length, drop, length-append, length-drop}
+use lib.ListN.{length, drop, length-drop}
 use lib.Seq.{drop-append-le}
 use borrow.Author.Tests.{lt-leb}
 use Rattle.rules.specs.declared.AutomationRate.{AutomationRate}
 use Rattle.laws.proofs.Tests.{never, both}
-use Rattle.card.specs.Card.{isKept, hasHead, fieldLength, isWhole, Reader, fieldTurn, Reading, stopped, taken, fed, joined, fedAll, atEnd, begun, read}
+use Rattle.card.specs.Card.{isAccepted, hasHead, fieldLength, isWhole, Reader, fieldTurn, Reading, stopped, taken, fed, joined, fedAll, atEnd, begun, read}
 use Rattle.card.proofs.Fields.{and-false, whole-parts, field-front, whole-front, turn-front}
 
 -- ---- the fields of some bytes
@@ -28,7 +27,7 @@ fewer bs n w h = simp length-drop (omega (arith, whole-parts bs w .0, h))
 taken-short : (n : ℕ) (bs : List ℕ) (r : Reader) → length bs ≤ 0 → taken n bs r ≡ stopped bs r
 unfolding taken
 taken-short zero bs r h = refl
-taken-short (suc n) bs r h = rw (short bs h, and-false (isKept (r .verdict))) refl
+taken-short (suc n) bs r h = rw (short bs h, and-false (isAccepted (r .verdict))) refl
 
 -- as many turns as there are bytes are enough
 pub taken-enough : (m n : ℕ) (bs : List ℕ) (r : Reader) → length bs ≤ m → length bs ≤ n → taken m bs r ≡ taken n bs r
@@ -36,23 +35,23 @@ unfolding taken
 taken-enough zero n bs r a b = sym (taken-short n bs r a)
 taken-enough (suc m) zero bs r a b = taken-short (suc m) bs r b
 taken-enough (suc m) (suc n) bs r a b =
-    go (isKept (r .verdict) && isWhole bs) refl (λ w. taken-enough m n (drop (fieldLength bs) bs) (fieldTurn bs r) (fewer bs m w a) (fewer bs n w b))
+    go (isAccepted (r .verdict) && isWhole bs) refl (λ w. taken-enough m n (drop (fieldLength bs) bs) (fieldTurn bs r) (fewer bs m w a) (fewer bs n w b))
   where
-    go : (k : Bool) → (isKept (r .verdict) && isWhole bs) ≡ k
+    go : (k : Bool) → (isAccepted (r .verdict) && isWhole bs) ≡ k
         → (isWhole bs ≡ true → taken m (drop (fieldLength bs) bs) (fieldTurn bs r) ≡ taken n (drop (fieldLength bs) bs) (fieldTurn bs r))
         → cond k (taken m (drop (fieldLength bs) bs) (fieldTurn bs r)) (stopped bs r) ≡ cond k (taken n (drop (fieldLength bs) bs) (fieldTurn bs r)) (stopped bs r)
-    go true e more = more (both (isKept (r .verdict)) (isWhole bs) e .1)
+    go true e more = more (both (isAccepted (r .verdict)) (isWhole bs) e .1)
     go false e more = refl
 
 -- one field off the front
-pub taken-one : (bs : List ℕ) (r : Reader) → isKept (r .verdict) ≡ true → isWhole bs ≡ true
+pub taken-one : (bs : List ℕ) (r : Reader) → isAccepted (r .verdict) ≡ true → isWhole bs ≡ true
     → taken (length bs) bs r ≡ taken (length (drop (fieldLength bs) bs)) (drop (fieldLength bs) bs) (fieldTurn bs r)
 unfolding taken isWhole hasHead
 taken-one [] r k w = never w
 taken-one (b ∷ bs) r k w =
     rw (k, w) (taken-enough (length bs) _ (drop (fieldLength (b ∷ bs)) (b ∷ bs)) (fieldTurn (b ∷ bs) r) (fewer (b ∷ bs) (length bs) w (le-refl (suc (length bs)))) (le-refl _))
 
-pub taken-none : (bs : List ℕ) (r : Reader) → (isKept (r .verdict) && isWhole bs) ≡ false → taken (length bs) bs r ≡ stopped bs r
+pub taken-none : (bs : List ℕ) (r : Reader) → (isAccepted (r .verdict) && isWhole bs) ≡ false → taken (length bs) bs r ≡ stopped bs r
 unfolding taken
 taken-none [] r h = refl
 taken-none (b ∷ bs) r h = rw h refl
@@ -60,36 +59,36 @@ taken-none (b ∷ bs) r h = rw h refl
 -- ---- one part behind the other
 
 -- no field is whole: the bytes wait; or one was refused, and they go
-waits : (bs cs : List ℕ) (r : Reader) (k : Bool) → isKept (r .verdict) ≡ k → (isKept (r .verdict) && isWhole bs) ≡ false
+waits : (bs cs : List ℕ) (r : Reader) (k : Bool) → isAccepted (r .verdict) ≡ k → (isAccepted (r .verdict) && isWhole bs) ≡ false
     → taken (length (bs ++ cs)) (bs ++ cs) r ≡ fed (taken (length bs) bs r) cs
 unfolding fed
 waits bs cs r true e none = rw (taken-none bs r none, e) refl
 waits bs cs r false e none = rw (taken-none bs r none, taken-none (bs ++ cs) r (rw e refl), e) refl
 
 taken-append : (n : ℕ) (bs cs : List ℕ) (r : Reader) → length bs ≤ n → taken (length (bs ++ cs)) (bs ++ cs) r ≡ fed (taken (length bs) bs r) cs
-taken-append zero bs cs r h = waits bs cs r (isKept (r .verdict)) refl (rw (short bs h) (and-false (isKept (r .verdict))))
+taken-append zero bs cs r h = waits bs cs r (isAccepted (r .verdict)) refl (rw (short bs h) (and-false (isAccepted (r .verdict))))
 taken-append (suc n) bs cs r h =
-    go (isKept (r .verdict)) (isWhole bs) refl refl (λ w. taken-append n (drop (fieldLength bs) bs) cs (fieldTurn bs r) (fewer bs n w h))
+    go (isAccepted (r .verdict)) (isWhole bs) refl refl (λ w. taken-append n (drop (fieldLength bs) bs) cs (fieldTurn bs r) (fewer bs n w h))
   where
-    go : (k w : Bool) → isKept (r .verdict) ≡ k → isWhole bs ≡ w
+    go : (k w : Bool) → isAccepted (r .verdict) ≡ k → isWhole bs ≡ w
         → (isWhole bs ≡ true → taken (length (drop (fieldLength bs) bs ++ cs)) (drop (fieldLength bs) bs ++ cs) (fieldTurn bs r) ≡ fed (taken (length (drop (fieldLength bs) bs)) (drop (fieldLength bs) bs) (fieldTurn bs r)) cs)
         → taken (length (bs ++ cs)) (bs ++ cs) r ≡ fed (taken (length bs) bs r) cs
-    go k false e f more = waits bs cs r k e (rw f (and-false (isKept (r .verdict))))
+    go k false e f more = waits bs cs r k e (rw f (and-false (isAccepted (r .verdict))))
     go false true e f more = waits bs cs r false e (rw e refl)
     go true true e f more =
         let p = whole-parts bs f in
         rw (taken-one bs r e f, taken-one (bs ++ cs) r e (whole-front bs cs f), turn-front bs cs f r, field-front bs cs (p .0), drop-append-le (fieldLength bs) bs cs (p .1)) (more f)
 
-refused-stays : (s : Reading) (a : List ℕ) → isKept (s .reader .verdict) ≡ false → fed s a ≡ s
+refused-stays : (s : Reading) (a : List ℕ) → isAccepted (s .reader .verdict) ≡ false → fed s a ≡ s
 unfolding fed
 refused-stays s a e = rw e refl
 
 -- a part, and another
 pub fed-append : (s : Reading) (a b : List ℕ) → fed (fed s a) b ≡ fed s (a ++ b)
 unfolding fed
-fed-append s a b = go (isKept (s .reader .verdict)) refl
+fed-append s a b = go (isAccepted (s .reader .verdict)) refl
   where
-    go : (k : Bool) → isKept (s .reader .verdict) ≡ k → fed (fed s a) b ≡ fed s (a ++ b)
+    go : (k : Bool) → isAccepted (s .reader .verdict) ≡ k → fed (fed s a) b ≡ fed s (a ++ b)
     go true e = rw (e, ← append-assoc (s .rest) a b) (sym (taken-append (length (s .rest ++ a)) (s .rest ++ a) b (s .reader) (le-refl _)))
     go false e = ap (λ (t : Reading). fed t b) (refused-stays s a e) ∙ refused-stays s b e ∙ sym (refused-stays s (a ++ b) e)
 
@@ -107,7 +106,7 @@ fed-parts s a (part ∷ parts) =
 
 -- "The answer does not depend on the cuts" (reading 9): in parts, the empty ones among them, or in one
 pub parts-are-the-file : (rate : AutomationRate) (n : ℕ) (parts : List (List ℕ)) → atEnd (fedAll (begun rate n) parts) ≡ read rate n (joined parts)
-unfolding fedAll joined read fed taken isKept
+unfolding fedAll joined read fed taken isAccepted
 parts-are-the-file rate n [] = refl
 parts-are-the-file rate n (part ∷ parts) = ap atEnd (fed-parts (begun rate n) part parts)
 

@@ -6,7 +6,6 @@ use Prim.Native.Nat.{ℕ}
 use lib.ListN.{length}
 use lib.Ieee as Ieee
 use lib.Ieee.{Float}
-use Rattle.rules.specs.declared.MaybeTime.the-variants as MaybeTime
 use Rattle.rules.specs.declared.Bounds.{Bounds}
 use Rattle.rules.specs.declared.AutomationRate.{AutomationRate}
 use Rattle.rules.specs.declared.Event.{Event}
@@ -18,15 +17,16 @@ use Rattle.rules.specs.declared.Verdict.the-variants as Verdict
 use Rattle.rules.specs.Numbers.{plusZero, storeLength, isZero, takenTime}
 use Rattle.rules.specs.Queue.{Waiting, attached, packed, returned, valueAfterCancel, valueAfterHold, losesHead, losesCurve, headOf}
 use Rattle.rules.specs.Block.{Param, fresh, withQueue, made, Command, set, step, linear, exponential, target, curve, cancel, hold, called, scheduledAs, calledAs}
-use Rattle.laws.specs.Sound.{isClear, all, areClear, Sound}
+use Rattle.laws.specs.Sound.{isClear, all, areClear}
 use Rattle.laws.specs.Apart.{areApart}
+use Rattle.laws.specs.Editions.{numberOfEdition}
 use Rattle.laws.proofs.Kept.{made-fresh, made-sound, called-sound, called-apart}
 use Rattle.laws.proofs.Clear.{all-parts, step-parts, linear-parts, exponential-parts, target-parts, curve-parts}
 use Rattle.laws.proofs.Results.{taken-parts}
 use Rattle.playing.specs.Play.{State, begun, asked, afterCall, scheduled}
 use Rattle.card.specs.declared.CardVerdict.the-variants as CardVerdict
 use Rattle.card.specs.Card.{timeOf, isMinusZero, read, loaded, fileOf, judged}
-use Rattle.card.specs.Back.{FitBounds, FitWaiting, Unplayed, numberOfEdition, commandOf}
+use Rattle.card.specs.Back.{FitBounds, FitWaiting, Unplayed, commandOf}
 use Rattle.card.proofs.Back.{given-back}
 use Rattle.card.proofs.Accepts.{from-zero-not-minus}
 

@@ -1,12 +1,12 @@
 -- "What the reader accepts, the writer writes to the same bytes" (02, C-11). Assumes nothing.
 use mathlib.Core.Path.{_≡_, refl, sym, ap, _∙_, subst}
-use mathlib.Core.Bool.{Bool, true, false, cond, not, _&&_, _||_}
+use mathlib.Core.Bool.{Bool, true, false, cond, not}
 use mathlib.Core.List.{List, [], _∷_, _++_, append-assoc, append-nil}
-use Prim.Native.Nat.{ℕ, zero, suc, _+_, _*_, _≤_, _<_}
+use Prim.Native.Nat.{ℕ, zero, suc, _+_, _*_, _≤_}
 use native.Mathlib.Nat.{le-refl, zero-add}
 use native.Mathlib.Omega.{arith}
-use lib.Dec.{eqb, T}
-use lib.ListN.{length, take, drop, length-take, length-drop, length-append, take-append-drop}
+use lib.Dec.{T}
+use lib.ListN.{length, take, drop, length-drop, take-append-drop}
 use lib.Seq.{take-add, drop-drop, length-take-le}
 use lib.Ieee.{Float, isNan}
 use borrow.Author.Tests.{not-false, eqb-true}
@@ -19,7 +19,7 @@ use Rattle.rules.specs.declared.Verdict.{Verdict}
 use Rattle.rules.specs.declared.Verdict.the-variants as Verdict
 use Rattle.rules.specs.Numbers.{isFinite, storeLength}
 use Rattle.rules.specs.Refusals.{allFinite, areBounds, makingRows, lowest}
-use Rattle.rules.specs.Queue.{Waiting, alone, eventsOf, numbersOf, packed, attached, lengthOf}
+use Rattle.rules.specs.Queue.{Waiting, alone, eventsOf, numbersOf, packed, lengthOf}
 use Rattle.rules.specs.Block.{Command, Param, fresh, editionOf, made, madeAs, called}
 use Rattle.laws.specs.Fits.{AllFit}
 use Rattle.laws.specs.Sound.{isNumber, hasPlayed, Sound}
@@ -28,11 +28,10 @@ use Rattle.laws.proofs.Store.{fit-append, numbers-length, packed-length, packed
 use Rattle.laws.proofs.Kept.{called-sound, made-sound}
 use Rattle.laws.proofs.Order.{finite-number}
 use Rattle.laws.proofs.Rows.{passes, value-answered, exponential-answered, target-answered, curve-answered}
-use Rattle.words.specs.Words.{bytesOf, AreBytes, singleAt, doubleAt, singlesAt, singleBytes, doubleBytes, numbersBytes}
-use Rattle.words.proofs.Bytes.{length-bytes, bytes-drop, fits-single, fits-double, fits-singles, length-singles, word-bytes-back, single-bytes-back, double-bytes-back, singles-bytes-back}
-use Rattle.card.specs.declared.CardVerdict.the-variants as CardVerdict
+use Rattle.words.specs.Words.{AreBytes, singleAt, doubleAt, singlesAt, singleBytes, doubleBytes, numbersBytes}
+use Rattle.words.proofs.Bytes.{bytes-drop, fits-single, fits-double, length-singles, word-bytes-back, single-bytes-back, double-bytes-back, singles-bytes-back}
 use Rattle.card.specs.declared.Fault.the-variants as Fault
-use Rattle.card.specs.Card.{tagOf, lengthIn, fieldLength, isWhole, isTag, isRange, isWrong, isMisplaced, isKept, numbersIn, eventIn, fitsTag, isHeld, hasHold, isUnwritable, boundsIn, Reader, opened, refusedBy, rangedAs, timeOf, isOutOfTurn, takenAs, eventTurn, contentsTurn, fieldTurn, Reading, taken, fed, atEnd, endTurn, read, fieldOf, rangeField, eventField, fieldsOf, fileOf, judged}
+use Rattle.card.specs.Card.{tagOf, lengthIn, fieldLength, isWhole, isTag, isRange, isWrong, isMisplaced, isAccepted, numbersIn, eventIn, fitsTag, isHeld, hasHold, isUnwritable, boundsIn, Reader, opened, refusedBy, rangedAs, timeOf, isOutOfTurn, takenAs, eventTurn, contentsTurn, fieldTurn, Reading, taken, fed, atEnd, endTurn, read, fieldOf, rangeField, eventField, fieldsOf, fileOf}
 use Rattle.card.specs.Back.{FitEvent, anyUnwritable, commandOf, lastTime, behind, Rewritten}
 use Rattle.card.proofs.Fields.{Tag, a-step, a-linear, an-exponential, a-target, a-curve, a-range, tag, whole-parts, right-fits, room, target-room, curve-room, step-in, linear-in, exponential-in, target-in, curve-in}
 use Rattle.card.proofs.Parts.{fewer, taken-one, taken-none}
@@ -103,8 +102,8 @@ pub record Judges (bs : List ℕ) (ranged : Bool) : Type 0 where
   pub placed : isMisplaced ranged bs ≡ false
   pub whole : isWhole bs ≡ true
 
-pub kept-judges : (bs : List ℕ) (r : Reader) → isKept (fieldTurn bs r .verdict) ≡ true → Judges bs (r .ranged) × (fieldTurn bs r ≡ contentsTurn bs r)
-unfolding fieldTurn isKept
+pub kept-judges : (bs : List ℕ) (r : Reader) → isAccepted (fieldTurn bs r .verdict) ≡ true → Judges bs (r .ranged) × (fieldTurn bs r ≡ contentsTurn bs r)
+unfolding fieldTurn isAccepted
 kept-judges bs r h = go (isTag (tagOf bs)) (isWrong bs) (isMisplaced (r .ranged) bs) (isWhole bs) refl refl refl refl h
   where
     judge : (a b c d : Bool) → Reader
@@ -113,7 +112,7 @@ kept-judges bs r h = go (isTag (tagOf bs)) (isWrong bs) (isMisplaced (r .ranged)
         (cond b (refusedBy Fault.WrongLength r) (cond c (refusedBy Fault.Misplaced r) (cond (not d) (refusedBy Fault.CutShort r) (contentsTurn bs r))))
 
     go : (a b c d : Bool) → isTag (tagOf bs) ≡ a → isWrong bs ≡ b → isMisplaced (r .ranged) bs ≡ c → isWhole bs ≡ d
-        → isKept (judge a b c d .verdict) ≡ true → Judges bs (r .ranged) × (judge a b c d ≡ contentsTurn bs r)
+        → isAccepted (judge a b c d .verdict) ≡ true → Judges bs (r .ranged) × (judge a b c d ≡ contentsTurn bs r)
     go false b c d p q s t k = never k
     go true true c d p q s t k = never k
     go true false true d p q s t k = never k
@@ -121,21 +120,21 @@ kept-judges bs r h = go (isTag (tagOf bs)) (isWrong bs) (isMisplaced (r .ranged)
     go true false false true p q s t k = (record { tag = p; right = q; placed = s; whole = t }, refl)
 
 -- a field that is cut short is refused
-pub cut-refused : (bs : List ℕ) (r : Reader) → isWhole bs ≡ false → isKept (fieldTurn bs r .verdict) ≡ false
-cut-refused bs r h = go (isKept (fieldTurn bs r .verdict)) refl
+pub cut-refused : (bs : List ℕ) (r : Reader) → isWhole bs ≡ false → isAccepted (fieldTurn bs r .verdict) ≡ false
+cut-refused bs r h = go (isAccepted (fieldTurn bs r .verdict)) refl
   where
-    go : (k : Bool) → isKept (fieldTurn bs r .verdict) ≡ k → k ≡ false
+    go : (k : Bool) → isAccepted (fieldTurn bs r .verdict) ≡ k → k ≡ false
     go true e = clash (kept-judges bs r e .0 .whole) h
     go false e = refl
 
 -- an event that is kept
-pub kept-event : (c : Command) (bs : List ℕ) (r : Reader) → isKept (eventTurn c bs r .verdict) ≡ true
+pub kept-event : (c : Command) (bs : List ℕ) (r : Reader) → isAccepted (eventTurn c bs r .verdict) ≡ true
     → (isOutOfTurn (r .before) c ≡ false) × (called (r .param) (r .store) c .verdict ≡ Verdict.Answered)
-unfolding eventTurn takenAs isKept
+unfolding eventTurn takenAs isAccepted
 kept-event c bs r h = go (isOutOfTurn (r .before) c) (called (r .param) (r .store) c .verdict) refl refl h
   where
     go : (o : Bool) (v : Verdict) → isOutOfTurn (r .before) c ≡ o → called (r .param) (r .store) c .verdict ≡ v
-        → isKept (cond o (refusedBy Fault.OutOfTurn r) (takenAs v (called (r .param) (r .store) c) (timeOf c) bs r) .verdict) ≡ true
+        → isAccepted (cond o (refusedBy Fault.OutOfTurn r) (takenAs v (called (r .param) (r .store) c) (timeOf c) bs r) .verdict) ≡ true
         → (isOutOfTurn (r .before) c ≡ false) × (called (r .param) (r .store) c .verdict ≡ Verdict.Answered)
     go true v a b k = never k
     go false Verdict.Answered a b k = (a, b)
@@ -239,12 +238,12 @@ module _ (bs : List ℕ) (h : AreBytes bs) (w : isWhole bs ≡ true) (right : is
 -- ---- the end of a file
 
 -- a reader that has refused stays so
-end-refused : (bs : List ℕ) (r : Reader) → isKept (r .verdict) ≡ false → atEnd (taken (length bs) bs r) ≡ r
+end-refused : (bs : List ℕ) (r : Reader) → isAccepted (r .verdict) ≡ false → atEnd (taken (length bs) bs r) ≡ r
 unfolding atEnd
 end-refused bs r e = rw (taken-none bs r (rw e refl), e) refl
 
 -- what is left over is a field cut short
-end-cut : (bs : List ℕ) (r : Reader) → 1 ≤ length bs → isKept (r .verdict) ≡ true → isWhole bs ≡ false → atEnd (taken (length bs) bs r) ≡ fieldTurn bs r
+end-cut : (bs : List ℕ) (r : Reader) → 1 ≤ length bs → isAccepted (r .verdict) ≡ true → isWhole bs ≡ false → atEnd (taken (length bs) bs r) ≡ fieldTurn bs r
 unfolding atEnd endTurn
 end-cut [] r few e w = absurd (omega (arith, few))
 end-cut (c ∷ cs) r few e w = rw (taken-none (c ∷ cs) r (rw (e, w) refl), e) refl
@@ -304,12 +303,12 @@ module _ (rate : AutomationRate) (n : ℕ) (b : Bounds) where
             };
       }
 
-  pub one-more : (bs : List ℕ) → AreBytes bs → (ws : List Waiting) → Kept ws → isKept (fieldTurn bs (behind rate n b ws) .verdict) ≡ true → (w : Waiting) × OneMore bs ws w
+  pub one-more : (bs : List ℕ) → AreBytes bs → (ws : List Waiting) → Kept ws → isAccepted (fieldTurn bs (behind rate n b ws) .verdict) ≡ true → (w : Waiting) × OneMore bs ws w
   one-more bs h ws k kept =
       let j = kept-judges bs (behind rate n b ws) kept in
       let event : isRange bs ≡ false = not-range bs (j .0 .placed) in
       let turn : fieldTurn bs (behind rate n b ws) ≡ eventTurn (eventIn bs) bs (behind rate n b ws) = j .1 ∙ contents-event bs (behind rate n b ws) event in
-      let ok = kept-event (eventIn bs) bs (behind rate n b ws) (subst (λ (r : Reader). isKept (r .verdict) ≡ true) turn kept) in
+      let ok = kept-event (eventIn bs) bs (behind rate n b ws) (subst (λ (r : Reader). isAccepted (r .verdict) ≡ true) turn kept) in
       let d = decoded bs h (j .0 .whole) (j .0 .right) (behind rate n b ws .param) (behind rate n b ws .store) (ok .1) (tag (tagOf bs) (j .0 .tag)) refl event in
       (d .0, event-more bs ws k (j .0 .whole) (d .0) (d .1) turn ok)
 
@@ -323,11 +322,11 @@ module _ (rate : AutomationRate) (n : ℕ) (b : Bounds) where
 
   -- behind the last field
   no-more : (ws : List Waiting) → Kept ws → Run [] ws []
-  unfolding taken atEnd endTurn isKept fieldsOf
+  unfolding taken atEnd endTurn isAccepted fieldsOf
   no-more ws k = record { reader = rw (append-nil ws) refl; bytes = refl; kept = rw (append-nil ws) k }
 
   another : (bs : List ℕ) (ws : List Waiting) (w : Waiting) → isWhole bs ≡ true → OneMore bs ws w → (vs : List Waiting) → Run (drop (fieldLength bs) bs) (ws ++ (w ∷ [])) vs → Run bs ws (w ∷ vs)
-  unfolding fieldsOf isKept
+  unfolding fieldsOf isAccepted
   another bs ws w whole m vs run =
       let all : (ws ++ (w ∷ [])) ++ vs ≡ ws ++ (w ∷ vs) = append-assoc ws (w ∷ []) vs in
       record {
@@ -339,31 +338,31 @@ module _ (rate : AutomationRate) (n : ℕ) (b : Bounds) where
   -- by what is behind the first field
   abbrev Further : List ℕ → List Waiting → Type 0
   Further bs ws =
-      isWhole bs ≡ true → (w : Waiting) → OneMore bs ws w → isKept (atEnd (taken (length (drop (fieldLength bs) bs)) (drop (fieldLength bs) bs) (behind rate n b (ws ++ (w ∷ [])))) .verdict) ≡ true
+      isWhole bs ≡ true → (w : Waiting) → OneMore bs ws w → isAccepted (atEnd (taken (length (drop (fieldLength bs) bs)) (drop (fieldLength bs) bs) (behind rate n b (ws ++ (w ∷ [])))) .verdict) ≡ true
       → (vs : List Waiting) × Run (drop (fieldLength bs) bs) (ws ++ (w ∷ [])) vs
 
-  run-on : (bs : List ℕ) → 1 ≤ length bs → AreBytes bs → (ws : List Waiting) → Kept ws → isKept (atEnd (taken (length bs) bs (behind rate n b ws)) .verdict) ≡ true → Further bs ws
+  run-on : (bs : List ℕ) → 1 ≤ length bs → AreBytes bs → (ws : List Waiting) → Kept ws → isAccepted (atEnd (taken (length bs) bs (behind rate n b ws)) .verdict) ≡ true → Further bs ws
       → (vs : List Waiting) × Run bs ws vs
-  unfolding isKept
-  run-on bs some h ws k ok more = go (isWhole bs) (isKept (fieldTurn bs r .verdict)) refl refl
+  unfolding isAccepted
+  run-on bs some h ws k ok more = go (isWhole bs) (isAccepted (fieldTurn bs r .verdict)) refl refl
     where
       r : Reader
       r = behind rate n b ws
 
-      go : (a t : Bool) → isWhole bs ≡ a → isKept (fieldTurn bs r .verdict) ≡ t → (vs : List Waiting) × Run bs ws vs
-      go false t e f = clash (subst (λ (s : Reader). isKept (s .verdict) ≡ true) (end-cut bs r some refl e) ok) (cut-refused bs r e)
+      go : (a t : Bool) → isWhole bs ≡ a → isAccepted (fieldTurn bs r .verdict) ≡ t → (vs : List Waiting) × Run bs ws vs
+      go false t e f = clash (subst (λ (s : Reader). isAccepted (s .verdict) ≡ true) (end-cut bs r some refl e) ok) (cut-refused bs r e)
       go true false e f =
-          clash (subst (λ (s : Reader). isKept (s .verdict) ≡ true) (ap atEnd (taken-one bs r refl e) ∙ end-refused (drop (fieldLength bs) bs) (fieldTurn bs r) f) ok) f
+          clash (subst (λ (s : Reader). isAccepted (s .verdict) ≡ true) (ap atEnd (taken-one bs r refl e) ∙ end-refused (drop (fieldLength bs) bs) (fieldTurn bs r) f) ok) f
       go true true e f =
           let m = one-more bs h ws k f in
-          let v = more e (m .0) (m .1) (subst (λ (s : Reader). isKept (s .verdict) ≡ true) (ap atEnd (taken-one bs r refl e ∙ rw (m .1 .reader) refl)) ok) in
+          let v = more e (m .0) (m .1) (subst (λ (s : Reader). isAccepted (s .verdict) ≡ true) (ap atEnd (taken-one bs r refl e ∙ rw (m .1 .reader) refl)) ok) in
           (m .0 ∷ v .0, another bs ws (m .0) e (m .1) (v .0) (v .1))
 
-  run-of : (bs : List ℕ) → AreBytes bs → (ws : List Waiting) → Kept ws → isKept (atEnd (taken (length bs) bs (behind rate n b ws)) .verdict) ≡ true → Further bs ws → (vs : List Waiting) × Run bs ws vs
+  run-of : (bs : List ℕ) → AreBytes bs → (ws : List Waiting) → Kept ws → isAccepted (atEnd (taken (length bs) bs (behind rate n b ws)) .verdict) ≡ true → Further bs ws → (vs : List Waiting) × Run bs ws vs
   run-of [] h ws k ok more = ([], no-more ws k)
   run-of (c ∷ cs) h ws k ok more = run-on (c ∷ cs) (omega arith) h ws k ok more
 
-  pub accepted-run : (m : ℕ) (bs : List ℕ) → length bs ≤ m → AreBytes bs → (ws : List Waiting) → Kept ws → isKept (atEnd (taken (length bs) bs (behind rate n b ws)) .verdict) ≡ true
+  pub accepted-run : (m : ℕ) (bs : List ℕ) → length bs ≤ m → AreBytes bs → (ws : List Waiting) → Kept ws → isAccepted (atEnd (taken (length bs) bs (behind rate n b ws)) .verdict) ≡ true
       → (vs : List Waiting) × Run bs ws vs
   accepted-run zero bs few h ws k ok = run-of bs h ws k ok (λ whole w more. absurd (omega (arith, few, whole-parts bs whole .0)))
   accepted-run (suc m) bs few h ws k ok =
@@ -377,7 +376,7 @@ pub record Ranged (rate : AutomationRate) (n : ℕ) (bs : List ℕ) : Type 0 whe
   pub bytes : take (fieldLength bs) bs ≡ rangeField (boundsIn bs)
   pub kept : Kept rate n (boundsIn bs) []
 
-module _ (rate : AutomationRate) (n : ℕ) (bs : List ℕ) (h : AreBytes bs) (ok : isKept (fieldTurn bs (opened rate n) .verdict) ≡ true) where
+module _ (rate : AutomationRate) (n : ℕ) (bs : List ℕ) (h : AreBytes bs) (ok : isAccepted (fieldTurn bs (opened rate n) .verdict) ≡ true) where
   is-range : isMisplaced false bs ≡ false → isRange bs ≡ true
   unfolding isMisplaced
   is-range m = go (isRange bs) m
@@ -397,10 +396,10 @@ module _ (rate : AutomationRate) (n : ℕ) (bs : List ℕ) (h : AreBytes bs) (ok
   ranged-turn = kept-judges bs (opened rate n) ok .1 ∙ rw is-ranged refl
 
   makes : lowest (makingRows (boundsIn bs) n) ≡ Verdict.Answered
-  unfolding rangedAs isKept
-  makes = go (lowest (makingRows (boundsIn bs) n)) (subst (λ (r : Reader). isKept (r .verdict) ≡ true) ranged-turn ok)
+  unfolding rangedAs isAccepted
+  makes = go (lowest (makingRows (boundsIn bs) n)) (subst (λ (r : Reader). isAccepted (r .verdict) ≡ true) ranged-turn ok)
     where
-      go : (v : Verdict) → isKept (rangedAs v bs (opened rate n) .verdict) ≡ true → v ≡ Verdict.Answered
+      go : (v : Verdict) → isAccepted (rangedAs v bs (opened rate n) .verdict) ≡ true → v ≡ Verdict.Answered
       go Verdict.Answered k = refl
       go (Verdict.Refused why) k = never k
 
@@ -450,15 +449,15 @@ pub record Accepted (rate : AutomationRate) (n : ℕ) (file : List ℕ) (b : Bou
   pub kept : Kept rate n b ws
 
 module _ (rate : AutomationRate) (n : ℕ) where
-  whole-file : (file : List ℕ) → AreBytes file → isWhole file ≡ true → isKept (fieldTurn file (opened rate n) .verdict) ≡ true → isKept (read rate n file .verdict) ≡ true
+  whole-file : (file : List ℕ) → AreBytes file → isWhole file ≡ true → isAccepted (fieldTurn file (opened rate n) .verdict) ≡ true → isAccepted (read rate n file .verdict) ≡ true
       → (ws : List Waiting) × Accepted rate n file (boundsIn file) ws
-  unfolding read fed isKept fileOf
+  unfolding read fed isAccepted fileOf
   whole-file file h w turn ok =
       let first = ranged rate n file h turn in
       let same : taken (length file) file (opened rate n) ≡ taken (length (drop (fieldLength file) file)) (drop (fieldLength file) file) (behind rate n (boundsIn file) []) =
       taken-one file (opened rate n) refl w ∙ rw (first .reader) refl in
       let v = accepted-run rate n (boundsIn file) (length (drop (fieldLength file) file)) (drop (fieldLength file) file) (le-refl _) (bytes-drop (fieldLength file) file h) [] (first .kept)
-      (subst (λ (s : Reading). isKept (atEnd s .verdict) ≡ true) same ok) in (
+      (subst (λ (s : Reading). isAccepted (atEnd s .verdict) ≡ true) same ok) in (
         v .0,
         record {
           reader = ap atEnd same ∙ v .1 .reader;
@@ -467,18 +466,18 @@ module _ (rate : AutomationRate) (n : ℕ) where
         },
       )
 
-  pub accepted-file : (file : List ℕ) → AreBytes file → isKept (read rate n file .verdict) ≡ true → (b : Bounds) × ((ws : List Waiting) × Accepted rate n file b ws)
-  unfolding read fed taken isKept atEnd endTurn
+  pub accepted-file : (file : List ℕ) → AreBytes file → isAccepted (read rate n file .verdict) ≡ true → (b : Bounds) × ((ws : List Waiting) × Accepted rate n file b ws)
+  unfolding read fed taken isAccepted atEnd endTurn
   accepted-file [] h ok = never ok
-  accepted-file (c ∷ cs) h ok = go (isWhole file) (isKept (fieldTurn file (opened rate n) .verdict)) refl refl
+  accepted-file (c ∷ cs) h ok = go (isWhole file) (isAccepted (fieldTurn file (opened rate n) .verdict)) refl refl
     where
       file : List ℕ
       file = c ∷ cs
 
-      go : (a t : Bool) → isWhole file ≡ a → isKept (fieldTurn file (opened rate n) .verdict) ≡ t → (b : Bounds) × ((ws : List Waiting) × Accepted rate n file b ws)
-      go false t e f = clash (subst (λ (s : Reader). isKept (s .verdict) ≡ true) (end-cut file (opened rate n) (omega arith) refl e) ok) (cut-refused file (opened rate n) e)
+      go : (a t : Bool) → isWhole file ≡ a → isAccepted (fieldTurn file (opened rate n) .verdict) ≡ t → (b : Bounds) × ((ws : List Waiting) × Accepted rate n file b ws)
+      go false t e f = clash (subst (λ (s : Reader). isAccepted (s .verdict) ≡ true) (end-cut file (opened rate n) (omega arith) refl e) ok) (cut-refused file (opened rate n) e)
       go true false e f =
-          clash (subst (λ (s : Reader). isKept (s .verdict) ≡ true) (ap atEnd (taken-one file (opened rate n) refl e) ∙ end-refused (drop (fieldLength file) file) (fieldTurn file (opened rate n)) f) ok) f
+          clash (subst (λ (s : Reader). isAccepted (s .verdict) ≡ true) (ap atEnd (taken-one file (opened rate n) refl e) ∙ end-refused (drop (fieldLength file) file) (fieldTurn file (opened rate n)) f) ok) f
       go true true e f = (boundsIn file, whole-file file h e f ok)
 
   rewritten : (b : Bounds) (ws : List Waiting) → Kept rate n b ws → Rewritten (fileOf b ws) (behind rate n b ws .param) (behind rate n b ws .store)
@@ -490,7 +489,7 @@ module _ (rate : AutomationRate) (n : ℕ) where
         bytes = ap (fileOf b) (packed-back ws (k .fit));
       }
 
-  pub accepted-is-written : (file : List ℕ) → AreBytes file → isKept (read rate n file .verdict) ≡ true → Rewritten file (read rate n file .param) (read rate n file .store)
+  pub accepted-is-written : (file : List ℕ) → AreBytes file → isAccepted (read rate n file .verdict) ≡ true → Rewritten file (read rate n file .param) (read rate n file .store)
   accepted-is-written file h ok =
       let v = accepted-file file h ok in
       let a = v .1 .1 in

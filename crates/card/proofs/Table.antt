@@ -4,22 +4,18 @@ use mathlib.Core.Bool.{Bool, true, _&&_}
 use mathlib.Core.List.{List, [], _∷_, _++_}
 use Prim.Native.Nat.{ℕ}
 use lib.Dec.{eqb}
-use lib.ListN.{set, replicate}
+use lib.ListN.{set}
 use lib.Ieee as Ieee
-use lib.Ieee.{Float, nan}
-use Rattle.rules.specs.declared.MaybeTime.the-variants as MaybeTime
+use lib.Ieee.{nan}
 use Rattle.rules.specs.declared.Event.the-variants as Event
 use Rattle.rules.specs.declared.AutomationRate.the-variants as Rate
 use Rattle.rules.specs.declared.Edition.the-variants as Edition
-use Rattle.rules.specs.Numbers.{plusZero, storeLength}
-use Rattle.rules.specs.Block.{Param, fresh, withQueue, curve, target, hold, Called, called, answered}
+use Rattle.rules.specs.Block.{fresh, withQueue, curve, target, hold, Called, called, answered}
 use Rattle.rules.proofs.Table.{results, bounds, n0, n1, n2, n3, n5, n6, n10, minus10}
 use Rattle.laws.specs.Sound as Sound
 use Rattle.words.specs.Words as Words
 use Rattle.card.specs.declared.CardVerdict.{CardVerdict}
 use Rattle.card.specs.declared.CardVerdict.the-variants as CardVerdict
-use Rattle.card.specs.declared.Fault.the-variants as Fault
-use Rattle.card.specs.declared.Judged.{Judged}
 use Rattle.card.specs.Card as Card
 use Rattle.card.specs.Card.{faultNumber, Reader, read, eventField, unwritable, judged, saved}
 
@@ -28,7 +24,7 @@ use Rattle.card.specs.Card.{faultNumber, Reader, read, eventField, unwri
 -- 0, or the number
 unfoldable pub numberAs : CardVerdict → ℕ
 unfolding results Sound.isFromZero Sound.hasPlayed Ieee.ofBits Ieee.toBits Words.bytesOf Words.wordIn Words.wordAt Words.singleAt Words.doubleAt Words.singlesAt
-    Words.singleBytes Words.doubleBytes Words.numbersBytes Card.faultNumber Card.isKept Card.tagOf Card.hasHead Card.lengthIn Card.fieldLength Card.isWhole Card.isTag
+    Words.singleBytes Words.doubleBytes Words.numbersBytes Card.faultNumber Card.isAccepted Card.tagOf Card.hasHead Card.lengthIn Card.fieldLength Card.isWhole Card.isTag
     Card.isRange Card.fitsTag Card.numbersIn Card.boundsIn Card.eventIn Card.isWrong Card.isMisplaced Card.timeOf Card.isMinusZero Card.hasNoConstant
     Card.isOutOfTurn Card.rangedAs Card.takenAs Card.eventTurn Card.contentsTurn Card.fieldTurn Card.taken Card.fed Card.endTurn Card.atEnd Card.read
     Card.rangeField Card.eventField Card.fieldsOf Card.fileOf Card.hasHold Card.isHeld Card.isUnwritable Card.judgedFrom Card.judged Card.writtenTo Card.savedAs

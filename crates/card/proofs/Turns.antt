@@ -1,10 +1,9 @@
 -- A turn on an event's field that is answered and in turn, and on a range that is; a run of such fields, as it was written. Assumes nothing.
 use mathlib.Core.Path.{_≡_, refl, sym, ap, _∙_}
-use mathlib.Core.Bool.{Bool, true, false, cond, not, _&&_}
+use mathlib.Core.Bool.{true, false, not}
 use mathlib.Core.List.{List, [], _∷_, _++_, append-assoc, append-nil}
-use Prim.Native.Nat.{ℕ, _+_, _*_, _≤_, _<_}
-use native.Mathlib.Omega.{arith}
-use lib.ListN.{length, drop, length-append}
+use Prim.Native.Nat.{ℕ, _+_}
+use lib.ListN.{length, length-append}
 use lib.Ieee.{Float}
 use Rattle.rules.specs.declared.MaybeTime.{MaybeTime}
 use Rattle.rules.specs.declared.MaybeTime.the-variants as MaybeTime
@@ -15,15 +14,15 @@ use Rattle.rules.specs.declared.Event.the-variants as Event
 use Rattle.rules.specs.declared.Verdict.{Verdict}
 use Rattle.rules.specs.declared.Verdict.the-variants as Verdict
 use Rattle.rules.specs.Queue.{Waiting, holdOr, filedUnder, eventsOf, lengthOf}
-use Rattle.rules.specs.Block.{Command, Param, fresh, editionOf, Called, called}
+use Rattle.rules.specs.Block.{fresh, editionOf, called}
 use Rattle.laws.specs.Fits.{AllFit}
 use Rattle.laws.specs.Sound.{areClear}
 use Rattle.laws.proofs.Tests.{never}
 use Rattle.laws.proofs.Events.{events-append}
-use Rattle.card.specs.Card.{fieldLength, Reader, isHeld, hasHold, timeOf, isOutOfTurn, takenAs, eventTurn, eventField, fieldsOf, rangeField, fileOf}
+use Rattle.card.specs.Card.{fieldLength, isHeld, hasHold, timeOf, isOutOfTurn, takenAs, eventTurn, eventField, fieldsOf, rangeField, fileOf}
 use Rattle.card.specs.Back.{FitEvent, commandOf, lastTime, behind}
 use Rattle.card.proofs.Arrives.{last-time}
-use Rattle.card.proofs.Kept.{Adds, adds, in-turn}
+use Rattle.card.proofs.Kept.{adds, in-turn}
 
 -- ---- a file and one field more
 

@@ -1,12 +1,12 @@
 -- A field that was written, read: its tag, its length, its contents; and an event's field as its event. Assumes nothing.
 use mathlib.Core.Path.{_≡_, refl, sym, ap, _∙_}
-use mathlib.Core.Bool.{Bool, true, false}
+use mathlib.Core.Bool.{true, false}
 use mathlib.Core.List.{List, [], _∷_, _++_, append-assoc}
-use Prim.Native.Nat.{ℕ, _+_, _*_, _-_, _/_, _%_, _^_, _≤_, _<_}
+use Prim.Native.Nat.{ℕ, _+_, _*_, _%_, _≤_, _<_}
 use native.Mathlib.Omega.{arith}
-use lib.Dec.{leb, eqb, T}
-use lib.ListN.{length, drop, take, length-append}
-use lib.Seq.{take-at, drop-at}
+use lib.Dec.{T}
+use lib.ListN.{length, drop, length-append}
+use lib.Seq.{drop-at}
 use lib.Ieee.{Float, binary32, binary64, fits}
 use borrow.Author.Tests.{le-leb, eq-eqb}
 use Rattle.rules.specs.declared.Bounds.{Bounds}
@@ -21,6 +21,25 @@ use Rattle.card.specs.Card.{tagOf, hasHead, lengthIn, fieldLength, isWho
 use Rattle.card.specs.Back.{FitEvent, FitBounds, commandOf}
 use Rattle.card.proofs.Fields.{and-false, step-in, linear-in, exponential-in, target-in, curve-in}
 
+-- ---- bytes behind others
+
+-- what f reads from a place on is the same behind other bytes
+abbrev Behind : {X : Type 0} → (List ℕ → ℕ → X) → Type 0
+Behind f = (bs cs : List ℕ) (at : ℕ) → f (bs ++ cs) (length bs + at) ≡ f cs at
+
+past : {X : Type 0} (f : List ℕ → ℕ → X) → Behind f → (front ys rest : List ℕ) {n : ℕ} → length front ≡ n → (at : ℕ) → f ((front ++ ys) ++ rest) (n + at) ≡ f (ys ++ rest) at
+past f b front ys rest {n} long at =
+    ap (λ (bs : List ℕ). f bs (n + at)) (append-assoc front ys rest) ∙ ap (λ (k : ℕ). f (front ++ (ys ++ rest)) (k + at)) (sym long) ∙ b front (ys ++ rest) at
+
+-- n floats, one behind the other
+abbrev several : ℕ → List ℕ → ℕ → List Float
+several n bs at = singlesAt bs at n
+
+several-behind : (n : ℕ) → Behind (several n)
+several-behind n bs cs at = singles-behind bs cs at n
+
+-- ---- a field
+
 module _ (tag : ℕ) (contents rest : List ℕ) where
   -- the three bytes ahead of the contents
   abbrev head : List ℕ
@@ -32,9 +51,6 @@ module _ (tag : ℕ) (contents rest : List ℕ) where
   head-long : length head ≡ 3
   head-long = rw (length-bytes 2 (length contents)) refl
 
-  split : field ≡ head ++ (contents ++ rest)
-  split = ap (λ (bs : List ℕ). tag ∷ bs) (append-assoc (bytesOf 2 (length contents)) contents rest)
-
   pub field-long : length (fieldOf tag contents) ≡ 3 + length contents
   field-long = simp length-append (omega (arith, length-bytes 2 (length contents)))
 
@@ -42,20 +58,9 @@ module _ (tag : ℕ) (contents rest : List ℕ) where
   unfolding tagOf
   written-tag = refl
 
-  pub single-contents : (at : ℕ) → singleAt field (3 + at) ≡ singleAt (contents ++ rest) at
-  single-contents at =
-      ap (λ (bs : List ℕ). singleAt bs (3 + at)) split ∙ ap (λ (n : ℕ). singleAt (head ++ (contents ++ rest)) (n + at)) (sym head-long)
-      ∙ single-behind head (contents ++ rest) at
-
-  pub double-contents : (at : ℕ) → doubleAt field (3 + at) ≡ doubleAt (contents ++ rest) at
-  double-contents at =
-      ap (λ (bs : List ℕ). doubleAt bs (3 + at)) split ∙ ap (λ (n : ℕ). doubleAt (head ++ (contents ++ rest)) (n + at)) (sym head-long)
-      ∙ double-behind head (contents ++ rest) at
-
-  pub singles-contents : (at n : ℕ) → singlesAt field (3 + at) n ≡ singlesAt (contents ++ rest) at n
-  singles-contents at n =
-      ap (λ (bs : List ℕ). singlesAt bs (3 + at) n) split ∙ ap (λ (k : ℕ). singlesAt (head ++ (contents ++ rest)) (k + at) n) (sym head-long)
-      ∙ singles-behind head (contents ++ rest) at n
+  -- what is read of the contents
+  in-contents : {X : Type 0} (f : List ℕ → ℕ → X) → Behind f → (at : ℕ) → f field (3 + at) ≡ f (contents ++ rest) at
+  in-contents f b at = past f b head contents rest head-long at
 
   module _ (small : length contents < 65536) where
     pub written-length : lengthIn field ≡ length contents
@@ -80,56 +85,41 @@ module _ (tag : ℕ) (contents rest : List ℕ) where
 
 -- ---- contents, number by number
 
+single-long : (v : Float) → length (singleBytes v) ≡ 4
+unfolding singleBytes
+single-long v = length-bytes 4 _
+
+double-long : (t : Float) → length (doubleBytes t) ≡ 8
+unfolding doubleBytes
+double-long t = length-bytes 8 _
+
 module _ (ys rest : List ℕ) where
-  module _ (v : Float) where
-    single-long : length (singleBytes v) ≡ 4
-    unfolding singleBytes
-    single-long = length-bytes 4 _
+  first-single : (v : Float) → T (fits binary32 v) → singleAt ((singleBytes v ++ ys) ++ rest) 0 ≡ v
+  first-single v h = ap (λ (bs : List ℕ). singleAt bs 0) (append-assoc (singleBytes v) ys rest) ∙ single-back v (ys ++ rest) h
 
-    first-single : T (fits binary32 v) → singleAt ((singleBytes v ++ ys) ++ rest) 0 ≡ v
-    first-single h = ap (λ (bs : List ℕ). singleAt bs 0) (append-assoc (singleBytes v) ys rest) ∙ single-back v (ys ++ rest) h
+  first-double : (t : Float) → T (fits binary64 t) → doubleAt ((doubleBytes t ++ ys) ++ rest) 0 ≡ t
+  first-double t h = ap (λ (bs : List ℕ). doubleAt bs 0) (append-assoc (doubleBytes t) ys rest) ∙ double-back t (ys ++ rest) h
 
-    single-then-single : (at : ℕ) → singleAt ((singleBytes v ++ ys) ++ rest) (4 + at) ≡ singleAt (ys ++ rest) at
-    single-then-single at =
-        ap (λ (bs : List ℕ). singleAt bs (4 + at)) (append-assoc (singleBytes v) ys rest)
-        ∙ ap (λ (n : ℕ). singleAt (singleBytes v ++ (ys ++ rest)) (n + at)) (sym single-long) ∙ single-behind (singleBytes v) (ys ++ rest) at
+  module _ {X : Type 0} (f : List ℕ → ℕ → X) (b : Behind f) where
+    past-single : (v : Float) (at : ℕ) → f ((singleBytes v ++ ys) ++ rest) (4 + at) ≡ f (ys ++ rest) at
+    past-single v at = past f b (singleBytes v) ys rest (single-long v) at
 
-    single-then-double : (at : ℕ) → doubleAt ((singleBytes v ++ ys) ++ rest) (4 + at) ≡ doubleAt (ys ++ rest) at
-    single-then-double at =
-        ap (λ (bs : List ℕ). doubleAt bs (4 + at)) (append-assoc (singleBytes v) ys rest)
-        ∙ ap (λ (n : ℕ). doubleAt (singleBytes v ++ (ys ++ rest)) (n + at)) (sym single-long) ∙ double-behind (singleBytes v) (ys ++ rest) at
-
-  module _ (t : Float) where
-    double-long : length (doubleBytes t) ≡ 8
-    unfolding doubleBytes
-    double-long = length-bytes 8 _
-
-    first-double : T (fits binary64 t) → doubleAt ((doubleBytes t ++ ys) ++ rest) 0 ≡ t
-    first-double h = ap (λ (bs : List ℕ). doubleAt bs 0) (append-assoc (doubleBytes t) ys rest) ∙ double-back t (ys ++ rest) h
-
-    double-then-double : (at : ℕ) → doubleAt ((doubleBytes t ++ ys) ++ rest) (8 + at) ≡ doubleAt (ys ++ rest) at
-    double-then-double at =
-        ap (λ (bs : List ℕ). doubleAt bs (8 + at)) (append-assoc (doubleBytes t) ys rest)
-        ∙ ap (λ (n : ℕ). doubleAt (doubleBytes t ++ (ys ++ rest)) (n + at)) (sym double-long) ∙ double-behind (doubleBytes t) (ys ++ rest) at
-
-    double-then-singles : (at n : ℕ) → singlesAt ((doubleBytes t ++ ys) ++ rest) (8 + at) n ≡ singlesAt (ys ++ rest) at n
-    double-then-singles at n =
-        ap (λ (bs : List ℕ). singlesAt bs (8 + at) n) (append-assoc (doubleBytes t) ys rest)
-        ∙ ap (λ (k : ℕ). singlesAt (doubleBytes t ++ (ys ++ rest)) (k + at) n) (sym double-long) ∙ singles-behind (doubleBytes t) (ys ++ rest) at n
+    past-double : (t : Float) (at : ℕ) → f ((doubleBytes t ++ ys) ++ rest) (8 + at) ≡ f (ys ++ rest) at
+    past-double t at = past f b (doubleBytes t) ys rest (double-long t) at
 
 -- ---- how long a field is
 
 pub value-long : (v t : Float) → length (singleBytes v ++ doubleBytes t) ≡ 12
-value-long v t = simp length-append (omega (arith, single-long [] [] v, double-long [] [] t))
+value-long v t = simp length-append (omega (arith, single-long v, double-long t))
 
 pub target-long : (v t c : Float) → length (singleBytes v ++ (doubleBytes t ++ doubleBytes c)) ≡ 20
-target-long v t c = simp length-append (omega (arith, single-long [] [] v, double-long [] [] t, double-long [] [] c))
+target-long v t c = simp length-append (omega (arith, single-long v, double-long t, double-long c))
 
 pub curve-long : (s d : Float) (xs : List Float) → length (doubleBytes s ++ (doubleBytes d ++ numbersBytes xs)) ≡ 16 + 4 * length xs
-curve-long s d xs = simp length-append (omega (arith, double-long [] [] s, double-long [] [] d, length-numbers xs))
+curve-long s d xs = simp length-append (omega (arith, double-long s, double-long d, length-numbers xs))
 
 pub bounds-long : (a b c : Float) → length (singleBytes a ++ (singleBytes b ++ singleBytes c)) ≡ 12
-bounds-long a b c = simp length-append (omega (arith, single-long [] [] a, single-long [] [] b, single-long [] [] c))
+bounds-long a b c = simp length-append (omega (arith, single-long a, single-long b, single-long c))
 
 -- ---- an event's field, read
 
@@ -137,10 +127,10 @@ module _ (rest : List ℕ) where
   -- a value and a time, behind any tag
   module _ (tag : ℕ) (v t : Float) (f : T (fits binary32 v) × T (fits binary64 t)) where
     value-of : singleAt (field tag (singleBytes v ++ doubleBytes t) rest) 3 ≡ v
-    value-of = single-contents tag (singleBytes v ++ doubleBytes t) rest 0 ∙ first-single (doubleBytes t) rest v (f .0)
+    value-of = in-contents tag (singleBytes v ++ doubleBytes t) rest singleAt single-behind 0 ∙ first-single (doubleBytes t) rest v (f .0)
 
     time-of : doubleAt (field tag (singleBytes v ++ doubleBytes t) rest) 7 ≡ t
-    time-of = double-contents tag (singleBytes v ++ doubleBytes t) rest 4 ∙ single-then-double (doubleBytes t) rest v 0 ∙ double-back t rest (f .1)
+    time-of = in-contents tag (singleBytes v ++ doubleBytes t) rest doubleAt double-behind 4 ∙ past-single (doubleBytes t) rest doubleAt double-behind v 0 ∙ double-back t rest (f .1)
 
   curve-numbers : (s d : Float) (xs : List Float) → length xs ≤ storeLength → numbersIn (field 5 (doubleBytes s ++ (doubleBytes d ++ numbersBytes xs)) rest) ≡ length xs
   unfolding numbersIn
@@ -159,16 +149,16 @@ module _ (rest : List ℕ) where
       exponential-in (field 3 (singleBytes v ++ doubleBytes t) rest) (written-tag 3 (singleBytes v ++ doubleBytes t) rest) ∙ rw (value-of 3 v t f, time-of 3 v t f) refl
   event-written (Event.Target v t c h) xs f g few =
       let contents : List ℕ = singleBytes v ++ (doubleBytes t ++ doubleBytes c) in
-      let value : singleAt (field 4 contents rest) 3 ≡ v = single-contents 4 contents rest 0 ∙ first-single (doubleBytes t ++ doubleBytes c) rest v (f .0) in
-      let time : doubleAt (field 4 contents rest) 7 ≡ t = double-contents 4 contents rest 4 ∙ single-then-double (doubleBytes t ++ doubleBytes c) rest v 0 ∙ first-double (doubleBytes c) rest t (f .1 .0) in
-      let constant : doubleAt (field 4 contents rest) 15 ≡ c = double-contents 4 contents rest 12 ∙ single-then-double (doubleBytes t ++ doubleBytes c) rest v 8 ∙ double-then-double (doubleBytes c) rest t 0 ∙ double-back c rest (f .1 .1) in
+      let value : singleAt (field 4 contents rest) 3 ≡ v = in-contents 4 contents rest singleAt single-behind 0 ∙ first-single (doubleBytes t ++ doubleBytes c) rest v (f .0) in
+      let time : doubleAt (field 4 contents rest) 7 ≡ t = in-contents 4 contents rest doubleAt double-behind 4 ∙ past-single (doubleBytes t ++ doubleBytes c) rest doubleAt double-behind v 0 ∙ first-double (doubleBytes c) rest t (f .1 .0) in
+      let constant : doubleAt (field 4 contents rest) 15 ≡ c = in-contents 4 contents rest doubleAt double-behind 12 ∙ past-single (doubleBytes t ++ doubleBytes c) rest doubleAt double-behind v 8 ∙ past-double (doubleBytes c) rest doubleAt double-behind t 0 ∙ double-back c rest (f .1 .1) in
       target-in (field 4 contents rest) (written-tag 4 contents rest) ∙ rw (value, time, constant) refl
   event-written (Event.Curve s d n h) xs f g few =
       let contents : List ℕ = doubleBytes s ++ (doubleBytes d ++ numbersBytes xs) in
       let many : numbersIn (field 5 contents rest) ≡ length xs = curve-numbers s d xs few in
-      let start : doubleAt (field 5 contents rest) 3 ≡ s = double-contents 5 contents rest 0 ∙ first-double (doubleBytes d ++ numbersBytes xs) rest s (f .0) in
-      let duration : doubleAt (field 5 contents rest) 11 ≡ d = double-contents 5 contents rest 8 ∙ double-then-double (doubleBytes d ++ numbersBytes xs) rest s 0 ∙ first-double (numbersBytes xs) rest d (f .1) in
-      let numbers : singlesAt (field 5 contents rest) 19 (length xs) ≡ xs = singles-contents 5 contents rest 16 (length xs) ∙ double-then-singles (doubleBytes d ++ numbersBytes xs) rest s 8 (length xs) ∙ double-then-singles (numbersBytes xs) rest d 0 (length xs) ∙ singles-back xs rest g in
+      let start : doubleAt (field 5 contents rest) 3 ≡ s = in-contents 5 contents rest doubleAt double-behind 0 ∙ first-double (doubleBytes d ++ numbersBytes xs) rest s (f .0) in
+      let duration : doubleAt (field 5 contents rest) 11 ≡ d = in-contents 5 contents rest doubleAt double-behind 8 ∙ past-double (doubleBytes d ++ numbersBytes xs) rest doubleAt double-behind s 0 ∙ first-double (numbersBytes xs) rest d (f .1) in
+      let numbers : singlesAt (field 5 contents rest) 19 (length xs) ≡ xs = in-contents 5 contents rest (several (length xs)) (several-behind (length xs)) 16 ∙ past-double (doubleBytes d ++ numbersBytes xs) rest (several (length xs)) (several-behind (length xs)) s 8 ∙ past-double (numbersBytes xs) rest (several (length xs)) (several-behind (length xs)) d 0 ∙ singles-back xs rest g in
       curve-in (field 5 contents rest) (written-tag 5 contents rest) ∙ rw (start, duration, many, numbers) refl
 
 -- ---- a field as it is judged
@@ -228,12 +218,12 @@ pub bounds-written : (b : Bounds) (rest : List ℕ) → FitBounds b → boundsIn
 unfolding rangeField boundsIn
 bounds-written b rest f =
     let contents : List ℕ = singleBytes (b .min) ++ (singleBytes (b .default) ++ singleBytes (b .max)) in
-    let min : singleAt (field 6 contents rest) 3 ≡ b .min = single-contents 6 contents rest 0 ∙ first-single (singleBytes (b .default) ++ singleBytes (b .max)) rest (b .min) (f .0) in
+    let min : singleAt (field 6 contents rest) 3 ≡ b .min = in-contents 6 contents rest singleAt single-behind 0 ∙ first-single (singleBytes (b .default) ++ singleBytes (b .max)) rest (b .min) (f .0) in
     let default : singleAt (field 6 contents rest) 7 ≡ b .default =
-    single-contents 6 contents rest 4 ∙ single-then-single (singleBytes (b .default) ++ singleBytes (b .max)) rest (b .min) 0 ∙ first-single (singleBytes (b .max)) rest (b .default) (f .1 .0) in
+    in-contents 6 contents rest singleAt single-behind 4 ∙ past-single (singleBytes (b .default) ++ singleBytes (b .max)) rest singleAt single-behind (b .min) 0 ∙ first-single (singleBytes (b .max)) rest (b .default) (f .1 .0) in
     let max : singleAt (field 6 contents rest) 11 ≡ b .max =
-    single-contents 6 contents rest 8 ∙ single-then-single (singleBytes (b .default) ++ singleBytes (b .max)) rest (b .min) 4
-    ∙ single-then-single (singleBytes (b .max)) rest (b .default) 0 ∙ single-back (b .max) rest (f .1 .1) in
+    in-contents 6 contents rest singleAt single-behind 8 ∙ past-single (singleBytes (b .default) ++ singleBytes (b .max)) rest singleAt single-behind (b .min) 4
+    ∙ past-single (singleBytes (b .max)) rest singleAt single-behind (b .default) 0 ∙ single-back (b .max) rest (f .1 .1) in
     rw (min, default, max) refl
 
 -- ---- a turn on it

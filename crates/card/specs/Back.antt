@@ -10,8 +10,6 @@ use Rattle.rules.specs.declared.MaybeTime.{MaybeTime}
 use Rattle.rules.specs.declared.MaybeTime.the-variants as MaybeTime
 use Rattle.rules.specs.declared.Bounds.{Bounds}
 use Rattle.rules.specs.declared.AutomationRate.{AutomationRate}
-use Rattle.rules.specs.declared.Edition.{Edition}
-use Rattle.rules.specs.declared.Edition.the-variants as Edition
 use Rattle.rules.specs.declared.Event.{Event}
 use Rattle.rules.specs.declared.Event.the-variants as Event
 use Rattle.rules.specs.Queue.{Waiting, filedUnder, eventsOf, packed, attached}
@@ -60,11 +58,6 @@ pub record Unplayed (p : Param) : Type 0 where
   pub sound : Sound p
   pub apart : areApart (p .queue) ≡ true
   pub new : p ≡ withQueue (p .queue) (fresh (p .bounds) (p .rate) (p .edition))
-
--- the number that an edition is made by
-unfoldable pub numberOfEdition : Edition → ℕ
-numberOfEdition Edition.First = 1
-numberOfEdition Edition.Second = 2
 
 -- ---- the reader behind the range and these events
 

@@ -40,9 +40,10 @@ faultNumber Fault.OutOfTurn = 28
 faultNumber (Fault.Own why) = numberOf why
 faultNumber Fault.NoRoom = 101
 
-unfoldable pub isKept : CardVerdict → Bool
-isKept CardVerdict.Answered = true
-isKept (CardVerdict.Refused f) = false
+-- "what the reader accepts"; of the writer, what it writes
+unfoldable pub isAccepted : CardVerdict → Bool
+isAccepted CardVerdict.Answered = true
+isAccepted (CardVerdict.Refused f) = false
 
 -- ---- a field: "one byte tag, two bytes length, low byte first, then that many bytes"; these are its bytes, and what is behind them
 
@@ -168,6 +169,7 @@ timeOf (curve t d xs) = t
 timeOf (cancel c) = c
 timeOf (hold c) = c
 
+-- "a time of −0"
 unfoldable pub isMinusZero : Float → Bool
 isMinusZero t = isZero t && not (isFromZero t)
 
@@ -223,18 +225,18 @@ pub record Reading : Type 0 where
 
 -- behind a field that is refused nothing is read
 abbrev pub stopped : List ℕ → Reader → Reading
-stopped bs r = record { reader = r; rest = cond (isKept (r .verdict)) bs [] }
+stopped bs r = record { reader = r; rest = cond (isAccepted (r .verdict)) bs [] }
 
 -- the complete fields in turn, up to one that is refused, and at most n
 unfoldable pub taken : ℕ → List ℕ → Reader → Reading
 taken zero bs r = stopped bs r
 taken (suc n) bs r =
     let more = taken n (drop (fieldLength bs) bs) (fieldTurn bs r) in
-    cond (isKept (r .verdict) && isWhole bs) more (stopped bs r)
+    cond (isAccepted (r .verdict) && isWhole bs) more (stopped bs r)
 
 -- one part more
 unfoldable pub fed : Reading → List ℕ → Reading
-fed s part = let bs = s .rest ++ part in cond (isKept (s .reader .verdict)) (taken (length bs) bs (s .reader)) s
+fed s part = let bs = s .rest ++ part in cond (isAccepted (s .reader .verdict)) (taken (length bs) bs (s .reader)) s
 
 -- the file's end: 22 "or none by the end (offset the length)"; what is left over is a field "cut short"
 unfoldable pub endTurn : List ℕ → Reader → Reader
@@ -242,7 +244,7 @@ endTurn [] r = cond (r .ranged) r (refusedBy Fault.Misplaced r)
 endTurn (b ∷ bs) r = fieldTurn (b ∷ bs) r
 
 unfoldable pub atEnd : Reading → Reader
-atEnd s = cond (isKept (s .reader .verdict)) (endTurn (s .rest) (s .reader)) (s .reader)
+atEnd s = cond (isAccepted (s .reader .verdict)) (endTurn (s .rest) (s .reader)) (s .reader)
 
 abbrev pub begun : AutomationRate → ℕ → Reading
 begun rate n = record { reader = opened rate n; rest = [] }
@@ -284,12 +286,15 @@ loaded r p store =
 
 -- ---- the writer
 
+-- tag, length, contents
 abbrev pub fieldOf : ℕ → List ℕ → List ℕ
 fieldOf tag contents = tag ∷ (bytesOf 2 (length contents) ++ contents)
 
+-- "minimum, default, maximum"
 unfoldable pub rangeField : Bounds → List ℕ
 rangeField b = fieldOf 6 (singleBytes (b .min) ++ (singleBytes (b .default) ++ singleBytes (b .max)))
 
+-- "in the order value, time, time constant or duration"; an event's own numbers are given beside it
 unfoldable pub eventField : Event → List Float → List ℕ
 eventField (Event.Step v t) xs = fieldOf 1 (singleBytes v ++ doubleBytes t)
 eventField (Event.Linear v t h) xs = fieldOf 2 (singleBytes v ++ doubleBytes t)
@@ -297,10 +302,12 @@ eventField (Event.Exponential v t h) xs = fieldOf 3 (singleBytes v ++ doubleByte
 eventField (Event.Target v t c h) xs = fieldOf 4 (singleBytes v ++ (doubleBytes t ++ doubleBytes c))
 eventField (Event.Curve s d n h) xs = fieldOf 5 (doubleBytes s ++ (doubleBytes d ++ numbersBytes xs))
 
+-- in queue order
 unfoldable pub fieldsOf : List Waiting → List ℕ
 fieldsOf [] = []
 fieldsOf (w ∷ ws) = eventField (w .event) (w .numbers) ++ fieldsOf ws
 
+-- "The range comes first and once"
 unfoldable pub fileOf : Bounds → List Waiting → List ℕ
 fileOf b ws = rangeField b ++ fieldsOf ws
 
@@ -308,6 +315,7 @@ unfoldable pub hasHold : MaybeTime → Bool
 hasHold MaybeTime.Missing = false
 hasHold (MaybeTime.At c) = true
 
+-- "a held event"; a step is never one
 unfoldable pub isHeld : Event → Bool
 isHeld (Event.Step v t) = false
 isHeld (Event.Linear v t h) = hasHold h
@@ -348,7 +356,7 @@ writtenTo out file =
     (record { says = record { verdict = CardVerdict.Refused Fault.NoRoom; at = length file }; out = out })
 
 unfoldable pub savedAs : Judged → List ℕ → List ℕ → Saved
-savedAs j out file = cond (isKept (j .verdict)) (writtenTo out file) (record { says = j; out = out })
+savedAs j out file = cond (isAccepted (j .verdict)) (writtenTo out file) (record { says = j; out = out })
 
 -- over what the slice held
 unfoldable pub saved : Param → List Float → List ℕ → Saved

@@ -1,6 +1,6 @@
 // A schedule file for the memory card (02, C-11): its rules (specs/) and what follows from them (proofs/). Here is what a call says of a file.
 ghost use mathlib.Core.Path.{_≡_};
-ghost use Rattle.card.specs.Card.{faultNumber, isKept};
+ghost use Rattle.card.specs.Card.{faultNumber, isAccepted};
 use rules::Refusal;
 
 // Why a file is refused, or a schedule that is to be written.
@@ -47,8 +47,8 @@ pub fn number_of(fault: Fault) -> u8
     }
 }
 
-pub fn is_kept(verdict: CardVerdict) -> bool
-    ensures { λ r. ⌜ r ≡ isKept verdict ⌝ }
+pub fn is_accepted(verdict: CardVerdict) -> bool
+    ensures { λ r. ⌜ r ≡ isAccepted verdict ⌝ }
 {
     match verdict {
         CardVerdict::Answered => true,

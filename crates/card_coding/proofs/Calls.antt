@@ -16,8 +16,9 @@ use Rattle.rules.specs.Block.{Param}
 use Rattle.laws.proofs.Tests.{clash, and}
 use Rattle.param.specs.declared.Outcome.{Outcome}
 use Rattle.coding.specs.Coding.{stateOf, Decodes}
+use Rattle.coding.proofs.Read.{answered-state, refused-state}
 use Rattle.card.specs.declared.Judged.{Judged}
-use Rattle.card.specs.Card.{isKept, isWhole, hasHead, Reader, Reading, opened, begun, fed, Saved, saved}
+use Rattle.card.specs.Card.{isAccepted, isWhole, hasHead, Reader, Reading, opened, begun, fed, Saved, saved}
 use Rattle.card.proofs.Fields.{and-false}
 use Rattle.card_reader.specs.declared.CardReader.{CardReader}
 use Rattle.card_reader.specs.declared.Fed.{Fed}
@@ -25,7 +26,6 @@ use Rattle.card_reader.specs.Reader.{readingOf, windowLength, partLength, Sound
 use Rattle.card_writer.specs.Writer.{Saves}
 use Rattle.card_coding.specs.Array.{cardLength, stateIn, isGoing, readingIn, isCard, headWords, cardOf, Keeps, Numbers, ReadsCard, PutsCard}
 use Rattle.card_coding.specs.Calls.{badCard, longPart, written, WritesCard, begunTold, OpensCard, partTold, HearsCard}
-use Rattle.card_coding.proofs.States.{opened as state-opened, shut}
 use Rattle.card_coding.proofs.Kept.{kept-zero, keeps, card-is}
 
 -- ---- writing
@@ -33,12 +33,12 @@ use Rattle.card_coding.proofs.Kept.{kept-zero, keeps, card-is}
 module _ {s : List ℕ} {d : Outcome} (x : Decodes s d) {store : List Float} {out : List ℕ} {at : ℕ} where
   pub writes-bad : {why : Refusal} → d .verdict ≡ Verdict.Refused why → WritesCard s store out at badCard out at
   unfolding written
-  writes-bad h = record { says = rw (shut x h) }
+  writes-bad h = record { says = rw (refused-state x h) }
 
   pub writes : {j : Judged} {after : List ℕ} {n : ℕ} → d .verdict ≡ Verdict.Answered → Saves (d .param) store out j after → Numbers (j .verdict) n → WritesCard s store out at n after (j .at)
   unfolding written
   writes h w n =
-      let o = state-opened x h in
+      let o = answered-state x h in
       let e = w .saved ∙ ap (λ (p : Param). saved p store out) (o .1) in
       record { says = rw (o .0, n .is) (ap (λ (k : Saved). written true k at out) e) }
 
@@ -69,7 +69,7 @@ module _ (card : List ℕ) (numbers : List Float) (rate : AutomationRate) (editi
         record {
           long = long;
           room = rw (o .held) (omega arith);
-          waits = rw (o .held) (and-false (isKept (r .verdict)));
+          waits = rw (o .held) (and-false (isAccepted (r .verdict)));
         }
 
     reads-begun : (window : List ℕ) → readingOf r left window ≡ begun rate edition
@@ -102,7 +102,7 @@ module _ (card : List ℕ) (numbers : List Float) (window part : List ℕ) where
     unfolding partTold
     hears-long m = record { says = rw (good, lt-leb (length part) partLength m); rests = λ _. refl; stays = λ t. t; keeps = λ s l k. absurd (omega (arith, l, m)) }
 
-    refused : (s : Reading) → Keeps card numbers window s → (getD card 1 0 ≡ 0 → ⊥) → isKept (s .reader .verdict) ≡ false
+    refused : (s : Reading) → Keeps card numbers window s → (getD card 1 0 ≡ 0 → ⊥) → isAccepted (s .reader .verdict) ≡ false
     refused s k z = sym (kept-zero (s .reader .verdict)) ∙ ap (λ (n : ℕ). eqb n 0) (sym (k .number)) ∙ ne-eqb _ 0 z
 
     pub hears-refused : length part ≤ partLength → (getD card 1 0 ≡ 0 → ⊥) → HearsCard card numbers window part 0 card numbers window
@@ -115,7 +115,7 @@ module _ (card : List ℕ) (numbers : List Float) (window part : List ℕ) where
           keeps = λ s m k. rw (fed-refused s (refused s k z)) k;
         }
       where
-        fed-refused : (s : Reading) → isKept (s .reader .verdict) ≡ false → fed s part ≡ s
+        fed-refused : (s : Reading) → isAccepted (s .reader .verdict) ≡ false → fed s part ≡ s
         fed-refused s e = rw e
 
     module _ (l : length part ≤ partLength) (z : getD card 1 0 ≡ 0) {r q : CardReader} (x : ReadsCard card r) {left : List Float} {over : List ℕ}

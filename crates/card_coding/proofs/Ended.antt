@@ -15,22 +15,22 @@ use Rattle.laws.proofs.Tests.{never, clash, and}
 use Rattle.param.specs.Param.{paramOf}
 use Rattle.param.proofs.Calls.{struct-back}
 use Rattle.coding.specs.Coding.{stateLength, isState, paramIn, stateOf, Encodes}
+use Rattle.coding.proofs.Read.{reads-back}
 use Rattle.card.specs.declared.CardVerdict.{CardVerdict}
 use Rattle.card.specs.declared.CardVerdict.the-variants as CardVerdict
 use Rattle.card.specs.declared.Judged.{Judged}
-use Rattle.card.specs.Card.{faultNumber, isKept, Reader, Reading, atEnd, Loaded, loadedAs, badStore, loaded}
+use Rattle.card.specs.Card.{faultNumber, isAccepted, Reader, Reading, atEnd, Loaded, loadedAs, badStore, loaded}
 use Rattle.card.proofs.Fields.{and-false}
 use Rattle.card_reader.specs.declared.CardReader.{CardReader}
 use Rattle.card_reader.specs.declared.Loaded as code
 use Rattle.card_reader.specs.Reader.{readingOf, Loads}
 use Rattle.card_coding.specs.Array.{verdictNumber, isGoing, readingIn, isCard, Keeps, Numbers, ReadsCard}
 use Rattle.card_coding.specs.Calls.{badCard, Ended, endedAs, refusedEnd, ended, EndsCard}
-use Rattle.card_coding.proofs.States.{reads-back}
 use Rattle.card_coding.proofs.Kept.{kept-zero}
 
 -- the caller's parameter is given back only where nothing is written over it
 same-end : (q : Reader) (p o : Param) (store : List Float) (state : List ℕ) → endedAs (loaded q p store) state ≡ endedAs (loaded q o store) state
-unfolding endedAs loaded loadedAs isKept
+unfolding endedAs loaded loadedAs isAccepted
 same-end q p o store state = go (eqb (length store) storeLength) (q .verdict)
   where
     go : (b : Bool) (v : CardVerdict)
@@ -41,11 +41,11 @@ same-end q p o store state = go (eqb (length store) storeLength) (q .verdict)
     go false v = refl
 
 -- and where the file is answered the parameter is the file's, whatever the caller's is
-same-given : (q : Reader) (p o : Param) (store : List Float) → isKept (loaded q p store .says .verdict) ≡ true → loaded q p store .param ≡ loaded q o store .param
-unfolding loaded loadedAs isKept
+same-given : (q : Reader) (p o : Param) (store : List Float) → isAccepted (loaded q p store .says .verdict) ≡ true → loaded q p store .param ≡ loaded q o store .param
+unfolding loaded loadedAs isAccepted
 same-given q p o store h = go (eqb (length store) storeLength) (q .verdict) h
   where
-    go : (b : Bool) (v : CardVerdict) → isKept (cond b (loadedAs v q p store) (record { says = badStore; param = p; store = store }) .says .verdict) ≡ true
+    go : (b : Bool) (v : CardVerdict) → isAccepted (cond b (loadedAs v q p store) (record { says = badStore; param = p; store = store }) .says .verdict) ≡ true
         → cond b (loadedAs v q p store) (record { says = badStore; param = p; store = store }) .param
         ≡ cond b (loadedAs v q o store) (record { says = badStore; param = o; store = store }) .param
     go true CardVerdict.Answered k = refl
@@ -71,7 +71,7 @@ module _ (card : List ℕ) (numbers : List Float) (window : List ℕ) (before : 
 
   module _ (good : isCard card numbers window ≡ true) (long : length (before .state) ≡ stateLength) where
     pub ends-no-store : (length (before .store) ≡ storeLength → ⊥) → EndsCard card numbers window before (record { number = 14; at = 0; state = before .state; store = before .store })
-    unfolding ended refusedEnd endedAs loaded isKept verdictNumber faultNumber numberOf
+    unfolding ended refusedEnd endedAs loaded isAccepted verdictNumber faultNumber numberOf
     ends-no-store h =
         record {
           says = rw (good, eq-eqb (length (before .state)) stateLength long) (go (isGoing card));
@@ -87,7 +87,7 @@ module _ (card : List ℕ) (numbers : List Float) (window : List ℕ) (before : 
 
     pub ends-refused : length (before .store) ≡ storeLength → (getD card 1 0 ≡ 0 → ⊥)
         → EndsCard card numbers window before (record { number = getD card 1 0; at = getD card 2 0; state = before .state; store = before .store })
-    unfolding ended refusedEnd isGoing endedAs loaded loadedAs atEnd isKept verdictNumber
+    unfolding ended refusedEnd isGoing endedAs loaded loadedAs atEnd isAccepted verdictNumber
     ends-refused same h =
         record {
           says = rw (good, eq-eqb (length (before .state)) stateLength long, ne-eqb (getD card 1 0) 0 h, eq-eqb (length (before .store)) storeLength same);
@@ -110,13 +110,13 @@ module _ (card : List ℕ) (numbers : List Float) (window : List ℕ) (before : 
       param-is : paramOf (l .param) ≡ whole .param
       param-is = ap paramOf (y .param) ∙ struct-back (whole .param)
 
-      ends-as : {after : List ℕ} → after ≡ cond (isKept (l .says .verdict)) (stateOf (paramOf (l .param)) (before .state)) (before .state)
+      ends-as : {after : List ℕ} → after ≡ cond (isAccepted (l .says .verdict)) (stateOf (paramOf (l .param)) (before .state)) (before .state)
           → record { number = n; at = l .says .at; state = after; store = left } ≡ endedAs (loaded (atEnd (readingIn card numbers window)) (paramIn (before .state)) (before .store)) (before .state)
       unfolding endedAs
       ends-as {after} a =
-          let state : after ≡ cond (isKept (whole .says .verdict)) (stateOf (whole .param) (before .state)) (before .state) =
-          a ∙ ap (λ (p : Param). cond (isKept (l .says .verdict)) (stateOf p (before .state)) (before .state)) param-is
-          ∙ ap (λ (v : CardVerdict). cond (isKept v) (stateOf (whole .param) (before .state)) (before .state)) (ap (λ (j : Judged). j .verdict) (y .says)) in
+          let state : after ≡ cond (isAccepted (whole .says .verdict)) (stateOf (whole .param) (before .state)) (before .state) =
+          a ∙ ap (λ (p : Param). cond (isAccepted (l .says .verdict)) (stateOf p (before .state)) (before .state)) param-is
+          ∙ ap (λ (v : CardVerdict). cond (isAccepted v) (stateOf (whole .param) (before .state)) (before .state)) (ap (λ (j : Judged). j .verdict) (y .says)) in
           let number : n ≡ verdictNumber (whole .says .verdict) = m .is ∙ ap (λ (j : Judged). verdictNumber (j .verdict)) (y .says) in
           let at : l .says .at ≡ whole .says .at = ap (λ (j : Judged). j .at) (y .says) in
           let is : record { number = n; at = l .says .at; state = after; store = left } ≡ endedAs whole (before .state) = rw (number, at, state, y .left) in
@@ -128,7 +128,7 @@ module _ (card : List ℕ) (numbers : List Float) (window : List ℕ) (before : 
       abbrev Given : List ℕ → Type 0
       Given after = n ≡ 0 → (isState after ≡ true) × (paramIn after ≡ loaded (atEnd (readingIn card numbers window)) (paramIn (before .state)) (before .store) .param)
 
-      ends : {after : List ℕ} → after ≡ cond (isKept (l .says .verdict)) (stateOf (paramOf (l .param)) (before .state)) (before .state) → Given after
+      ends : {after : List ℕ} → after ≡ cond (isAccepted (l .says .verdict)) (stateOf (paramOf (l .param)) (before .state)) (before .state) → Given after
           → EndsCard card numbers window before (record { number = n; at = l .says .at; state = after; store = left })
       unfolding ended isGoing
       ends a b =
@@ -141,7 +141,7 @@ module _ (card : List ℕ) (numbers : List Float) (window : List ℕ) (before : 
 
       pub ends-kept : {after : List ℕ} → n ≡ 0 → Encodes (l .param) (before .state) after → EndsCard card numbers window before (record { number = n; at = l .says .at; state = after; store = left })
       ends-kept h e =
-          let kept : isKept (l .says .verdict) ≡ true = sym (kept-zero (l .says .verdict)) ∙ eq-eqb _ 0 (sym (m .is) ∙ h) in
+          let kept : isAccepted (l .says .verdict) ≡ true = sym (kept-zero (l .says .verdict)) ∙ eq-eqb _ 0 (sym (m .is) ∙ h) in
           let back = reads-back (y .sound) long e in
           let same-param = same-given (atEnd (readingOf r numbers window)) (paramOf (r .param)) (paramIn (before .state)) (before .store) (rw (y .says) at kept) in
           let is = ap (λ (q : CardReader). loaded (atEnd (readingOf q numbers window)) (paramIn (before .state)) (before .store) .param) (x .is) in
@@ -149,5 +149,5 @@ module _ (card : List ℕ) (numbers : List Float) (window : List ℕ) (before : 
 
       pub ends-left : (n ≡ 0 → ⊥) → EndsCard card numbers window before (record { number = n; at = l .says .at; state = before .state; store = left })
       ends-left h =
-          let kept : isKept (l .says .verdict) ≡ false = sym (kept-zero (l .says .verdict)) ∙ ne-eqb _ 0 (λ e. h (m .is ∙ e)) in
+          let kept : isAccepted (l .says .verdict) ≡ false = sym (kept-zero (l .says .verdict)) ∙ ne-eqb _ 0 (λ e. h (m .is ∙ e)) in
           ends (rw kept) (λ e. absurd (h e))

@@ -6,11 +6,11 @@ use Prim.Native.Nat.{ℕ, _-_, _≤_, _<_}
 use native.Mathlib.Omega.{arith}
 use lib.Dec.{leb, eqb}
 use lib.ListN.{length, getD, take, drop, drop-of-length-le, length-append, length-drop}
-use lib.Seq.{sets, sets-eq, length-take-le, take-all}
+use lib.Seq.{sets, sets-eq, length-take-le}
 use lib.Ieee.{Float}
+use borrow.Rule.Slice.PartAt.{part-to-end}
 use borrow.Author.Tests.{leb-true, eqb-true, le-leb, eq-eqb, ne-eqb, not-true}
 use Rattle.rules.specs.declared.AutomationRate.{AutomationRate}
-use Rattle.rules.specs.declared.AutomationRate.the-variants as Rate
 use Rattle.rules.specs.declared.MaybeTime.{MaybeTime}
 use Rattle.rules.specs.declared.Verdict.the-variants as Verdict
 use Rattle.rules.specs.declared.Refusal.{Refusal}
@@ -23,15 +23,16 @@ use Rattle.param.specs.declared.Outcome.{Outcome}
 use Rattle.param.specs.Param.{paramOf, structOf, SoundParam}
 use Rattle.param.proofs.Calls.{struct-back}
 use Rattle.coding.specs.Coding.{stateLength, isState, paramIn, stateOf, timeIn, rateIn, flagOf, rateWord, TimeBits, Decodes, Encodes}
+use Rattle.coding.proofs.Written.{rate-back}
+use Rattle.coding.proofs.Read.{accepted-long, reads-back, answered-state, refused-state}
 use Rattle.card.specs.declared.Fault.{Fault}
 use Rattle.card.specs.declared.Fault.the-variants as Fault
 use Rattle.card.specs.declared.CardVerdict.{CardVerdict}
 use Rattle.card.specs.declared.CardVerdict.the-variants as CardVerdict
-use Rattle.card.specs.Card.{faultNumber, isKept, isWhole, Reading}
+use Rattle.card.specs.Card.{faultNumber, isAccepted, isWhole, Reading}
 use Rattle.card_reader.specs.declared.CardReader.{CardReader}
 use Rattle.card_reader.specs.Reader.{readerOf, readingOf, windowLength, SoundReader, SoundWindow}
 use Rattle.card_coding.specs.Array.{cardHead, cardLength, cardVersion, verdictNumber, bitOf, stateIn, isGoing, isRanged, readerIn, areLong, isHead, isWaiting, bytesCounted, isCounted, isCard, headWords, cardOf, Keeps, Numbers, ReadsCard, PutsHead, PutsCard}
-use Rattle.card_coding.proofs.States.{accepted-long, reads-back, opened, shut}
 
 -- ---- numbers
 
@@ -64,8 +65,8 @@ fault-number (Fault.Own why) h = refusal-number why h
 fault-number Fault.NoRoom h = omega (arith, h)
 
 -- 0 is the number of what is not refused
-pub kept-zero : (v : CardVerdict) → eqb (verdictNumber v) 0 ≡ isKept v
-unfolding verdictNumber isKept
+pub kept-zero : (v : CardVerdict) → eqb (verdictNumber v) 0 ≡ isAccepted v
+unfolding verdictNumber isAccepted
 kept-zero CardVerdict.Answered = refl
 kept-zero (CardVerdict.Refused f) = ne-eqb (faultNumber f) 0 (fault-number f)
 
@@ -111,22 +112,18 @@ state-good card h = both (isState (stateIn card)) _ h .0
 
 -- ---- what is read
 
--- what stands behind the head
-rest-all : (card : List ℕ) → take (length card - cardHead) (drop cardHead card) ≡ stateIn card
-rest-all card = take-all (length card - cardHead) (drop cardHead card) (simp length-drop (omega arith))
-
 pub decoded : (card : List ℕ) {d : Outcome} → Decodes (take (length card - cardHead) (drop cardHead card)) d → Decodes (stateIn card) d
-decoded card x = rw (rest-all card) at x
+decoded card x = rw (part-to-end card cardHead) at x
 
 pub uncounted : (card : List ℕ) {d : Outcome} {why : Refusal} → Decodes (take (length card - cardHead) (drop cardHead card)) d → d .verdict ≡ Verdict.Refused why → false ≡ isCounted card
 unfolding isCounted
-uncounted card x h = rw (shut (decoded card x) h)
+uncounted card x h = rw (refused-state (decoded card x) h)
 
 pub counted : (card : List ℕ) {d : Outcome} {n most : ℕ} → Decodes (take (length card - cardHead) (drop cardHead card)) d → d .verdict ≡ Verdict.Answered
     → n ≡ length (paramOf (d .param) .queue) → most ≡ bytesCounted (not (eqb (getD card 6 0) 0)) n → leb (getD card 2 0) most ≡ isCounted card
 unfolding isCounted isRanged
 counted card x h en em =
-    let o = opened (decoded card x) h in
+    let o = answered-state (decoded card x) h in
     rw (o .0) (ap (leb (getD card 2 0)) (em ∙ ap (bytesCounted (not (eqb (getD card 6 0) 0))) (en ∙ ap (λ (p : Param). length (p .queue)) (o .1))))
 
 given : {s : List ℕ} {d : Outcome} → Decodes s d → isState s ≡ true → d .param ≡ structOf (paramIn s)
@@ -150,7 +147,7 @@ module _ {card : List ℕ} {numbers : List Float} {window : List ℕ} (g : Passe
       rw (x .is) (record { param = rw (x .is) at (x .sound); long = g .numbers-long; counted = rw q most })
 
   pub window-sound : SoundWindow r window
-  unfolding isWaiting isGoing isKept
+  unfolding isWaiting isGoing isAccepted
   window-sound =
       let waits : (eqb (getD card 1 0) 0 && isWhole (take (getD card 3 0) window)) ≡ false = not-true _ (g .waiting) in
       rw (x .is) (record { long = g .window-long; room = held-room card (g .head); waits = rw (eq-eqb _ 0 z) at waits })
@@ -176,7 +173,7 @@ module _ {card mid : List ℕ} {r : CardReader} (long : length card ≡ cardLeng
   mid-long = ap length (h .is) ∙ simp (length-append, length-drop) (omega arith)
 
   mid-state : take (length mid - cardHead) (drop cardHead mid) ≡ stateIn card
-  mid-state = rest-all mid ∙ ap (drop cardHead) (h .is)
+  mid-state = part-to-end mid cardHead ∙ ap (drop cardHead) (h .is)
 
   state-long : length (stateIn card) ≡ stateLength
   state-long = simp length-drop (omega arith)
@@ -198,11 +195,6 @@ module _ {card mid : List ℕ} {r : CardReader} (long : length card ≡ cardLeng
       }
 
 -- ---- what is written is kept
-
-rate-back : (r : AutomationRate) → rateIn (rateWord r) ≡ r
-unfolding rateIn rateWord
-rate-back Rate.A = refl
-rate-back Rate.K = refl
 
 bit-back : (b : Bool) → not (eqb (bitOf b) 0) ≡ b
 unfolding bitOf

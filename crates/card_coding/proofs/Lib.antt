@@ -1,4 +1,3 @@
-pub mod States
 pub mod Kept
 pub mod Calls
 pub mod Ended

@@ -10,7 +10,7 @@ use lib.Ieee.{Float}
 use Rattle.rules.specs.declared.AutomationRate.{AutomationRate}
 use Rattle.rules.specs.Numbers.{storeLength}
 use Rattle.coding.specs.Coding.{stateLength, isState, paramIn, stateOf}
-use Rattle.card.specs.Card.{isKept, Reading, begun, fed, atEnd, Loaded, badStore, loaded, Saved, saved}
+use Rattle.card.specs.Card.{isAccepted, Reading, begun, fed, atEnd, Loaded, badStore, loaded, Saved, saved}
 use Rattle.card_reader.specs.Reader.{windowLength, partLength}
 use Rattle.card_coding.specs.Array.{cardLength, verdictNumber, isGoing, readingIn, isCard, cardOf, Keeps}
 
@@ -88,7 +88,7 @@ endedAs k state =
     record {
       number = verdictNumber (k .says .verdict);
       at = k .says .at;
-      state = cond (isKept (k .says .verdict)) (stateOf (k .param) state) state;
+      state = cond (isAccepted (k .says .verdict)) (stateOf (k .param) state) state;
       store = k .store;
     }
 

@@ -6,7 +6,7 @@ use native.Mathlib.Omega.{arith}
 use lib.ListN.{length, take}
 use lib.Ieee.{Float}
 use Rattle.rules.specs.declared.AutomationRate.{AutomationRate}
-use Rattle.card.specs.Card.{hasHead, isWhole, isKept, Reader, begun}
+use Rattle.card.specs.Card.{hasHead, isWhole, isAccepted, Reader, begun}
 use Rattle.card.proofs.Fields.{and-false}
 use Rattle.card_reader.specs.declared.CardReader.{CardReader}
 use Rattle.card_reader.specs.Reader.{readingOf, windowLength, SoundWindow, Opens}
@@ -18,4 +18,4 @@ module _ {rate : AutomationRate} {n : ℕ} {r : CardReader} {numbers : List Floa
   -- any window is as good
   pub has-room : length window ≡ windowLength → SoundWindow r window
   unfolding isWhole hasHead
-  has-room long = record { long = long; room = omega (arith, opens .held); waits = rw (opens .held) (and-false (isKept (r .verdict))) }
+  has-room long = record { long = long; room = omega (arith, opens .held); waits = rw (opens .held) (and-false (isAccepted (r .verdict))) }

@@ -17,7 +17,7 @@ use Rattle.rules.specs.Refusals.{lowest, allFinite, curveRows}
 use Rattle.rules.specs.Block.{Param, Command, step, linear, exponential, target, curve, Called, called, scheduledAs, calledAs}
 use Rattle.laws.proofs.Events.{put-length, events-attached, events-inserted}
 use Rattle.laws.proofs.Rows.{curve-answered}
-use Rattle.laws.proofs.Answers.{refused-called}
+use Rattle.laws.proofs.Answers.{refused-called, unlent}
 use Rattle.param.specs.declared.AudioParam.{AudioParam}
 use Rattle.param.specs.declared.Outcome.{Outcome}
 use Rattle.param.specs.Param.{paramOf, structOf, SoundParam, Answers}
@@ -37,12 +37,6 @@ answers e verdict param left sound =
     }
 
 -- ---- a call that is not lent the store
-
--- it does the same whatever the store holds, and leaves it
-unlent : (v : Verdict) (p : Param) (s : List Float) (e : Event) → scheduledAs v p s e ≡ record { verdict = scheduledAs v p [] e .verdict; param = scheduledAs v p [] e .param; store = s }
-unfolding scheduledAs
-unlent Verdict.Answered p s e = refl
-unlent (Verdict.Refused why) p s e = refl
 
 module _ {p : AudioParam} {s : List Float} {r : Outcome} where
   beside : {c : Command} → called (paramOf p) s c ≡ record { verdict = called (paramOf p) [] c .verdict; param = called (paramOf p) [] c .param; store = s }

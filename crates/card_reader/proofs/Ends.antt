@@ -16,7 +16,7 @@ use Rattle.param.proofs.Calls.{whole}
 use Rattle.card.specs.declared.Fault.the-variants as Fault
 use Rattle.card.specs.declared.CardVerdict.{CardVerdict}
 use Rattle.card.specs.declared.CardVerdict.the-variants as CardVerdict
-use Rattle.card.specs.Card.{isKept, Reader, refusedBy, fieldTurn, endTurn, atEnd, Reading, badStore, loadedAs, loaded}
+use Rattle.card.specs.Card.{isAccepted, Reader, refusedBy, fieldTurn, endTurn, atEnd, Reading, badStore, loadedAs, loaded}
 use Rattle.card.specs.Card as card
 use Rattle.card_reader.specs.declared.CardReader.{CardReader}
 use Rattle.card_reader.specs.declared.Loaded.{Loaded}
@@ -24,20 +24,20 @@ use Rattle.card_reader.specs.Reader.{readerOf, SoundReader, ended, Loads
 
 -- ---- the last turn
 
-pub end-over : (bs : List ℕ) (r : Reader) → isKept (r .verdict) ≡ false → ended bs r ≡ r
+pub end-over : (bs : List ℕ) (r : Reader) → isAccepted (r .verdict) ≡ false → ended bs r ≡ r
 unfolding atEnd
 end-over bs r refused = rw refused
 
-pub end-field : (bs : List ℕ) (r : Reader) → isKept (r .verdict) ≡ true → 1 ≤ length bs → ended bs r ≡ fieldTurn bs r
+pub end-field : (bs : List ℕ) (r : Reader) → isAccepted (r .verdict) ≡ true → 1 ≤ length bs → ended bs r ≡ fieldTurn bs r
 unfolding atEnd endTurn
 end-field [] r kept some = absurd (omega arith)
 end-field (b ∷ bs) r kept some = rw kept
 
-pub end-done : (r : Reader) → isKept (r .verdict) ≡ true → r .ranged ≡ true → ended [] r ≡ r
+pub end-done : (r : Reader) → isAccepted (r .verdict) ≡ true → r .ranged ≡ true → ended [] r ≡ r
 unfolding atEnd endTurn
 end-done r kept ranged = rw (kept, ranged)
 
-pub end-unranged : (r : Reader) → isKept (r .verdict) ≡ true → r .ranged ≡ false → ended [] r ≡ refusedBy Fault.Misplaced r
+pub end-unranged : (r : Reader) → isAccepted (r .verdict) ≡ true → r .ranged ≡ false → ended [] r ≡ refusedBy Fault.Misplaced r
 unfolding atEnd endTurn
 end-unranged r kept unranged = rw (kept, unranged)
 
@@ -49,19 +49,19 @@ module _ (r : Reader) (p : Param) (store : List Float) where
   bad h = rw (ne-eqb (length store) storeLength h)
 
   module _ (long : length store ≡ storeLength) where
-    good : isKept (r .verdict) ≡ true → loaded r p store ≡ record { says = record { verdict = r .verdict; at = r .offset }; param = r .param; store = r .store }
-    unfolding loaded loadedAs isKept
+    good : isAccepted (r .verdict) ≡ true → loaded r p store ≡ record { says = record { verdict = r .verdict; at = r .offset }; param = r .param; store = r .store }
+    unfolding loaded loadedAs isAccepted
     good kept = rw (eq-eqb (length store) storeLength long) (go (r .verdict) kept)
       where
-        go : (v : CardVerdict) → isKept v ≡ true → loadedAs v r p store ≡ record { says = record { verdict = v; at = r .offset }; param = r .param; store = r .store }
+        go : (v : CardVerdict) → isAccepted v ≡ true → loadedAs v r p store ≡ record { says = record { verdict = v; at = r .offset }; param = r .param; store = r .store }
         go CardVerdict.Answered h = refl
         go (CardVerdict.Refused f) h = never h
 
-    faulty : isKept (r .verdict) ≡ false → loaded r p store ≡ record { says = record { verdict = r .verdict; at = r .offset }; param = p; store = store }
-    unfolding loaded loadedAs isKept
+    faulty : isAccepted (r .verdict) ≡ false → loaded r p store ≡ record { says = record { verdict = r .verdict; at = r .offset }; param = p; store = store }
+    unfolding loaded loadedAs isAccepted
     faulty refused = rw (eq-eqb (length store) storeLength long) (go (r .verdict) refused)
       where
-        go : (v : CardVerdict) → isKept v ≡ false → loadedAs v r p store ≡ record { says = record { verdict = v; at = r .offset }; param = p; store = store }
+        go : (v : CardVerdict) → isAccepted v ≡ false → loadedAs v r p store ≡ record { says = record { verdict = v; at = r .offset }; param = p; store = store }
         go CardVerdict.Answered h = never (sym h)
         go (CardVerdict.Refused f) h = refl
 
@@ -81,9 +81,9 @@ module _ {s : Reading} {p : AudioParam} {store : List Float} (sound : SoundParam
   loads-bad h = loads (bad (atEnd s) (paramOf p) store h) sound refl refl refl
 
   module _ (e : CardReader) (numbers : List Float) (end : readerOf e numbers ≡ atEnd s) (long : length store ≡ storeLength) where
-    pub loads-good : {after : List Float} → SoundReader e numbers → isKept (e .verdict) ≡ true → after ≡ numbers
+    pub loads-good : {after : List Float} → SoundReader e numbers → isAccepted (e .verdict) ≡ true → after ≡ numbers
         → Loads s p store (record { says = record { verdict = e .verdict; at = e .offset }; param = e .param }) after
     loads-good fine kept left = loads (ap (λ (r : Reader). loaded r (paramOf p) store) (sym end) ∙ good (readerOf e numbers) (paramOf p) store long kept) (fine .param) refl refl left
 
-    pub loads-refused : isKept (e .verdict) ≡ false → Loads s p store (record { says = record { verdict = e .verdict; at = e .offset }; param = p }) store
+    pub loads-refused : isAccepted (e .verdict) ≡ false → Loads s p store (record { says = record { verdict = e .verdict; at = e .offset }; param = p }) store
     loads-refused refused = loads (ap (λ (r : Reader). loaded r (paramOf p) store) (sym end) ∙ faulty (readerOf e numbers) (paramOf p) store long refused) sound refl refl refl

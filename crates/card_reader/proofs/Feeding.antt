@@ -10,7 +10,7 @@ use lib.Seq.{length-take-le, take-add, drop-at}
 use lib.Ieee.{Float}
 use Rattle.text.specs.Put.{put, Put}
 use Rattle.text.proofs.Writing.{put-front}
-use Rattle.card.specs.Card.{isKept, isWhole, Reading, taken, fed}
+use Rattle.card.specs.Card.{isAccepted, isWhole, Reading, taken, fed}
 use Rattle.card.proofs.Parts.{taken-none, fed-append}
 use Rattle.card_reader.specs.declared.CardReader.{CardReader}
 use Rattle.card_reader.specs.declared.Taken.{Taken}
@@ -39,11 +39,11 @@ module _ (window : List ℕ) (from to : ℕ) (ordered : from ≤ to) (inside : t
 -- ---- the rules
 
 -- no part: no field is whole, or one was refused
-pub fed-none : (s : Reading) → (isKept (s .reader .verdict) && isWhole (s .rest)) ≡ false → fed s [] ≡ s
+pub fed-none : (s : Reading) → (isAccepted (s .reader .verdict) && isWhole (s .rest)) ≡ false → fed s [] ≡ s
 unfolding fed
-fed-none s waits = go (isKept (s .reader .verdict)) refl
+fed-none s waits = go (isAccepted (s .reader .verdict)) refl
   where
-    go : (k : Bool) → isKept (s .reader .verdict) ≡ k → fed s [] ≡ s
+    go : (k : Bool) → isAccepted (s .reader .verdict) ≡ k → fed s [] ≡ s
     go true e = rw (e, append-nil (s .rest)) (taken-none (s .rest) (s .reader) waits ∙ rw e)
     go false e = rw e
 
@@ -57,7 +57,7 @@ fed-further s part {from} {to} ordered first next =
 -- ---- what a part does
 
 -- behind a field that is refused nothing is read
-pub feeds-nothing : {part : List ℕ} {r : CardReader} {numbers : List Float} {window : List ℕ} → isKept (r .verdict) ≡ false → SoundReader r numbers → SoundWindow r window
+pub feeds-nothing : {part : List ℕ} {r : CardReader} {numbers : List Float} {window : List ℕ} → isAccepted (r .verdict) ≡ false → SoundReader r numbers → SoundWindow r window
     → Feeds part r numbers window r numbers window
 unfolding fed
 feeds-nothing refused sound fits = record { reading = rw refused; sound = sound; fits = fits }
@@ -81,7 +81,7 @@ module _ {r : CardReader} {window part joint : List ℕ} {to : ℕ} (fits : Soun
   pub inside : (to ≤ length joint) × (length (take to joint) ≡ to)
   inside = let h : to ≤ length joint = omega (arith, p .place, same, fits .long, room) in (h, length-take-le to joint h)
 
-  pub feeds : {numbers after : List Float} {left : List ℕ} {t : Taken} {held : ℕ} → isKept (r .verdict) ≡ true → Takes r numbers (take to joint) t after
+  pub feeds : {numbers after : List Float} {left : List ℕ} {t : Taken} {held : ℕ} → isAccepted (r .verdict) ≡ true → Takes r numbers (take to joint) t after
       → (held ≡ to - t .used) × (left ≡ put joint 0 (take (to - t .used) (drop (t .used) joint))) → length left ≡ length joint
       → Feeds part r numbers window (holding held (t .reader)) after left
   unfolding fed

@@ -12,7 +12,7 @@ use Rattle.param.specs.declared.AudioParam.{AudioParam}
 use Rattle.param.specs.Param.{paramOf, structOf, SoundParam}
 use Rattle.card.specs.declared.Fault.{Fault}
 use Rattle.card.specs.declared.CardVerdict.the-variants as CardVerdict
-use Rattle.card.specs.Card.{tagOf, isTag, isWrong, isWhole, isKept, Reader, opened, Reading, taken, fed, atEnd}
+use Rattle.card.specs.Card.{tagOf, isTag, isWrong, isWhole, isAccepted, Reader, opened, Reading, taken, fed, atEnd}
 use Rattle.card.specs.Card as card
 use Rattle.card_reader.specs.declared.CardReader.{CardReader}
 use Rattle.card_reader.specs.declared.Taken.{Taken}
@@ -22,7 +22,7 @@ use Rattle.card_reader.specs.declared.Loaded.{Loaded}
 -- ---- fields
 
 -- a field that is whole, of a known tag and with the tag's length
-pub record Fits (bs : List ℕ) : Type 0 where
+pub record FieldFits (bs : List ℕ) : Type 0 where
   pub tag : isTag (tagOf bs) ≡ true
   pub right : isWrong bs ≡ false
   pub whole : isWhole bs ≡ true
@@ -65,7 +65,7 @@ pub record SoundReader (r : CardReader) (numbers : List Float) : Type 0 where
 pub record SoundWindow (r : CardReader) (window : List ℕ) : Type 0 where
   pub long : length window ≡ windowLength
   pub room : r .held < windowLength
-  pub waits : (isKept (r .verdict) && isWhole (take (r .held) window)) ≡ false
+  pub waits : (isAccepted (r .verdict) && isWhole (take (r .held) window)) ≡ false
 
 -- ---- what its functions ensure
 
@@ -116,7 +116,7 @@ ended rest r = atEnd (record { reader = r; rest = rest })
 pub record Takes (r : CardReader) (numbers : List Float) (bs : List ℕ) (t : Taken) (after : List Float) : Type 0 where
   pub reading : record { reader = readerOf (t .reader) after; rest = drop (t .used) bs } ≡ taken (length bs) bs (readerOf r numbers)
   pub inside : t .used ≤ length bs
-  pub stops : (isKept (t .reader .verdict) && isWhole (drop (t .used) bs)) ≡ false
+  pub stops : (isAccepted (t .reader .verdict) && isWhole (drop (t .used) bs)) ≡ false
   pub short : length bs - t .used < windowLength
   pub sound : SoundReader (t .reader) after
 

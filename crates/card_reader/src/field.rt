@@ -11,7 +11,7 @@ ghost use Rattle.rules.specs.Refusals.{allFinite, isEarlier};
 ghost use Rattle.param.specs.Param.{SoundParam, Answers};
 ghost use Rattle.words.specs.Words.{singlesAt};
 ghost use Rattle.card.specs.Card.{tagOf, isRange, hasHead, lengthIn, fieldLength, isWhole, isTag, fitsTag, isWrong, isMisplaced, boundsIn, eventIn, timeOf, isMinusZero, hasNoConstant, isOutOfTurn};
-ghost use Rattle.card_reader.specs.Reader.{Fits};
+ghost use Rattle.card_reader.specs.Reader.{FieldFits};
 use floats::is_finite32;
 use floats::is_zero64;
 use param::AudioParam;
@@ -108,7 +108,7 @@ pub fn bounds_in(bytes: &[u8]) -> Bounds
 
 // The time of an event's field.
 pub fn time_in(bytes: &[u8]) -> f64
-    requires { ⌜ Fits (now bytes) × (isRange (now bytes) ≡ false) ⌝ }
+    requires { ⌜ FieldFits (now bytes) × (isRange (now bytes) ≡ false) ⌝ }
     ensures { λ r. ⌜ r ≡ timeOf (eventIn (now (bytes .entry))) ⌝ }
 {
     let tag = bytes[0];
@@ -136,7 +136,7 @@ fn is_minus_zero(time: f64) -> bool
 
 // A target whose time constant is 0.
 fn has_no_constant(bytes: &[u8]) -> bool
-    requires { ⌜ Fits (now bytes) × (isRange (now bytes) ≡ false) ⌝ }
+    requires { ⌜ FieldFits (now bytes) × (isRange (now bytes) ≡ false) ⌝ }
     ensures { λ r. ⌜ r ≡ hasNoConstant (eventIn (now (bytes .entry))) ⌝ }
 {
     if bytes[0] == 4 {
@@ -148,7 +148,7 @@ fn has_no_constant(bytes: &[u8]) -> bool
 
 // An event earlier than the one before it, a time of -0, or a time constant of 0.
 pub fn is_out_of_turn(before: MaybeTime, bytes: &[u8]) -> bool
-    requires { ⌜ Fits (now bytes) × (isRange (now bytes) ≡ false) ⌝ }
+    requires { ⌜ FieldFits (now bytes) × (isRange (now bytes) ≡ false) ⌝ }
     ensures { λ r. ⌜ r ≡ isOutOfTurn before (eventIn (now (bytes .entry))) ⌝ }
 {
     let time = time_in(bytes);
@@ -193,7 +193,7 @@ fn schedule_long(p: AudioParam, start: f64, duration: f64, worst: f32, store: &m
 }
 
 fn schedule_curve(p: AudioParam, bytes: &[u8], store: &mut [f32]) -> Outcome
-    requires { ⌜ SoundParam p × Fits (now bytes) × (tagOf (now bytes) ≡ 5) ⌝ }
+    requires { ⌜ SoundParam p × FieldFits (now bytes) × (tagOf (now bytes) ≡ 5) ⌝ }
     ensures { λ r. ⌜ Answers p (now (store .entry)) (eventIn (now (bytes .entry))) r (now (store .exit)) ⌝ }
 {
     let start = double_at(bytes, 3);
@@ -210,7 +210,7 @@ fn schedule_curve(p: AudioParam, bytes: &[u8], store: &mut [f32]) -> Outcome
 
 // The event of a field, scheduled; a curve's numbers go into the store.
 pub fn schedule(p: AudioParam, bytes: &[u8], store: &mut [f32]) -> Outcome
-    requires { ⌜ SoundParam p × Fits (now bytes) × (isRange (now bytes) ≡ false) ⌝ }
+    requires { ⌜ SoundParam p × FieldFits (now bytes) × (isRange (now bytes) ≡ false) ⌝ }
     ensures { λ r. ⌜ Answers p (now (store .entry)) (eventIn (now (bytes .entry))) r (now (store .exit)) ⌝ }
 {
     let tag = bytes[0];

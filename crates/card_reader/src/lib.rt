@@ -7,12 +7,12 @@ ghost use lib.Dec.{leb};
 ghost use lib.ListN.{length, take};
 ghost use Rattle.rules.specs.Numbers.{storeLength};
 ghost use Rattle.param.specs.Param.{SoundParam};
-ghost use Rattle.card.specs.Card.{isKept, isWhole, isRange, contentsTurn, fieldTurn};
-ghost use Rattle.card_reader.specs.Reader.{Fits, readingOf, windowLength, partLength, SoundReader, SoundWindow, refusedReader, keptReader, Opens, Does, ended, Takes, Feeds, TakesPart, Loads};
+ghost use Rattle.card.specs.Card.{isAccepted, isWhole, isRange, contentsTurn, fieldTurn};
+ghost use Rattle.card_reader.specs.Reader.{FieldFits, readingOf, windowLength, partLength, SoundReader, SoundWindow, refusedReader, keptReader, Opens, Does, ended, Takes, Feeds, TakesPart, Loads};
 use card::CardVerdict;
 use card::Fault;
 use card::Judged;
-use card::is_kept;
+use card::is_accepted;
 use field::RANGE;
 use field::bounds_in;
 use field::field_length;
@@ -147,7 +147,7 @@ impl CardReader {
 
     // The range: as making a parameter.
     fn range_turn(self, bytes: &[u8], numbers: &[f32]) -> CardReader
-        requires { ⌜ SoundReader self (now numbers) × Fits (now bytes) × (isRange (now bytes) ≡ true) × (self .ranged ≡ false) ⌝ }
+        requires { ⌜ SoundReader self (now numbers) × FieldFits (now bytes) × (isRange (now bytes) ≡ true) × (self .ranged ≡ false) ⌝ }
         ensures { λ r. ⌜ Does (contentsTurn (now (bytes .entry))) self (now (numbers .entry)) r (now (numbers .entry)) ⌝ }
     {
         let rate = self.rate;
@@ -165,7 +165,7 @@ impl CardReader {
 
     // An event: as the call that it stands for.
     fn event_turn(self, bytes: &[u8], numbers: &mut [f32]) -> CardReader
-        requires { ⌜ SoundReader self (now numbers) × Fits (now bytes) × (isRange (now bytes) ≡ false) × (self .ranged ≡ true) ⌝ }
+        requires { ⌜ SoundReader self (now numbers) × FieldFits (now bytes) × (isRange (now bytes) ≡ false) × (self .ranged ≡ true) ⌝ }
         ensures { λ r. ⌜ Does (contentsTurn (now (bytes .entry))) self (now (numbers .entry)) r (now (numbers .exit)) ⌝ }
     {
         let before = self.before;
@@ -211,15 +211,15 @@ impl CardReader {
 
     // Whether the bytes begin with a field that is to be taken.
     fn goes_on(self, bytes: &[u8]) -> bool
-        ensures { λ r. ⌜ r ≡ (isKept (self .verdict) && isWhole (now (bytes .entry))) ⌝ }
+        ensures { λ r. ⌜ r ≡ (isAccepted (self .verdict) && isWhole (now (bytes .entry))) ⌝ }
     {
         let verdict = self.verdict;
-        is_kept(verdict) & is_whole(bytes)
+        is_accepted(verdict) & is_whole(bytes)
     }
 
     // The complete fields in turn, up to one that is refused.
     fn take_fields(self, bytes: &[u8], numbers: &mut [f32]) -> Taken
-        requires { ⌜ SoundReader self (now numbers) × (isKept (self .verdict) ≡ true) ⌝ }
+        requires { ⌜ SoundReader self (now numbers) × (isAccepted (self .verdict) ≡ true) ⌝ }
         ensures { λ r. ⌜ Takes self (now (numbers .entry)) (now (bytes .entry)) r (now (numbers .exit)) ⌝ }
     {
         let mut reader = self;
@@ -230,7 +230,7 @@ impl CardReader {
         }
         // behind a field that is refused nothing is read
         let verdict = reader.verdict;
-        if !is_kept(verdict) {
+        if !is_accepted(verdict) {
             used = bytes.len();
         }
         Taken { reader, used }
@@ -242,7 +242,7 @@ impl CardReader {
         ensures { λ r. ⌜ Feeds (now (part .entry)) self (now (numbers .entry)) (now (window .entry)) r (now (numbers .exit)) (now (window .exit)) ⌝ }
     {
         let verdict = self.verdict;
-        if !is_kept(verdict) {
+        if !is_accepted(verdict) {
             return self;
         }
         let to = put_word(window, self.held, part);
@@ -283,7 +283,7 @@ impl CardReader {
     {
         let held = self.held;
         let verdict = self.verdict;
-        if !is_kept(verdict) {
+        if !is_accepted(verdict) {
             return self;
         }
         if 0 < held {
@@ -320,7 +320,7 @@ impl CardReader {
             verdict,
             at: r.offset,
         };
-        if is_kept(verdict) {
+        if is_accepted(verdict) {
             curves::write(store, 0, &numbers[..]);
             let param = r.param;
             Loaded { says, param }

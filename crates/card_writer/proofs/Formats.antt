@@ -15,23 +15,12 @@ use Rattle.rules.proofs.Event as event-type
 use Rattle.timeline.specs.declared.AudioParamEvent.{AudioParamEvent}
 use Rattle.timeline.proofs.AudioParamEvent as slot-type
 use Rattle.words.specs.Words.{AreSingles}
+use Rattle.words.proofs.Bytes.{singles-take, singles-drop}
 use Rattle.param.specs.declared.AudioParam.{AudioParam}
 use Rattle.param.specs.Param.{paramOf}
 use Rattle.param.proofs.AudioParam as param-type
 use Rattle.card.specs.Back.{FitEvent, FitWaiting}
 use Rattle.card_writer.specs.Writer.{Printable}
-
-singles-take : (n : ℕ) (xs : List Float) → AreSingles xs → AreSingles (take n xs)
-unfolding AreSingles
-singles-take zero xs h = tt
-singles-take (suc n) [] h = tt
-singles-take (suc n) (x ∷ xs) h = (h .0, singles-take n xs (h .1))
-
-singles-drop : (n : ℕ) (xs : List Float) → AreSingles xs → AreSingles (drop n xs)
-unfolding AreSingles
-singles-drop zero xs h = h
-singles-drop (suc n) [] h = tt
-singles-drop (suc n) (x ∷ xs) h = singles-drop n xs (h .1)
 
 -- an event: behind its machine values and their equations, what is known of its fields, each its own value and that it fits
 event-fits : (e : Event) {vs : List Val} → Is event-type.the-row e vs → FitEvent e

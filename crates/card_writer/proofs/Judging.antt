@@ -17,7 +17,7 @@ use Rattle.laws.specs.Sound.{hasPlayed}
 use Rattle.laws.proofs.Tests.{never}
 use Rattle.card.specs.declared.CardVerdict.the-variants as CardVerdict
 use Rattle.card.specs.declared.Judged.{Judged}
-use Rattle.card.specs.Card.{isKept, rangeField, eventField, fieldsOf, fileOf, isUnwritable, badStore, unwritable, judgedFrom, judged}
+use Rattle.card.specs.Card.{isAccepted, rangeField, eventField, fieldsOf, fileOf, isUnwritable, badStore, unwritable, judgedFrom, judged}
 use Rattle.card.proofs.Bound.{range-size}
 use Rattle.card_writer.proofs.Parts.{fields-length, fields-over}
 
@@ -59,12 +59,12 @@ module _ {ws : List Waiting} {many i : ℕ} (l : Looked ws many i) where
     unfolding judgedFrom
     looked-more h n = record { sum = omega (arith, l .sum, fields-length here); left = λ j. l .left j ∙ rw (here, h, add-one i) }
 
-kept-from : (i : ℕ) (ws : List Waiting) (many : ℕ) → isKept (judgedFrom i ws many .verdict) ≡ true → judgedFrom i ws many ≡ fine many
-unfolding judgedFrom isKept
+kept-from : (i : ℕ) (ws : List Waiting) (many : ℕ) → isAccepted (judgedFrom i ws many .verdict) ≡ true → judgedFrom i ws many ≡ fine many
+unfolding judgedFrom isAccepted
 kept-from i [] many k = refl
 kept-from i (w ∷ ws) many k = go (isUnwritable w) (judgedFrom (suc i) ws many) (kept-from (suc i) ws many) k
   where
-    go : (b : Bool) (more : Judged) → (isKept (more .verdict) ≡ true → more ≡ fine many) → isKept (cond b (unwritable i) more .verdict) ≡ true → cond b (unwritable i) more ≡ fine many
+    go : (b : Bool) (more : Judged) → (isAccepted (more .verdict) ≡ true → more ≡ fine many) → isAccepted (cond b (unwritable i) more .verdict) ≡ true → cond b (unwritable i) more ≡ fine many
     go true more f k = never k
     go false more f k = f k
 
@@ -91,14 +91,14 @@ module _ (p : Param) (store : List Float) where
     judged-events h = rw (eq-eqb (length store) storeLength long, h)
 
   -- of what is not refused the bytes are said
-  pub kept : isKept (judged p store .verdict) ≡ true → judged p store ≡ fine bytes
-  unfolding judged isKept
+  pub kept : isAccepted (judged p store .verdict) ≡ true → judged p store ≡ fine bytes
+  unfolding judged isAccepted
   kept k = go (not (eqb (length store) storeLength)) (hasPlayed (p .lastBlock)) k
     where
       said : Bool → Bool → Judged
       said short played = cond short badStore (cond played (unwritable 0) (judgedFrom 0 ws bytes))
 
-      go : (short played : Bool) → isKept (said short played .verdict) ≡ true → said short played ≡ fine bytes
+      go : (short played : Bool) → isAccepted (said short played .verdict) ≡ true → said short played ≡ fine bytes
       go true played k = never k
       go false true k = never k
       go false false k = kept-from 0 ws bytes k

@@ -18,7 +18,7 @@ use Rattle.card.specs.declared.Fault.the-variants as Fault
 use Rattle.card.specs.declared.CardVerdict.{CardVerdict}
 use Rattle.card.specs.declared.CardVerdict.the-variants as CardVerdict
 use Rattle.card.specs.declared.Judged.{Judged}
-use Rattle.card.specs.Card.{isKept, rangeField, fieldsOf, fileOf, judged, Saved, writtenTo, savedAs, saved}
+use Rattle.card.specs.Card.{isAccepted, rangeField, fieldsOf, fileOf, judged, Saved, writtenTo, savedAs, saved}
 use Rattle.card.proofs.Back.{judged-lent}
 use Rattle.card.proofs.Bound.{range-size}
 use Rattle.card_writer.proofs.Judging.{fine, file-length, kept}
@@ -30,11 +30,11 @@ module _ (p : Param) (store : List Float) {j : Judged} (is : j ≡ judged p stor
   abbrev file : List ℕ
   file = fileOf (p .bounds) (attached (p .queue) store)
 
-  pub saved-not : (out : List ℕ) → isKept (j .verdict) ≡ false → record { says = j; out = out } ≡ saved p store out
+  pub saved-not : (out : List ℕ) → isAccepted (j .verdict) ≡ false → record { says = j; out = out } ≡ saved p store out
   unfolding saved savedAs
   saved-not out n = rw (← is, n)
 
-  module _ (k : isKept (j .verdict) ≡ true) where
+  module _ (k : isAccepted (j .verdict) ≡ true) where
     answer : judged p store ≡ fine (length file)
     answer = kept p store (rw is at k)
 

@@ -12,7 +12,7 @@ ghost use Rattle.card_writer.specs.Writer.{scheduleOf, Saves};
 use card::CardVerdict;
 use card::Fault;
 use card::Judged;
-use card::is_kept;
+use card::is_accepted;
 use param::AudioParam;
 use refusals::all_finite;
 use refusals::sound::has_played;
@@ -241,7 +241,7 @@ pub fn write(p: AudioParam, store: &[f32], out: &mut [u8]) -> Judged
 {
     let said = judge(p, store);
     let verdict = said.verdict;
-    if !is_kept(verdict) {
+    if !is_accepted(verdict) {
         return said;
     }
     let at = said.at;

@@ -5,27 +5,28 @@ use mathlib.Core.List.{List}
 use Prim.Native.Nat.{ℕ, _≤_, _<_}
 use native.Mathlib.Omega.{arith}
 use lib.Dec.{leb, eqb}
-use lib.ListN.{length, getD}
-use borrow.Author.Tests.{leb-true, le-leb, lt-leb, eq-eqb, ne-eqb}
+use lib.ListN.{length, getD, length-append, length-drop}
+use borrow.Author.Tests.{leb-true, le-leb, lt-leb, eqb-true, eq-eqb, ne-eqb}
 use Rattle.rules.specs.declared.Bounds.{Bounds}
 use Rattle.rules.specs.declared.AutomationRate.{AutomationRate}
 use Rattle.rules.specs.declared.AutomationRate.the-variants as Rate
-use Rattle.rules.specs.declared.Edition.{Edition}
-use Rattle.rules.specs.declared.Edition.the-variants as Edition
 use Rattle.rules.specs.declared.Event.{Event}
+use Rattle.rules.specs.declared.Refusal.{Refusal}
 use Rattle.rules.specs.declared.Verdict.the-variants as Verdict
 use Rattle.rules.specs.Numbers.{mostEvents}
 use Rattle.rules.specs.Refusals.{lowest, areBounds, isEdition, makingRows}
 use Rattle.rules.specs.Block.{Param, made, madeAs, withQueue}
 use Rattle.laws.specs.Sound.{Sound, isSound}
 use Rattle.laws.proofs.Tests.{both, and}
+use Rattle.laws.proofs.Editions.{edition-back}
 use Rattle.laws.proofs.Tested.{tested, passes-test}
 use Rattle.timeline.specs.declared.AudioParamEventTimeline.{AudioParamEventTimeline}
 use Rattle.param.specs.declared.AudioParam.{AudioParam}
 use Rattle.param.specs.declared.Outcome.{Outcome}
 use Rattle.param.specs.Param.{paramOf, structOf, SoundParam, Makes, unmade, partsOf, isWhole, Restores}
-use Rattle.param.proofs.Calls.{whole}
-use Rattle.coding.specs.Coding.{stateLength, stateVersion, isRate, rateWord, editionWord, paramIn, isState, stateOf, Queues, Decodes, Encodes}
+use Rattle.param.proofs.Calls.{whole, struct-back}
+use Rattle.coding.specs.Coding.{stateLength, stateVersion, isRate, rateWord, paramIn, isState, stateOf, Queues, Decodes, Encodes}
+use Rattle.coding.proofs.Words.{words-length}
 
 -- ---- refused
 
@@ -119,11 +120,7 @@ rate-in p s = go (p .rate)
 
 edition-in : (p : Param) (s : List ℕ) → isEdition (getD (stateOf p s) 5 0) ≡ true
 unfolding stateOf
-edition-in p s = go (p .edition)
-  where
-    go : (e : Edition) → isEdition (editionWord e) ≡ true
-    go Edition.First = unfold isEdition editionWord in refl
-    go Edition.Second = unfold isEdition editionWord in refl
+edition-in p s = edition-back (p .edition) .1
 
 pub encoded-accepted : {p : AudioParam} {s after : List ℕ} → SoundParam p → length after ≡ stateLength → Encodes p s after → isState after ≡ true
 unfolding isState
@@ -147,3 +144,42 @@ decoded-encoded {p} {s} {after} f long e d =
     d .gives ∙ ap (λ (b : Bool). cond b (record { verdict = Verdict.Answered; param = structOf (paramIn after) }) unmade) (encoded-accepted f long e)
     ∙ ap (λ (x : Param). record { verdict = Verdict.Answered; param = structOf x }) (e .back)
     ∙ ap (λ (x : AudioParam). record { verdict = Verdict.Answered; param = x }) (sym (whole p f))
+
+-- ---- the state of a parameter, written
+
+pub accepted-long : (s : List ℕ) → isState s ≡ true → length s ≡ stateLength
+unfolding isState
+accepted-long s h = eqb-true (length s) stateLength (both (eqb (length s) stateLength) _ h .0)
+
+pub written-long : (p : Param) (s : List ℕ) → length (p .queue) ≤ mostEvents → length s ≡ stateLength → length (stateOf p s) ≡ stateLength
+unfolding stateOf
+written-long p s few long = simp (length-append, length-drop) (omega (arith, words-length (p .queue)))
+
+module _ {p : AudioParam} {s after : List ℕ} (f : SoundParam p) (long : length s ≡ stateLength) (e : Encodes p s after) where
+  pub reads-back : (isState after ≡ true) × (paramIn after ≡ paramOf p)
+  reads-back = (encoded-accepted f (ap length (e .is) ∙ written-long (paramOf p) s (f .sound .waiting .few) long) e, e .back)
+
+-- ---- what a state gives
+
+module _ {s : List ℕ} {d : Outcome} (x : Decodes s d) where
+  pub answered-state : d .verdict ≡ Verdict.Answered → (isState s ≡ true) × (paramOf (d .param) ≡ paramIn s)
+  answered-state h = go (isState s) refl
+    where
+      go : (b : Bool) → isState s ≡ b → (b ≡ true) × (paramOf (d .param) ≡ paramIn s)
+      go true e =
+          let is : d ≡ record { verdict = Verdict.Answered; param = structOf (paramIn s) } = x .gives ∙ rw e in
+          (refl, ap (λ (o : Outcome). paramOf (o .param)) is ∙ struct-back (paramIn s))
+      go false e = let is : d ≡ unmade = x .gives ∙ rw e in let z : _≡_ {A = ℕ} 0 1 = cc in absurd (omega arith)
+
+  pub answered-long : d .verdict ≡ Verdict.Answered → length s ≡ stateLength
+  answered-long h = accepted-long s (answered-state h .0)
+
+  pub refused-state : {why : Refusal} → d .verdict ≡ Verdict.Refused why → isState s ≡ false
+  refused-state {why} h = go (isState s) refl
+    where
+      go : (b : Bool) → isState s ≡ b → b ≡ false
+      go false e = refl
+      go true e =
+          let is : d ≡ record { verdict = Verdict.Answered; param = structOf (paramIn s) } = x .gives ∙ rw e in
+          let z : _≡_ {A = ℕ} 0 1 = cc in
+          absurd (omega arith)

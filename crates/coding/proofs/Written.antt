@@ -12,15 +12,16 @@ use Rattle.rules.specs.declared.LastEvent.{LastEvent}
 use Rattle.rules.specs.declared.AutomationRate.{AutomationRate}
 use Rattle.rules.specs.declared.AutomationRate.the-variants as Rate
 use Rattle.rules.specs.declared.Edition.{Edition}
-use Rattle.rules.specs.declared.Edition.the-variants as Edition
 use Rattle.rules.specs.declared.Event.{Event}
-use Rattle.rules.specs.Block.{Param, editionOf}
+use Rattle.rules.specs.Block.{Param}
+use Rattle.laws.specs.Editions.{numberOfEdition}
+use Rattle.laws.proofs.Editions.{edition-back}
 use Rattle.timeline.specs.declared.AudioParamEvent.{AudioParamEvent}
 use Rattle.timeline.specs.declared.AudioParamEventTimeline.{AudioParamEventTimeline}
 use Rattle.timeline.specs.Timeline.{made}
 use Rattle.timeline.proofs.Laws.{Filled, filled-made, waits-of}
 use Rattle.words.specs.Words.{SingleBits}
-use Rattle.coding.specs.Coding.{headWords, stateLength, stateVersion, placeOf, rateIn, rateWord, editionWord, eventAt, eventsIn, paramIn, wordsOf, wordsFor, headOf, stateOf, flagOf, lastFlag, lastTime, lastValue, TimeBits, PutsEvent, PutsLast, PutsHead, Queues}
+use Rattle.coding.specs.Coding.{headWords, stateLength, stateVersion, placeOf, rateIn, rateWord, eventAt, eventsIn, paramIn, wordsOf, wordsFor, headOf, stateOf, flagOf, lastFlag, lastTime, lastValue, TimeBits, PutsEvent, PutsLast, PutsHead, Queues}
 use Rattle.coding.proofs.Words.{six, event-behind, events-front, events-more, words-more, words-length}
 
 -- ---- the queue of a state
@@ -96,7 +97,7 @@ head-length {p} {s} h long = ap length (h .is) ∙ simp (length-append, length-d
 module _ (p : Param) (s : List ℕ) {b : Bounds} {r : AutomationRate} {e : Edition} {x : Float} {t u : MaybeTime} {l : LastEvent} {min default max rate edition value flag time mark end n : ℕ}
     {after : List ℕ} (last : PutsLast (sets s 0 (stateVersion ∷ min ∷ default ∷ max ∷ rate ∷ edition ∷ value ∷ flag ∷ time ∷ mark ∷ end ∷ [])) l after) where
   pub puts-head : length s ≡ stateLength → b ≡ p .bounds → r ≡ p .rate → e ≡ p .edition → x ≡ p .intrinsic → t ≡ p .lastBlock → u ≡ p .lastEnd → l ≡ p .last → n ≡ length (p .queue)
-      → SingleBits (b .min) min → SingleBits (b .default) default → SingleBits (b .max) max → rate ≡ rateWord r → edition ≡ editionWord e → SingleBits x value → flag ≡ flagOf t → TimeBits t time
+      → SingleBits (b .min) min → SingleBits (b .default) default → SingleBits (b .max) max → rate ≡ rateWord r → edition ≡ numberOfEdition e → SingleBits x value → flag ≡ flagOf t → TimeBits t time
       → mark ≡ flagOf u → TimeBits u end → PutsHead s p (set after 14 n)
   puts-head long eb er ee ex et eu el en a d m ew ed v ef h eg k =
       record {
@@ -115,15 +116,10 @@ module _ (p : Param) (s : List ℕ) {b : Bounds} {r : AutomationRate} {e : Editi
 
 -- ---- the whole
 
-rate-back : (r : AutomationRate) → rateIn (rateWord r) ≡ r
+pub rate-back : (r : AutomationRate) → rateIn (rateWord r) ≡ r
 unfolding rateIn rateWord
 rate-back Rate.A = refl
 rate-back Rate.K = refl
-
-edition-back : (e : Edition) → editionOf (editionWord e) ≡ e
-unfolding editionOf editionWord
-edition-back Edition.First = refl
-edition-back Edition.Second = refl
 
 module _ (p : Param) {s s₀ after : List ℕ} {i : ℕ} (w : Wrote (p .queue) s₀ i after) (all : i ≡ length (p .queue)) (h : PutsHead s p s₀) where
   pub written : after ≡ stateOf p s
@@ -136,7 +132,7 @@ module _ (p : Param) {s s₀ after : List ℕ} {i : ℕ} (w : Wrote (p .queue) s
   events-back = let n : length (p .queue) ≤ i = omega arith in rw (← all) (w .back ∙ take-all i (p .queue) n)
 
   pub given-back : paramIn after ≡ p
-  given-back = rw (events-at, written) (unfold stateOf in rw (h .min, h .default, h .max, rate-back (p .rate), edition-back (p .edition), h .intrinsic, h .block, h .end, h .last))
+  given-back = rw (events-at, written) (unfold stateOf in rw (h .min, h .default, h .max, rate-back (p .rate), edition-back (p .edition) .0, h .intrinsic, h .block, h .end, h .last))
     where
       events-at : eventsIn after (getD after 14 0) ≡ p .queue
       events-at = ap (eventsIn after) (rw written (unfold stateOf in refl)) ∙ events-back

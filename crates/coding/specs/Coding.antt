@@ -13,8 +13,6 @@ use Rattle.rules.specs.declared.LastEvent.{LastEvent}
 use Rattle.rules.specs.declared.LastEvent.the-variants as LastEvent
 use Rattle.rules.specs.declared.AutomationRate.{AutomationRate}
 use Rattle.rules.specs.declared.AutomationRate.the-variants as Rate
-use Rattle.rules.specs.declared.Edition.{Edition}
-use Rattle.rules.specs.declared.Edition.the-variants as Edition
 use Rattle.rules.specs.declared.Event.{Event}
 use Rattle.rules.specs.declared.Event.the-variants as Event
 use Rattle.rules.specs.declared.Verdict.the-variants as Verdict
@@ -22,6 +20,7 @@ use Rattle.rules.specs.Numbers.{mostEvents}
 use Rattle.rules.specs.Refusals.{isEdition}
 use Rattle.rules.specs.Block.{Param, editionOf}
 use Rattle.laws.specs.Sound.{isSound}
+use Rattle.laws.specs.Editions.{numberOfEdition}
 use Rattle.timeline.specs.declared.AudioParamEventTimeline.{AudioParamEventTimeline}
 use Rattle.timeline.specs.Timeline.{waiting}
 use Rattle.param.specs.declared.AudioParam.{AudioParam}
@@ -117,11 +116,6 @@ unfoldable pub rateWord : AutomationRate → ℕ
 rateWord Rate.A = 0
 rateWord Rate.K = 1
 
--- its number
-unfoldable pub editionWord : Edition → ℕ
-editionWord Edition.First = 1
-editionWord Edition.Second = 2
-
 unfoldable pub lastFlag : LastEvent → ℕ
 lastFlag LastEvent.None = 0
 lastFlag (LastEvent.Done l) = 1
@@ -151,7 +145,7 @@ wordsFor (e ∷ q) = wordsOf e ++ wordsFor q
 abbrev pub headOf : Param → List ℕ
 headOf p =
     stateVersion ∷ toBits binary32 (p .bounds .min) ∷ toBits binary32 (p .bounds .default) ∷ toBits binary32 (p .bounds .max) ∷ rateWord (p .rate)
-    ∷ editionWord (p .edition) ∷ toBits binary32 (p .intrinsic) ∷ flagOf (p .lastBlock) ∷ bitsOf (p .lastBlock) ∷ flagOf (p .lastEnd) ∷ bitsOf (p .lastEnd)
+    ∷ numberOfEdition (p .edition) ∷ toBits binary32 (p .intrinsic) ∷ flagOf (p .lastBlock) ∷ bitsOf (p .lastBlock) ∷ flagOf (p .lastEnd) ∷ bitsOf (p .lastEnd)
     ∷ lastFlag (p .last) ∷ lastTime (p .last) ∷ lastValue (p .last) ∷ length (p .queue) ∷ []
 
 -- the state s with a parameter written over it: the numbers behind its events stay

@@ -1,8 +1,9 @@
 // The state that a caller keeps, an array of plain numbers: a parameter read from it, and written to it.
 ghost use mathlib.Core.Path.{_≡_};
 ghost use lib.ListN.{length};
+ghost use Rattle.laws.specs.Editions.{numberOfEdition};
 ghost use Rattle.param.specs.Param.{paramOf, SoundParam, unmade};
-ghost use Rattle.coding.specs.Coding.{stateLength, lastIn, rateIn, rateWord, editionWord, PutsLast, PutsHead, Queues, Decodes, Encodes};
+ghost use Rattle.coding.specs.Coding.{stateLength, lastIn, rateIn, rateWord, PutsLast, PutsHead, Queues, Decodes, Encodes};
 use event::event_at;
 use event::flag_of;
 use event::put_event;
@@ -131,7 +132,7 @@ pub fn rate_word(rate: AutomationRate) -> u64
 }
 
 fn edition_word(edition: Edition) -> u64
-    ensures { λ r. ⌜ r ≡ editionWord edition ⌝ }
+    ensures { λ r. ⌜ r ≡ numberOfEdition edition ⌝ }
 {
     match edition {
         Edition::First => 1,

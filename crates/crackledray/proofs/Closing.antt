@@ -24,7 +24,7 @@ use Rattle.param.proofs.Calls.{struct-back}
 use Rattle.param.proofs.Settled.{refused-same}
 use Rattle.param.proofs.Blocks.{refused-keeps}
 use Rattle.coding.specs.Coding.{stateLength, paramIn, isState, stateOf, Decodes, Encodes}
-use Rattle.card_coding.proofs.States.{reads-back, opened, shut}
+use Rattle.coding.proofs.Read.{reads-back, answered-state, refused-state}
 use Rattle.card_coding.proofs.Kept.{refusal-number}
 use Rattle.crackledray.specs.Exported.{badState, numberAs, stateAfter, told, Played, played, Begins, Tells, Plays, Closes}
 
@@ -73,7 +73,7 @@ begins {s} {after} {b} {rate} {edition} {m} long made-it e h =
 module _ {s : List ℕ} {d : Outcome} (x : Decodes s d) where
   pub tells-bad : {store : List Float} {c : Command} {why : Refusal} → d .verdict ≡ Verdict.Refused why → Tells s store c badState s store
   unfolding told
-  tells-bad h = record { says = rw (shut x h); reads = λ t. clash t (shut x h) }
+  tells-bad h = record { says = rw (refused-state x h); reads = λ t. clash t (refused-state x h) }
 
   module _ {store left : List Float} {c : Command} {r : Outcome} {n : ℕ} {after : List ℕ} (h : d .verdict ≡ Verdict.Answered) (a : Answers (d .param) store c r left)
       (k : Closes (r .verdict) (paramOf (r .param)) s n after) where
@@ -81,13 +81,13 @@ module _ {s : List ℕ} {d : Outcome} (x : Decodes s d) where
     answer = called (paramIn s) store c
 
     verdict : r .verdict ≡ answer .verdict
-    verdict = a .verdict ∙ ap (λ (p : Param). called p store c .verdict) (opened x h .1)
+    verdict = a .verdict ∙ ap (λ (p : Param). called p store c .verdict) (answered-state x h .1)
 
     param : paramOf (r .param) ≡ answer .param
-    param = ap paramOf (a .param) ∙ struct-back _ ∙ ap (λ (p : Param). called p store c .param) (opened x h .1)
+    param = ap paramOf (a .param) ∙ struct-back _ ∙ ap (λ (p : Param). called p store c .param) (answered-state x h .1)
 
     left-is : left ≡ answer .store
-    left-is = a .left ∙ ap (λ (p : Param). called p store c .store) (opened x h .1)
+    left-is = a .left ∙ ap (λ (p : Param). called p store c .store) (answered-state x h .1)
 
     state-reads : (isState after ≡ true) × (paramIn after ≡ answer .param)
     state-reads = go (r .verdict) refl
@@ -97,17 +97,17 @@ module _ {s : List ℕ} {d : Outcome} (x : Decodes s d) where
         go (Verdict.Refused why) e =
             let same : after ≡ s = k .state ∙ unfold stateAfter in rw e in
             let kept = refused-same (x .sound) a e .0 in
-            (rw same (opened x h .0), ap paramIn same ∙ sym (opened x h .1) ∙ ap paramOf (sym kept) ∙ param)
+            (rw same (answered-state x h .0), ap paramIn same ∙ sym (answered-state x h .1) ∙ ap paramOf (sym kept) ∙ param)
 
     pub tells : Tells s store c n after left
     unfolding told
-    tells = record { says = rw (opened x h .0) (rw (k .number, k .state, verdict, param, left-is)); reads = λ t. state-reads }
+    tells = record { says = rw (answered-state x h .0) (rw (k .number, k .state, verdict, param, left-is)); reads = λ t. state-reads }
 
   -- ---- a block
 
   pub plays-bad : {store : List Float} {c : Call} {why : Refusal} (before : Played) → d .verdict ≡ Verdict.Refused why → before .state ≡ s → Plays s store c before before
   unfolding played
-  plays-bad before h e = record { says = rw (shut x h); reads = λ t. clash t (shut x h) }
+  plays-bad before h e = record { says = rw (refused-state x h); reads = λ t. clash t (refused-state x h) }
 
   module _ {store left output : List Float} {c : Call} {r : Processed} {n : ℕ} {after : List ℕ} (before : Played) (h : d .verdict ≡ Verdict.Answered)
       (a : Processes (d .param) store c r output left) (k : Closes (r .verdict) (paramOf (r .param)) s n after) where
@@ -115,7 +115,7 @@ module _ {s : List ℕ} {d : Outcome} (x : Decodes s d) where
     block = answered (paramIn s) store c
 
     by : {A : Type 0} (f : Answer → A) → f (answered (paramOf (d .param)) store c) ≡ f block
-    by f = ap (λ (p : Param). f (answered p store c)) (opened x h .1)
+    by f = ap (λ (p : Param). f (answered p store c)) (answered-state x h .1)
 
     block-verdict : r .verdict ≡ block .verdict
     block-verdict = a .verdict ∙ by (λ (y : Answer). y .verdict)
@@ -131,14 +131,14 @@ module _ {s : List ℕ} {d : Outcome} (x : Decodes s d) where
         go (Verdict.Refused why) e =
             let same : after ≡ s = k .state ∙ unfold stateAfter in rw e in
             let kept = ap (λ (y : Processed). y .param) (refused-keeps a (x .sound) e .0) in
-            (rw same (opened x h .0), ap paramIn same ∙ sym (opened x h .1) ∙ ap paramOf (sym kept) ∙ block-param)
+            (rw same (answered-state x h .0), ap paramIn same ∙ sym (answered-state x h .1) ∙ ap paramOf (sym kept) ∙ block-param)
 
     pub plays : Plays s store c before (record { number = n; state = after; store = left; output = output; steps = r .steps; current = r .current; one = r .one })
     unfolding played
     plays =
         record {
           says =
-              rw (opened x h .0)
+              rw (answered-state x h .0)
               (rw (k .number, k .state, block-verdict, block-param, a .left ∙ by (λ (y : Answer). y .store), a .written ∙ by (λ (y : Answer). y .output), a .steps ∙ by (λ (y : Answer). y .steps), a .current ∙ by (λ (y : Answer). y .current), a .one ∙ by (λ (y : Answer). y .oneValued)));
           reads = λ t. block-reads;
         }

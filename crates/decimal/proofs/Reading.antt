@@ -3,13 +3,14 @@ use mathlib.Core.Path.{_≡_, refl, sym, ap, _∙_}
 use mathlib.Core.Bool.{Bool, true, false, cond, _&&_, _||_}
 use mathlib.Core.List.{List, [], _∷_, _++_}
 use mathlib.Core.Option.{Option, none, some}
-use Prim.Native.Nat.{ℕ, zero, suc, _+_, _-_, _*_, _^_, _≤_, _<_}
+use Prim.Native.Nat.{ℕ, suc, _+_, _-_, _^_, _≤_, _<_}
 use native.Mathlib.Nat.{lt-of-lt-of-le, zero-add}
 use native.Mathlib.Omega.{arith}
 use lib.Dec.{leb, ltb, eqb, lit<}
 use lib.ListN.{length, getD, take, drop, length-append, length-drop, drop-of-length-le}
-use lib.Seq.{take-all, take-length, length-take-le, take-take}
+use lib.Seq.{take-length, length-take-le, take-take}
 use lib.Ieee.{Float, Format, binary64}
+use borrow.Rule.Slice.PartAt.{part-to-end}
 use borrow.Author.Tests.{le-leb, lt-leb, leb-true, leb-false, ltb-false, eq-eqb, ne-eqb}
 use Rattle.bytes.specs.Bytes.{indexOf, indexAfter, slice}
 use Rattle.text.specs.Digits.{areDigits, valueFrom, numberFrom, numberIn}
@@ -112,10 +113,6 @@ module _ (b most : ℕ) (one : 1 ≤ b) (low : most < 2 ^ 64) where
 
 -- ---- parts of a word
 
--- the part that a slice from a place on has
-pub rest-of : (k : ℕ) (w : List ℕ) → take (length w - k) (drop k w) ≡ drop k w
-rest-of k w = take-all (length w - k) (drop k w) (omega (arith, length-drop k w))
-
 pub index-le : (c : ℕ) (w : List ℕ) → indexOf c w ≤ length w
 unfolding indexOf indexAfter
 index-le c [] = omega arith
@@ -183,7 +180,7 @@ module _ (m : List ℕ) (point : ℕ) (is : point ≡ indexOf 46 m) (in-word : p
     digits-behind x from f e =
         some-digits n
         ∙ behind 10 (2 ^ 53) (omega arith) (lit< tt) 0 (wholeDigits m) (fractionDigits m) x (ap (λ (cs : List ℕ). upTo (2 ^ 53) (numberFrom 10 0 cs)) whole-is ∙ e)
-        ∙ ap (λ (cs : List ℕ). upTo (2 ^ 53) (numberFrom 10 x cs)) (sym (rest-of from m ∙ fraction-is from f))
+        ∙ ap (λ (cs : List ℕ). upTo (2 ^ 53) (numberFrom 10 x cs)) (sym (part-to-end m from ∙ fraction-is from f))
 
 -- what is read is at most the ceiling
 pub below-most : (most : ℕ) (o : Option ℕ) (n : ℕ) → upTo most o ≡ some n → n ≤ most
@@ -218,7 +215,7 @@ module _ (w u : List ℕ) (some-character : length w ≡ 0 → ⊥) (is : u ≡ 
   tens-by o e =
       behind-e w some-character ∙ ap (λ (v : List ℕ). tensOf (isMinus v) (numberIn 10 (behindSign v))) (sym is)
       ∙ ap (λ (b : Bool). tensOf b (numberIn 10 (behindSign u))) (sym (sign .0))
-      ∙ ap (tensOf minus) (ap (λ (k : ℕ). numberIn 10 (drop k u)) (sym (sign .1)) ∙ ap (numberIn 10) (sym (rest-of len u)) ∙ e)
+      ∙ ap (tensOf minus) (ap (λ (k : ℕ). numberIn 10 (drop k u)) (sym (sign .1)) ∙ ap (numberIn 10) (sym (part-to-end u len)) ∙ e)
 
 -- ---- a decimal behind its sign, by the places that were found
 
@@ -249,13 +246,13 @@ module _ (w : List ℕ) (lower end point : ℕ) (e : lower ≡ 0 + indexOf 101 (
   unfolding unsignedIn
   unsigned-by minus =
       ap (λ (m : List ℕ). scaled minus (length (fractionDigits m)) (digitsIn m) (tensIn (drop (length m) w))) part-is
-      ∙ rw (fraction-length (take end w) point point-is (rw point-is (index-le 46 (take end w))), part-length, rest-of end w)
+      ∙ rw (fraction-length (take end w) point point-is (rw point-is (index-le 46 (take end w))), part-length, part-to-end w end)
 
 -- the same with the sign
 pub decimal-by : (w : List ℕ) (minus : Bool) (len : ℕ) → (minus ≡ isMinus w) × (len ≡ signLength w) × (len ≤ length w) → unsignedIn minus (take (length w - len) (drop len w)) ≡ decimalIn w
 unfolding decimalIn behindSign
 decimal-by w minus len sign =
-    ap (unsignedIn minus) (rest-of len w) ∙ ap (λ (k : ℕ). unsignedIn minus (drop k w)) (sign .1) ∙ ap (λ (b : Bool). unsignedIn b (drop (signLength w) w)) (sign .0)
+    ap (unsignedIn minus) (part-to-end w len) ∙ ap (λ (k : ℕ). unsignedIn minus (drop k w)) (sign .1) ∙ ap (λ (b : Bool). unsignedIn b (drop (signLength w) w)) (sign .0)
 
 pub scaled-same : (minus : Bool) {p q : ℕ} {o r : Option ℕ} {t u : Tens} → p ≡ q → o ≡ r → t ≡ u → scaled minus p o t ≡ scaled minus q r u
 scaled-same minus e f g = λ w. scaled minus (e w) (f w) (g w)
@@ -270,7 +267,7 @@ module _ (f : Format) where
 
   pub plain-bits : (w : List ℕ) → (length w ≡ 0 → ⊥) → getD w 0 0 ≡ 120 → floatIn f (take (length w - 1) (drop 1 w)) ≡ plainIn f w
   unfolding plainIn
-  plain-bits w n e = ap (floatIn f) (rest-of 1 w) ∙ by-first w n e
+  plain-bits w n e = ap (floatIn f) (part-to-end w 1) ∙ by-first w n e
     where
       by-first : (w : List ℕ) → (length w ≡ 0 → ⊥) → getD w 0 0 ≡ 120 → floatIn f (drop 1 w) ≡ plainIn f w
       by-first [] n e = absurd (n refl)

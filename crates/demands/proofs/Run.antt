@@ -2,23 +2,21 @@
 -- that no event lies inside a curve before the first block. Assumes nothing.
 use mathlib.Core.Path.{_≡_, refl, sym, ap, _∙_}
 use mathlib.Core.Bool.{Bool, true, false}
-use mathlib.Core.List.{List, [], _∷_, map}
+use mathlib.Core.List.{List, [], map}
 use Prim.Native.Nat.{ℕ}
 use lib.ListN.{length, take, drop}
 use lib.Ieee.{Float}
 use Rattle.rules.specs.declared.Bounds.{Bounds}
 use Rattle.rules.specs.declared.AutomationRate.{AutomationRate}
-use Rattle.rules.specs.declared.Event.{Event}
-use Rattle.rules.specs.declared.Verdict.{Verdict}
 use Rattle.rules.specs.declared.Verdict.the-variants as Verdict
 use Rattle.rules.specs.Numbers.{storeLength}
-use Rattle.rules.specs.Block.{Param, Call, Answer, Command, Called, set, step, linear, exponential, target, curve, cancel, hold, called, scheduledAs, answered, made}
+use Rattle.rules.specs.Block.{Param, Call, Command, set, step, linear, exponential, target, curve, cancel, hold, called, made}
 use Rattle.laws.specs.Apart.{areApart}
 use Rattle.laws.proofs.Tests.{never}
+use Rattle.laws.proofs.Answers.{unlent}
 use Rattle.param.specs.declared.AudioParam.{AudioParam}
 use Rattle.param.specs.declared.Outcome.{Outcome}
-use Rattle.param.specs.Param.{paramOf, structOf, SoundParam, Makes, Answers, Restores}
-use Rattle.param.specs.Processed.{Processes}
+use Rattle.param.specs.Param.{paramOf, structOf, SoundParam, Makes, Restores}
 use Rattle.param.proofs.Calls.{struct-back, struct-sound}
 use Rattle.param.proofs.Settled.{restores-own}
 use Rattle.playing.specs.Play.{State, waiting, begun, scheduled, asked, answerTo, played, apart, told}
@@ -38,30 +36,24 @@ back {p} {q} e = ap paramOf e ∙ struct-back q
 
 -- ---- scheduling and cancelling
 
-unlent-as : (v : Verdict) (p : Param) (store : List Float) (e : Event)
-    → scheduledAs v p store e ≡ record { verdict = scheduledAs v p [] e .verdict; param = scheduledAs v p [] e .param; store = store }
-unfolding scheduledAs
-unlent-as Verdict.Answered p store e = refl
-unlent-as (Verdict.Refused r) p store e = refl
-
--- a call that is not lent the store says the same whatever it holds
-unlent : (p : Param) (store : List Float) (c : Command) → isLent c ≡ false
+-- by what is called
+unlent-call : (p : Param) (store : List Float) (c : Command) → isLent c ≡ false
     → called p store c ≡ record { verdict = called p [] c .verdict; param = called p [] c .param; store = store }
 unfolding called isLent
-unlent p store (set v) h = unlent-as _ p store _
-unlent p store (step v t) h = unlent-as _ p store _
-unlent p store (linear v t) h = unlent-as _ p store _
-unlent p store (exponential v t) h = unlent-as _ p store _
-unlent p store (target v t c) h = unlent-as _ p store _
-unlent p store (curve t d xs) h = never (sym h)
-unlent p store (cancel c) h = never (sym h)
-unlent p store (hold c) h = never (sym h)
+unlent-call p store (set v) h = unlent _ p store _
+unlent-call p store (step v t) h = unlent _ p store _
+unlent-call p store (linear v t) h = unlent _ p store _
+unlent-call p store (exponential v t) h = unlent _ p store _
+unlent-call p store (target v t c) h = unlent _ p store _
+unlent-call p store (curve t d xs) h = never (sym h)
+unlent-call p store (cancel c) h = never (sym h)
+unlent-call p store (hold c) h = never (sym h)
 
 settled-as : (b : Bool) (h : Held) (c : Command) (r : Done) → isLent c ≡ b → DoneAs b h c r → (calledBy r ≡ asked (stateOf h) c) × Ok (leftByDone r)
 unfolding asked
 settled-as true h c r e a = (rw (a .verdict, back (a .param), a .left), a .sound)
 settled-as false h c r e (a, kept) =
-    (rw (unlent (paramOf (h .param)) (h .store) c e, a .verdict, back (a .param), kept), a .sound)
+    (rw (unlent-call (paramOf (h .param)) (h .store) c e, a .verdict, back (a .param), kept), a .sound)
 
 pub call-settled : (h : Held) (c : Command) (r : Done) → Ok h → MeetsCall h c r → (calledBy r ≡ asked (stateOf h) c) × Ok (leftByDone r)
 call-settled h c r ok m = settled-as (isLent c) h c r refl m

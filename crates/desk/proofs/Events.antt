@@ -13,7 +13,7 @@ use Rattle.rules.specs.declared.AutomationRate.the-variants as Rate
 use Rattle.rules.specs.declared.Verdict.{Verdict}
 use Rattle.rules.specs.declared.Verdict.the-variants as Verdict
 use Rattle.rules.specs.Refusals.{lowest, makingRows}
-use Rattle.rules.specs.Block.{Param, made, Command, step, linear, exponential, target, curve, Called, called}
+use Rattle.rules.specs.Block.{Param, made, step, linear, exponential, target, curve, Called, called}
 use Rattle.laws.specs.Sound.{Sound}
 use Rattle.laws.proofs.Kept.{made-fresh, made-sound, called-sound}
 use Rattle.costs.specs.declared.Totals.{Totals}
@@ -24,7 +24,7 @@ use Rattle.costs.proofs.Seen.{command-seen}
 use Rattle.words.specs.Words.{singleAt, doubleAt, singlesAt}
 use Rattle.card.specs.declared.Fault.{Fault}
 use Rattle.card.specs.declared.Fault.the-variants as Fault
-use Rattle.card.specs.Card.{tagOf, isTag, isRange, isWrong, isMisplaced, isWhole, isKept, numbersIn, boundsIn, eventIn, timeOf, isOutOfTurn, Reader, refusedBy, rangedAs, takenAs, eventTurn, contentsTurn, fieldTurn, Reading, stopped, taken, fed, begun, endTurn, atEnd, read, fieldLength}
+use Rattle.card.specs.Card.{tagOf, isTag, isRange, isWrong, isMisplaced, isWhole, isAccepted, numbersIn, boundsIn, eventIn, timeOf, isOutOfTurn, Reader, refusedBy, rangedAs, takenAs, eventTurn, contentsTurn, fieldTurn, Reading, stopped, taken, fed, begun, endTurn, atEnd, read, fieldLength}
 use Rattle.desk.specs.Desk.{eventsStored}
 use Rattle.desk.proofs.Turns.{no-range}
 
@@ -142,7 +142,7 @@ module _ (bs : List ℕ) (r : Reader) (k : Scheduled (r .param)) where
 taken-scheduled : (n : ℕ) (bs : List ℕ) (r : Reader) → Scheduled (r .param) → Scheduled (taken n bs r .reader .param)
 unfolding taken
 taken-scheduled zero bs r k = k
-taken-scheduled (suc n) bs r k = go (isKept (r .verdict) && isWhole bs) (taken-scheduled n (drop (fieldLength bs) bs) (fieldTurn bs r) (field-scheduled bs r k))
+taken-scheduled (suc n) bs r k = go (isAccepted (r .verdict) && isWhole bs) (taken-scheduled n (drop (fieldLength bs) bs) (fieldTurn bs r) (field-scheduled bs r k))
   where
     go : (b : Bool) → Scheduled (taken n (drop (fieldLength bs) bs) (fieldTurn bs r) .reader .param)
         → Scheduled (cond b (taken n (drop (fieldLength bs) bs) (fieldTurn bs r)) (stopped bs r) .reader .param)
@@ -159,7 +159,7 @@ end-scheduled [] r k = go (r .ranged)
 end-scheduled (b ∷ bs) r k = field-scheduled (b ∷ bs) r k
 
 pub read-scheduled : (rate : AutomationRate) (n : ℕ) (file : List ℕ) → Scheduled (read rate n file .param)
-unfolding read fed atEnd isKept
+unfolding read fed atEnd isAccepted
 read-scheduled rate n file = go (fed (begun rate n) file) (taken-scheduled (length file) file _ (just-made _ Rate.A 1 no-range))
   where
     ends : (s : Reading) (b : Bool) → Scheduled (s .reader .param) → Scheduled (cond b (endTurn (s .rest) (s .reader)) (s .reader) .param)
@@ -167,4 +167,4 @@ read-scheduled rate n file = go (fed (begun rate n) file) (taken-scheduled (leng
     ends s false k = k
 
     go : (s : Reading) → Scheduled (s .reader .param) → Scheduled (atEnd s .param)
-    go s k = ends s (isKept (s .reader .verdict)) k
+    go s k = ends s (isAccepted (s .reader .verdict)) k

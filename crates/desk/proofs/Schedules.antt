@@ -2,12 +2,12 @@
 use mathlib.Core.Path.{_≡_, refl, sym, ap, _∙_, subst}
 use mathlib.Core.Bool.{Bool, true, false, cond, _&&_}
 use mathlib.Core.List.{List, [], _∷_, _++_, append-nil}
-use Prim.Native.Nat.{ℕ, _+_, _-_, _≤_, _<_}
+use Prim.Native.Nat.{ℕ, _+_, _-_, _≤_}
 use native.Mathlib.Nat.{le-refl, zero-add, sub-zero}
 use native.Mathlib.Omega.{arith}
 use lib.Dec.{leb, eqb}
 use lib.ListN.{length, take, drop, replicate, length-append, length-take, drop-of-length-le, take-append-drop}
-use lib.Seq.{length-take-le, take-at, take-add}
+use lib.Seq.{take-at, take-add}
 use lib.Ieee.{Float}
 use borrow.Author.Tests.{le-leb}
 use borrow.Rule.Slice.PartMut.{midOf, postOf, putMid, mid-len, post-is}
@@ -30,14 +30,14 @@ use Rattle.card.specs.declared.CardVerdict.{CardVerdict}
 use Rattle.card.specs.declared.CardVerdict.the-variants as CardVerdict
 use Rattle.card.specs.declared.Judged.{Judged}
 use Rattle.card.specs.Card as card
-use Rattle.card.specs.Card.{faultNumber, isKept, hasHead, isWhole, Reader, Reading, begun, fed, taken, atEnd, loadedAs, fileOf, judged, writtenTo, savedAs, Saved}
+use Rattle.card.specs.Card.{faultNumber, isAccepted, hasHead, isWhole, Reader, Reading, begun, fed, taken, atEnd, loadedAs, fileOf, judged, writtenTo, savedAs, Saved}
 use Rattle.card.proofs.Fields.{and-false}
 use Rattle.card.proofs.Parts.{fed-append}
 use Rattle.card.proofs.Bound.{written-bound}
 use Rattle.card_reader.specs.declared.CardReader.{CardReader}
 use Rattle.card_reader.specs.declared.Fed.{Fed}
 use Rattle.card_reader.specs.declared.Loaded.{Loaded}
-use Rattle.card_reader.specs.Reader.{readerOf, readingOf, SoundReader, SoundWindow, Opens, Feeds, TakesPart, Loads}
+use Rattle.card_reader.specs.Reader.{Opens, Feeds, TakesPart, Loads}
 use Rattle.card_writer.specs.Writer.{Saves}
 use Rattle.desk.specs.declared.Desk.{Desk}
 use Rattle.desk.specs.declared.Answered.{Answered}
@@ -58,7 +58,7 @@ Prints p store r after j =
 module _ (p : AudioParam) (store : List Float) (out : List ℕ) {r : Judged} {after : List ℕ} where
   by-verdict : (j : Judged) (v : CardVerdict) → length (fileOfParam p store) ≤ 17867 → 17867 ≤ length out → j .verdict ≡ v
       → record { says = r; out = after } ≡ savedAs j out (fileOfParam p store) → Prints p store r after j
-  unfolding savedAs isKept writtenTo fileLine
+  unfolding savedAs isAccepted writtenTo fileLine
   by-verdict j CardVerdict.Answered bound room h e =
       let file : List ℕ = fileOfParam p store in
       let fits : length file ≤ length out = omega (arith, bound, room) in
@@ -71,7 +71,7 @@ module _ (p : AudioParam) (store : List Float) (out : List ℕ) {r : Judged} {af
       )
   by-verdict j (CardVerdict.Refused f) bound room h e =
       let kept : _≡_ {A = Saved} (record { says = r; out = after }) (record { says = j; out = out }) =
-      e ∙ ap (λ (b : Bool). cond b (writtenTo out (fileOfParam p store)) (record { says = j; out = out })) (ap isKept h)
+      e ∙ ap (λ (b : Bool). cond b (writtenTo out (fileOfParam p store)) (record { says = j; out = out })) (ap isAccepted h)
       in
       let said : r ≡ j = ap (λ (s : Saved). s .says) kept in
       (rw (said, h), λ answered. absurd (let z : _≡_ {A = ℕ} 0 1 = cc in omega arith))
@@ -88,13 +88,13 @@ opened-rate o = ap (λ (r : Reader). r .rate) (o .reader)
 -- before the first part
 pub opened-reads : {rate : AutomationRate} {n : ℕ} {r : CardReader} {numbers : List Float} (window : List ℕ) → length window ≡ 65538 → Opens rate n r numbers
     → ReadsFile (r .rate) n [] r numbers window
-unfolding fed taken isKept isWhole hasHead
+unfolding fed taken isAccepted isWhole hasHead
 opened-reads {rate} {n} {r} {numbers} window long o =
     subst (λ (q : AutomationRate). ReadsFile q n [] r numbers window) (sym (opened-rate o))
     (record {
       reading = same (o .reader) (ap (λ (k : ℕ). take k window) (o .held));
       sound = o .sound;
-      fits = record { long = long; room = omega (arith, o .held); waits = ap (λ (k : ℕ). isKept (r .verdict) && isWhole (take k window)) (o .held) ∙ and-false (isKept (r .verdict)) };
+      fits = record { long = long; room = omega (arith, o .held); waits = ap (λ (k : ℕ). isAccepted (r .verdict) && isWhole (take k window)) (o .held) ∙ and-false (isAccepted (r .verdict)) };
     })
   where
     same : {r s : Reader} {a b : List ℕ} → r ≡ s → a ≡ b → _≡_ {A = Reading} (record { reader = r; rest = a }) (record { reader = s; rest = b })

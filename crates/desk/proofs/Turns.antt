@@ -12,14 +12,12 @@ use denote.Enum.Declared.{tagOf}
 use lib.Ieee.{Float, binary32, ofBits, ofFields, odd, lt, eq, le}
 use Rattle.rules.specs.declared.Bounds.{Bounds}
 use Rattle.rules.specs.declared.AutomationRate.{AutomationRate}
-use Rattle.rules.specs.declared.Event.{Event}
-use Rattle.rules.specs.declared.Verdict.{Verdict}
-use Rattle.rules.specs.declared.Verdict.the-variants as Verdict
 use Rattle.rules.specs.declared.AutomationRate.the-variants as Rate
 use Rattle.rules.specs.Numbers.{plusZero, isFinite}
 use Rattle.rules.specs.Refusals.{lowest, allFinite, areBounds, makingRows}
-use Rattle.rules.specs.Block.{Param, made, madeAs, Command, Called, called, scheduledAs}
+use Rattle.rules.specs.Block.{Param, made, madeAs, Command, Called, called}
 use Rattle.rules.specs.Block as rule
+use Rattle.laws.proofs.Answers.{unlent}
 use Rattle.text.specs.Put.{Put}
 use Rattle.text.proofs.Writing.{put-same, put-then}
 use Rattle.answers.specs.Answers.{verdictText}
@@ -45,30 +43,25 @@ use Rattle.desk.specs.Desk.{Table, Turn, deskOf, afterCommand, tableOf, 
 abbrev pub Storeless : Command → Type 0
 Storeless c = (p : Param) (s : List Float) → called p s c ≡ record { verdict = called p [] c .verdict; param = called p [] c .param; store = s }
 
-storeless : (v : Verdict) (p : Param) (s : List Float) (e : Event) → scheduledAs v p s e ≡ record { verdict = scheduledAs v p [] e .verdict; param = scheduledAs v p [] e .param; store = s }
-unfolding scheduledAs
-storeless Verdict.Answered p s e = refl
-storeless (Verdict.Refused r) p s e = refl
-
 pub storeless-set : (v : Float) → Storeless (rule.set v)
 unfolding called
-storeless-set v p s = storeless _ p s _
+storeless-set v p s = unlent _ p s _
 
 pub storeless-step : (v t : Float) → Storeless (rule.step v t)
 unfolding called
-storeless-step v t p s = storeless _ p s _
+storeless-step v t p s = unlent _ p s _
 
 pub storeless-linear : (v t : Float) → Storeless (rule.linear v t)
 unfolding called
-storeless-linear v t p s = storeless _ p s _
+storeless-linear v t p s = unlent _ p s _
 
 pub storeless-exponential : (v t : Float) → Storeless (rule.exponential v t)
 unfolding called
-storeless-exponential v t p s = storeless _ p s _
+storeless-exponential v t p s = unlent _ p s _
 
 pub storeless-target : (v t c : Float) → Storeless (rule.target v t c)
 unfolding called
-storeless-target v t c p s = storeless _ p s _
+storeless-target v t c p s = unlent _ p s _
 
 -- ---- what was told
 

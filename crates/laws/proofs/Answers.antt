@@ -1,4 +1,4 @@
--- What holds of every call's answer: refused, nothing changes; a block's samples lie within the bounds, and its steps are at most 129. Assumes nothing.
+-- What holds of every call's answer: refused, nothing changes; not lent the store, it leaves it; a block's samples lie within the bounds, and its steps are at most 129. Assumes nothing.
 use mathlib.Core.Path.{_≡_, refl, sym, ap, _∙_}
 use mathlib.Core.Bool.{true, false}
 use mathlib.Core.List.{List, [], _∷_, _++_}
@@ -57,6 +57,15 @@ pub refused-scheduled : (v : Verdict) (p : Param) (store : List Float) (e : Even
     → scheduledAs v p store e ≡ record { verdict = Verdict.Refused r; param = p; store = store }
 unfolding scheduledAs
 refused-scheduled v p store e r h = rw h
+
+-- ---- not lent the store
+
+-- a call that is not lent the store does the same whatever it holds, and leaves it
+pub unlent : (v : Verdict) (p : Param) (store : List Float) (e : Event)
+    → scheduledAs v p store e ≡ record { verdict = scheduledAs v p [] e .verdict; param = scheduledAs v p [] e .param; store = store }
+unfolding scheduledAs
+unlent Verdict.Answered p store e = refl
+unlent (Verdict.Refused r) p store e = refl
 
 -- ---- an answered block
 

@@ -22,3 +22,4 @@ pub mod Places
 pub mod Within
 pub mod Answers
 pub mod Ramps
+pub mod Editions

@@ -4,3 +4,4 @@ pub mod Fits
 pub mod Held
 pub mod Apart
 pub mod Spans
+pub mod Editions

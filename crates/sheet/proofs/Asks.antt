@@ -2,10 +2,9 @@
 use mathlib.Core.Path.{_≡_, refl, sym, ap, ap₂, _∙_}
 use mathlib.Core.List.{List, [], _∷_}
 use lib.Ieee.{Float}
-use Rattle.rules.specs.declared.Event.{Event}
-use Rattle.rules.specs.declared.Verdict.{Verdict}
 use Rattle.rules.specs.declared.Verdict.the-variants as Verdict
-use Rattle.rules.specs.Block.{Param, made, Called, Command, called, scheduledAs, step, linear, exponential, curve, cancel, hold}
+use Rattle.rules.specs.Block.{Param, made, Called, Command, called, step, linear, exponential, curve, cancel, hold}
+use Rattle.laws.proofs.Answers.{unlent}
 use Rattle.param.specs.declared.AudioParam.{AudioParam}
 use Rattle.param.specs.declared.Outcome.{Outcome}
 use Rattle.param.specs.Param.{paramOf, structOf, SoundParam, Makes, Answers}
@@ -17,14 +16,9 @@ use Rattle.sheet.specs.Played.{applied, setUp, Applies, SetsUp}
 
 -- ---- one call
 
--- a call that is not lent the store leaves it, and does not look at it
+-- by a call that is not lent the store
 abbrev withStore : List Float → Called → Called
 withStore s x = record { verdict = x .verdict; param = x .param; store = s }
-
-unlent : (v : Verdict) (p : Param) (s : List Float) (e : Event) → scheduledAs v p s e ≡ withStore s (scheduledAs v p [] e)
-unfolding scheduledAs
-unlent Verdict.Answered p s e = refl
-unlent (Verdict.Refused why) p s e = refl
 
 module _ {p : AudioParam} {s : List Float} {c : Call} where
   pub asks-nothing : SoundParam p → c ≡ Call.Nothing → Applies p s c (record { verdict = Verdict.Answered; param = p }) s

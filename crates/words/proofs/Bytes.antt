@@ -53,6 +53,19 @@ unfolding AreBytes bytesOf
 bytes-small zero n = tt
 bytes-small (suc k) n = (omega arith, bytes-small k (n / 256))
 
+pub bytes-single : (x : Float) → AreBytes (singleBytes x)
+unfolding singleBytes
+bytes-single x = bytes-small 4 _
+
+pub bytes-double : (x : Float) → AreBytes (doubleBytes x)
+unfolding doubleBytes
+bytes-double x = bytes-small 8 _
+
+pub bytes-numbers : (xs : List Float) → AreBytes (numbersBytes xs)
+unfolding numbersBytes AreBytes
+bytes-numbers [] = tt
+bytes-numbers (x ∷ xs) = bytes-append (singleBytes x) (numbersBytes xs) (bytes-single x) (bytes-numbers xs)
+
 -- ---- a number and its bytes
 
 pub length-bytes : (k n : ℕ) → length (bytesOf k n) ≡ k
@@ -167,6 +180,18 @@ pub are-singles : (xs : List Float) (d : Float) → ((i : ℕ) → T (fits binar
 unfolding AreSingles
 are-singles [] d h = tt
 are-singles (x ∷ xs) d h = (h 0, are-singles xs d (λ i. h (suc i)))
+
+pub singles-take : (n : ℕ) (xs : List Float) → AreSingles xs → AreSingles (take n xs)
+unfolding AreSingles
+singles-take zero xs h = tt
+singles-take (suc n) [] h = tt
+singles-take (suc n) (x ∷ xs) h = (h .0, singles-take n xs (h .1))
+
+pub singles-drop : (n : ℕ) (xs : List Float) → AreSingles xs → AreSingles (drop n xs)
+unfolding AreSingles
+singles-drop zero xs h = h
+singles-drop (suc n) [] h = tt
+singles-drop (suc n) (x ∷ xs) h = singles-drop n xs (h .1)
 
 pub length-numbers : (xs : List Float) → length (numbersBytes xs) ≡ 4 * length xs
 unfolding numbersBytes singleBytes

@@ -1,2 +1,3 @@
 pub mod Bytes
 pub mod Turns
+pub mod Digits

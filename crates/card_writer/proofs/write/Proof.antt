@@ -7,7 +7,7 @@ use borrow.Author.Needs.{needs}
 use borrow.Author.Tests.{not-true, not-false}
 use Rattle.words.proofs.Bytes.{are-singles}
 use Rattle.param.specs.Param.{paramOf}
-use Rattle.card.specs.Card.{isKept}
+use Rattle.card.specs.Card.{isAccepted}
 use Rattle.card.proofs.Bound.{range-size}
 use Rattle.card_writer.specs.Writer.{Printable}
 use Rattle.card_writer.proofs.Formats.{printable}
@@ -19,17 +19,17 @@ use Rattle.card_writer.proofs.write.Tie as tie
 floats : (c : tie.After-shared-slice-known) → Printable (paramOf (c .before .args .p)) (c .before .args .store .now)
 floats c = printable (c .before .args .p) (c .before .args .store .now) (c .before .good .0) (are-singles _ nan (c .shared-slice-known .given))
 
-answered : (c : tie.Else1) → isKept (c .before .before .judge .result .verdict) ≡ true
-answered c = sym (c .before .is-kept .ensures) ∙ not-false _ (c .if1 .left)
+answered : (c : tie.Else1) → isAccepted (c .before .before .judge .result .verdict) ≡ true
+answered c = sym (c .before .is-accepted .ensures) ∙ not-false _ (c .if1 .left)
 
 judge-requires : tie.Need-judge-requires
 judge-requires c κs = search needs
 
-is-kept-requires : tie.Need-is-kept-requires
-is-kept-requires c κs = search needs
+is-accepted-requires : tie.Need-is-accepted-requires
+is-accepted-requires c κs = search needs
 
 returns : tie.Need-returns
-returns c = record { saved = saved-not _ _ (c .before .before .judge .ensures) _ (sym (c .before .is-kept .ensures) ∙ not-true _ (c .if1 .taken)); printable = floats (c .before .before .before .before) }
+returns c = record { saved = saved-not _ _ (c .before .before .judge .ensures) _ (sym (c .before .is-accepted .ensures) ∙ not-true _ (c .if1 .taken)); printable = floats (c .before .before .before .before) }
 
 returns-2 : tie.Need-returns-2
 returns-2 c = record { saved = saved-short _ _ (c .before .before .before .judge .ensures) (answered (c .before)) _ (c .if2 .taken); printable = floats (c .before .before .before .before .before) }
@@ -61,7 +61,7 @@ write-spec =
     tie.close
     (tie.spec
     judge-requires
-    is-kept-requires
+    is-accepted-requires
     returns
     returns-2
     bounds-requires

@@ -1,5 +1,5 @@
 -- `edition_word` meets its contract. Assumes nothing.
-use Rattle.coding.specs.Coding.{editionWord}
+use Rattle.laws.specs.Editions.{numberOfEdition}
 use borrow.Author.Needs.{needs}
 use Rattle.coding.proofs.edition_word.Statement.{statement}
 use Rattle.coding.proofs.edition_word.Tie as tie
@@ -11,11 +11,11 @@ enum-told-2 : tie.Need-enum-told-2
 enum-told-2 c = search needs
 
 returns : tie.Need-returns
-unfolding editionWord
+unfolding numberOfEdition
 returns c = rw (c .enum-told .given .1)
 
 returns-2 : tie.Need-returns-2
-unfolding editionWord
+unfolding numberOfEdition
 returns-2 c = rw (c .enum-told2 .given .1)
 
 pub edition-word-spec : {M : Type 1} → statement M

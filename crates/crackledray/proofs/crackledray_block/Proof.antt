@@ -1,6 +1,6 @@
 -- `crackledray_block` meets its contract. Assumes nothing.
 use mathlib.Core.Path.{refl}
-use Rattle.card_coding.proofs.States.{opened-long}
+use Rattle.coding.proofs.Read.{answered-long}
 use Rattle.crackledray.proofs.Closing.{plays-bad, plays}
 use borrow.Author.Needs.{needs}
 use Rattle.crackledray.proofs.crackledray_block.Statement.{statement}
@@ -25,7 +25,7 @@ process-requires : tie.Need-process-requires
 process-requires c κs = search needs
 
 close-requires : tie.Need-close-requires
-close-requires c κs = (c .before .before .before .before .before .before .process .ensures .sound, opened-long (c .before .before .before .before .before .before .before .before .before .before .before .before .decode .ensures) (c .before .before .before .before .before .before .before .before .before .before .enum-told .given .1))
+close-requires c κs = (c .before .before .before .before .before .before .process .ensures .sound, answered-long (c .before .before .before .before .before .before .before .before .before .before .before .before .decode .ensures) (c .before .before .before .before .before .before .before .before .before .before .enum-told .given .1))
 
 same-length-2 : tie.Need-same-length-2
 same-length-2 c = search needs

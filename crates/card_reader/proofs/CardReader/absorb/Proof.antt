@@ -7,21 +7,21 @@ use lib.ListN.{length, take}
 use borrow.Author.Needs.{needs}
 use borrow.Author.Tests.{not-true, not-false}
 use Rattle.refusals.proofs.Rows.{found}
-use Rattle.card.specs.Card.{isKept}
+use Rattle.card.specs.Card.{isAccepted}
 use Rattle.card_reader.proofs.Feeding.{feeds-nothing, inside, feeds}
 use Rattle.card_reader.proofs.CardReader.absorb.Statement.{statement}
 use Rattle.card_reader.proofs.CardReader.absorb.Tie as tie
 
-is-kept-requires : tie.Need-is-kept-requires
-is-kept-requires c κs = search needs
+is-accepted-requires : tie.Need-is-accepted-requires
+is-accepted-requires c κs = search needs
 
 returns : tie.Need-returns
 returns c =
     let s = c .before .before .before .before .before in
-    feeds-nothing (found (c .before .is-kept .ensures) (not-true _ (c .if1 .taken))) (s .pre .0) (s .pre .1)
+    feeds-nothing (found (c .before .is-accepted .ensures) (not-true _ (c .if1 .taken))) (s .pre .0) (s .pre .1)
 
-kept : (c : tie.Else1) → isKept (c .before .before .before .before .before .args .self .verdict) ≡ true
-kept c = found (c .before .is-kept .ensures) (not-false _ (c .if1 .left))
+kept : (c : tie.Else1) → isAccepted (c .before .before .before .before .before .args .self .verdict) ≡ true
+kept c = found (c .before .is-accepted .ensures) (not-false _ (c .if1 .left))
 
 put-word-requires : tie.Need-put-word-requires
 put-word-requires c κs = search needs
@@ -65,7 +65,7 @@ pub absorb-spec : {M : Type 1} → statement M
 absorb-spec =
     tie.close
     (tie.spec
-    is-kept-requires
+    is-accepted-requires
     returns
     put-word-requires
     slice-reshare-prefix-take-fields

@@ -9,22 +9,22 @@ use lib.Seq.{length-take-le}
 use borrow.Author.Needs.{needs}
 use borrow.Author.Tests.{not-true, not-false}
 use Rattle.refusals.proofs.Rows.{found}
-use Rattle.card.specs.Card.{isKept}
+use Rattle.card.specs.Card.{isAccepted}
 use Rattle.card_reader.proofs.Does.{refuses, stays, same-turn}
 use Rattle.card_reader.proofs.Ends.{end-over, end-field, end-done, end-unranged}
 use Rattle.card_reader.proofs.CardReader.end.Statement.{statement}
 use Rattle.card_reader.proofs.CardReader.end.Tie as tie
 
-is-kept-requires : tie.Need-is-kept-requires
-is-kept-requires c κs = search needs
+is-accepted-requires : tie.Need-is-accepted-requires
+is-accepted-requires c κs = search needs
 
 returns : tie.Need-returns
 returns c =
     let s = c .before .before .before .before in
-    stays (s .pre .0) (end-over _ _ (found (c .before .is-kept .ensures) (not-true _ (c .if1 .taken))))
+    stays (s .pre .0) (end-over _ _ (found (c .before .is-accepted .ensures) (not-true _ (c .if1 .taken))))
 
-kept : (c : tie.Else1) → isKept (c .before .before .before .before .args .self .verdict) ≡ true
-kept c = found (c .before .is-kept .ensures) (not-false _ (c .if1 .left))
+kept : (c : tie.Else1) → isAccepted (c .before .before .before .before .args .self .verdict) ≡ true
+kept c = found (c .before .is-accepted .ensures) (not-false _ (c .if1 .left))
 
 -- what is left over stands in the window
 left : (s : tie.Start) → length (take (s .args .self .held) (s .args .window .now)) ≡ s .args .self .held
@@ -66,7 +66,7 @@ pub end-spec : {M : Type 1} → statement M
 end-spec =
     tie.close
     (tie.spec
-    is-kept-requires
+    is-accepted-requires
     returns
     slice-aggregate-field-turn
     field-turn-requires

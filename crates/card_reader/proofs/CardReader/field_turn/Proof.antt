@@ -5,7 +5,7 @@ use borrow.Author.Needs.{needs}
 use borrow.Author.Tests.{not-true, not-false, eq-eqb, ne-eqb}
 use Rattle.refusals.proofs.Rows.{found}
 use Rattle.card.specs.Card.{tagOf, isTag, isRange, isWrong, isMisplaced, contentsTurn, fieldTurn}
-use Rattle.card_reader.specs.Reader.{Fits, readerOf}
+use Rattle.card_reader.specs.Reader.{FieldFits, readerOf}
 use Rattle.card_reader.proofs.Does.{unknown, wrong, misplaced, cut, contents, refuses, same-turn}
 use Rattle.card_reader.proofs.CardReader.field_turn.Statement.{statement}
 use Rattle.card_reader.proofs.CardReader.field_turn.Tie as tie
@@ -26,7 +26,7 @@ right c = found (c .before .is-wrong .ensures) (c .if2 .left)
 placed : (c : tie.Else3) → let s = start (c .before .before .before .before) in isMisplaced (s .args .self .ranged) (s .args .bytes .now) ≡ false
 placed c = found (c .before .is-misplaced .ensures) (c .if3 .left)
 
-fits : (c : tie.Else4) → Fits (start (c .before .before .before .before .before .before) .args .bytes .now)
+fits : (c : tie.Else4) → FieldFits (start (c .before .before .before .before .before .before) .args .bytes .now)
 fits c =
     record {
       tag = known (c .before .before .before .before .before .before);

@@ -22,8 +22,8 @@ returns c = loads-bad (c .before .before .before .before .pre .2) (c .if1 .taken
 end-requires : tie.Need-end-requires
 end-requires c κs = search needs
 
-is-kept-requires : tie.Need-is-kept-requires
-is-kept-requires c κs = search needs
+is-accepted-requires : tie.Need-is-accepted-requires
+is-accepted-requires c κs = search needs
 
 write-requires : tie.Need-write-requires
 write-requires c κs = search needs
@@ -41,7 +41,7 @@ returns-2 c =
     let s = e .before .before .before .before .before .before in
     let ends = e .end .ensures in
     let long = e .before .before .if1 .left in
-    loads-good (s .pre .2) (e .end .result) _ (ends .reader) long (ends .sound) (found (k .before .is-kept .ensures) (k .if2 .taken))
+    loads-good (s .pre .2) (e .end .result) _ (ends .reader) long (ends .sound) (found (k .before .is-accepted .ensures) (k .if2 .taken))
     (c .before .before .before .write .ensures ∙ pasted _ _ (long ∙ sym (ends .sound .long)))
 
 same-length-3 : tie.Need-same-length-3
@@ -51,7 +51,7 @@ returns-3 : tie.Need-returns-3
 returns-3 c =
     let e = c .before .before .before .before in
     let s = e .before .before .before .before .before .before in
-    loads-refused (s .pre .2) (e .end .result) _ (e .end .ensures .reader) (e .before .before .if1 .left) (found (c .before .is-kept .ensures) (c .if2 .left))
+    loads-refused (s .pre .2) (e .end .result) _ (e .end .ensures .reader) (e .before .before .if1 .left) (found (c .before .is-accepted .ensures) (c .if2 .left))
 
 pub finish-spec : {M : Type 1} → statement M
 finish-spec =
@@ -59,7 +59,7 @@ finish-spec =
     (tie.spec
     returns
     end-requires
-    is-kept-requires
+    is-accepted-requires
     write-requires
     same-length
     same-length-2

@@ -6,15 +6,16 @@ use Prim.Native.Nat.{ℕ, _+_, _-_, _≤_, _<_}
 use native.Mathlib.Nat.{le-refl}
 use native.Mathlib.Omega.{arith}
 use lib.ListN.{length, take, drop, length-drop}
+use borrow.Rule.Slice.PartAt.{part-to-end}
 use borrow.Author.Needs.{needs}
 use borrow.Author.Tests.{not-true, not-false}
 use Rattle.refusals.proofs.Rows.{found}
 use Rattle.laws.proofs.Tests.{both}
 use Rattle.words.proofs.Bytes.{are-bytes, bytes-drop}
-use Rattle.card.specs.Card.{isKept, fieldLength, isWhole, taken}
+use Rattle.card.specs.Card.{isAccepted, fieldLength, isWhole, taken}
 use Rattle.card.proofs.Fields.{whole-parts}
 use Rattle.card_reader.specs.Reader.{readerOf, SoundReader}
-use Rattle.card_reader.proofs.Taking.{to-end, taken-turn, taken-waits, taken-stops, unfinished}
+use Rattle.card_reader.proofs.Taking.{taken-turn, taken-waits, taken-stops, unfinished}
 use Rattle.card_reader.proofs.CardReader.take_fields.Statement.{statement}
 use Rattle.card_reader.proofs.CardReader.take_fields.Tie as tie
 
@@ -31,7 +32,7 @@ abbrev rest : tie.At-loop Inv-loop μ-loop → List ℕ
 rest l = drop (l .loop .used) (l .before .before .before .args .bytes .now)
 
 left : (l : tie.At-loop Inv-loop μ-loop) → take (length (l .before .before .before .args .bytes .now) - l .loop .used) (rest l) ≡ rest l
-left l = to-end (l .loop .used) (l .before .before .before .args .bytes .now)
+left l = part-to-end (l .before .before .before .args .bytes .now) (l .loop .used)
 
 loop-holds : tie.Need-loop-holds Inv-loop μ-loop
 loop-holds c = (omega arith, c .before .before .pre .0, refl)
@@ -50,7 +51,7 @@ goes-on-requires c κs = search needs
 
 -- ---- a turn: the reader goes on, with a whole field
 
-on : (c : tie.Then1 Inv-loop μ-loop) → let l = c .before .before .before in (isKept (l .loop .reader .verdict) ≡ true) × (isWhole (rest l) ≡ true)
+on : (c : tie.Then1 Inv-loop μ-loop) → let l = c .before .before .before in (isAccepted (l .loop .reader .verdict) ≡ true) × (isWhole (rest l) ≡ true)
 on c = both _ _ (rw (left (c .before .before .before)) at (found (c .before .goes-on .ensures) (c .if1 .taken)))
 
 sub-field-turn : tie.Need-sub-field-turn Inv-loop μ-loop
@@ -113,11 +114,11 @@ loop-again c =
 
 -- ---- behind the loop: it does not
 
-stops : (c : tie.Else1 Inv-loop μ-loop) → let l = c .before .before .before in (isKept (l .loop .reader .verdict) && isWhole (rest l)) ≡ false
+stops : (c : tie.Else1 Inv-loop μ-loop) → let l = c .before .before .before in (isAccepted (l .loop .reader .verdict) && isWhole (rest l)) ≡ false
 stops c = rw (left (c .before .before .before)) at (found (c .before .goes-on .ensures) (c .if1 .left))
 
-is-kept-requires : tie.Need-is-kept-requires Inv-loop μ-loop
-is-kept-requires c κs = search needs
+is-accepted-requires : tie.Need-is-accepted-requires Inv-loop μ-loop
+is-accepted-requires c κs = search needs
 
 same-length : tie.Need-same-length Inv-loop μ-loop
 same-length c = search needs
@@ -126,7 +127,7 @@ returns : tie.Need-returns Inv-loop μ-loop
 returns c =
     let e = c .before .before in
     let l = e .before .before .before in
-    let refused = found (c .before .is-kept .ensures) (not-true _ (c .if2 .taken)) in
+    let refused = found (c .before .is-accepted .ensures) (not-true _ (c .if2 .taken)) in
     record {
       reading = taken-stops (l .before .before .before .args .bytes .now) (l .loop .used) _ (l .loop .inv .2) (stops e) refused;
       inside = le-refl _;
@@ -143,7 +144,7 @@ returns-2 c =
     let e = c .before .before in
     let l = e .before .before .before in
     let bytes = l .before .before .before .args .bytes .now in
-    let kept = found (c .before .is-kept .ensures) (not-false _ (c .if2 .left)) in
+    let kept = found (c .before .is-accepted .ensures) (not-false _ (c .if2 .left)) in
     let known = bytes-drop (l .loop .used) bytes (are-bytes bytes (λ i. l .before .before .shared-slice-known .given i .fits)) in
     record {
       reading = taken-waits bytes (l .loop .used) _ (l .loop .inv .2) (stops e) kept;
@@ -175,7 +176,7 @@ take-fields-spec =
     add-used
     loop-less
     loop-again
-    is-kept-requires
+    is-accepted-requires
     same-length
     returns
     same-length-2

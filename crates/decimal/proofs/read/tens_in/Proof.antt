@@ -1,17 +1,14 @@
 -- `decimal::read::tens_in` meets its contract: nothing, or a number with its sign behind the `e`. Assumes nothing.
-use mathlib.Core.Path.{_≡_, refl, sym, ap, _∙_}
+use mathlib.Core.Path.{_≡_, sym, ap, _∙_}
 use mathlib.Core.Bool.{Bool}
 use mathlib.Core.Option.{none, some}
+use borrow.Rule.Slice.PartAt.{part-to-end}
 use Rattle.text.proofs.Said.{is-number, no-number}
 use Rattle.decimal.specs.Decimals.{tensOf, tensIn}
-use Rattle.decimal.proofs.Reading.{rest-of, no-tens, tens-by}
+use Rattle.decimal.proofs.Reading.{no-tens, tens-by}
 use borrow.Author.Needs.{needs}
 use Rattle.decimal.proofs.read.tens_in.Statement.{statement}
 use Rattle.decimal.proofs.read.tens_in.Tie as tie
-use Rattle.decimal.proofs.read.tens_in.Reads as reads
-use Rattle.decimal.proofs.read.tens_in.Lts as lts
-use Rattle.decimal.proofs.read.sign_of.Reads as sign-of-reads
-use Rattle.text.proofs.read.count_in.Reads as count-in-reads
 
 returns : tie.Need-returns
 returns c = no-tens _ (c .if1 .taken)
@@ -49,12 +46,12 @@ enum-told c = search needs
 returns-2 : tie.Need-returns-2
 unfolding tensOf
 returns-2 c =
-    sym (tens-by _ _ (c .before .before .before .before .before .before .if1 .left) (rest-of 1 (c .before .before .before .before .before .before .before .before .args .word .now)) _ _ (c .before .before .before .before .sign-of .ensures) none
+    sym (tens-by _ _ (c .before .before .before .before .before .before .if1 .left) (part-to-end (c .before .before .before .before .before .before .before .before .args .word .now) 1) _ _ (c .before .before .before .before .sign-of .ensures) none
     (no-number _ (sym (c .before .before .count-in .ensures) ∙ c .enum-told .given .1)))
 
 -- a number was read
 read : (c : tie.After-known-told) → tensIn (c .before .before .before .before .before .before .before .before .before .args .word .now) ≡ tensOf (c .before .before .before .before .before .sign-of .result .minus) (some (c .before .n .given .0 .0))
-read c = tens-by _ _ (c .before .before .before .before .before .before .before .if1 .left) (rest-of 1 (c .before .before .before .before .before .before .before .before .before .args .word .now)) _ _ (c .before .before .before .before .before .sign-of .ensures) (some _) (is-number _ (sym (c .before .before .before .count-in .ensures) ∙ c .before .n .given .1))
+read c = tens-by _ _ (c .before .before .before .before .before .before .before .if1 .left) (part-to-end (c .before .before .before .before .before .before .before .before .before .args .word .now) 1) _ _ (c .before .before .before .before .before .sign-of .ensures) (some _) (is-number _ (sym (c .before .before .before .count-in .ensures) ∙ c .before .n .given .1))
 
 returns-3 : tie.Need-returns-3
 unfolding tensOf
