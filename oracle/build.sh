@@ -95,7 +95,7 @@ build_program() {
         -o "$out/$1" "$here/src/$1/main.rs"
 }
 
-# The port's session program: what CRACKLEDRAY_SESSION names, else the gate's own build.
+# The port's session program: what CRACKLEDRAY_SESSION names, else the one that tools/build proves and builds.
 find_port() {
     local port=${CRACKLEDRAY_SESSION:-}
     if [ -z "$port" ]; then
@@ -104,10 +104,8 @@ find_port() {
                 "or name one that is built in CRACKLEDRAY_SESSION"
             return 1
         }
-        say "building the port: rt check session (proves what is not proved yet)"
-        (cd "$root" && rt check session >&2) || { say "rt check session failed"; return 1; }
-        port=$root/target/bin/session
-        [ "$(uname -m)" = x86_64 ] || port=$(emulated "$port") || return 1
+        say "building the port: tools/build session (proves what is not proved yet)"
+        port=$("$root/tools/build" session) || { say "tools/build session failed"; return 1; }
     fi
     [ -x "$port" ] || { say "no program at $port"; return 1; }
     echo "$port"
@@ -115,28 +113,11 @@ find_port() {
 
 # The port's program `play`: what CRACKLEDRAY_PLAY names, else the one that is built.
 find_play() {
-    local play=${CRACKLEDRAY_PLAY:-$root/target/bin/play}
+    local play=${CRACKLEDRAY_PLAY:-$root/crates/play/out/play}
     [ -x "$play" ] || {
-        say "no program at $play; get it: rt check play (proves and builds it)," \
+        say "no program at $play; get it: tools/build play (proves and builds it)," \
             "or name one that is built in CRACKLEDRAY_PLAY"
         return 1
     }
-    [ -n "${CRACKLEDRAY_PLAY:-}" ] || [ "$(uname -m)" = x86_64 ] || play=$(emulated "$play") || return 1
     echo "$play"
-}
-
-# The port's programs are for x86-64; elsewhere the kit's emulator runs them: a command that does so.
-emulated() {
-    local kit tools command
-    kit=$(dirname "$(dirname "$(readlink -f "$(command -v rt)")")")
-    tools=$kit/on/$(uname -m)/toolchain
-    [ -x "$tools/bin/qemu-x86_64" ] || {
-        say "$1 is for x86-64, and the kit has no emulator for $(uname -m)"
-        return 1
-    }
-    say "$1 is for x86-64: the kit's emulator runs it, which is slower"
-    command=$out/emulated-$(basename "$1")
-    printf '#!/bin/sh\nexec "%s" "%s" --library-path "%s" "%s"\n' \
-        "$tools/bin/qemu-x86_64" "$tools/lib/ld-linux-x86-64.so.2" "$tools/lib" "$1" > "$command"
-    chmod +x "$command" && echo "$command"
 }

@@ -7,12 +7,11 @@ mkdir -p "$out" || exit 1
 
 say() { echo "speed: $*" >&2; }
 
-# archive NAME: proves the crate and writes its static library, for this processor.
+# archive NAME: proves the crate and writes its static library.
 archive() {
     command -v rt > /dev/null || { say "no rt here (the Rattle kit): it proves and builds the port"; return 1; }
     say "proving what is not proved yet, and building $1"
     library=$("$root/library/archive" "$1" 2> "$out/$1.log") || { tail -5 "$out/$1.log" >&2; return 1; }
-    [ "$(uname -m)" = x86_64 ] || say "on $(uname -m), so the library's LLVM module is compiled for this processor: a ratio from here says little of x86-64"
 }
 
 # link PROGRAM NAME WORDS..: the Rust program over the archive of the crate NAME.

@@ -1,6 +1,6 @@
 // Makes the list of outside vectors that crates/vectors runs: rounding as Rust has it (`as f32`, `mul_add`).
 // A line is a letter, three operands and Rust's result, each as 16 hexadecimal digits: n narrows, f is fused in f32, d in f64.
-// rustc -O speed/vectors.rs -o target/make_vectors && target/make_vectors > crates/vectors/stdin
+// mkdir -p target && rustc -O speed/vectors.rs -o target/make_vectors && target/make_vectors > crates/vectors/stdin
 
 struct Random(u64);
 

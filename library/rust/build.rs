@@ -1,5 +1,6 @@
-// Links the archive in the folder that CRACKLEDRAY_LIB names, else the one that library/archive proves and builds for this machine.
-use std::{env, path::Path, process::Command};
+// Links the archive in the folder that CRACKLEDRAY_LIB names, else the one that library/archive proves and builds.
+use std::path::{Path, PathBuf};
+use std::{env, fs, process::Command};
 
 /// The folder of the archive that library/archive makes; it needs `rt`.
 fn made(library: &Path) -> String {
@@ -14,17 +15,27 @@ fn made(library: &Path) -> String {
     Path::new(path.trim()).parent().unwrap().display().to_string()
 }
 
+/// What the archive is made of: crates.txt, and each crate's sources. Each run of library/archive writes into the crates' out/
+/// anew, so that these folders cannot be watched.
+fn sources(top: &Path) -> Vec<PathBuf> {
+    let crates = fs::read_dir(top.join("crates")).unwrap();
+    let folders = crates.map(|it| it.unwrap().path());
+    let parts = folders.flat_map(|it| ["src", "specs", "proofs"].map(|part| it.join(part)));
+    parts.filter(|it| it.is_dir()).chain([top.join("crates.txt")]).collect()
+}
+
 fn main() {
     let library = Path::new(&env::var("CARGO_MANIFEST_DIR").unwrap()).join("..");
     let given = env::var("CRACKLEDRAY_LIB").ok();
-    // Each run of library/archive writes its archive anew, so that one cannot be what is watched.
     let watched = match &given {
-        Some(folder) => Path::new(folder).join("libcrackledray.a"),
-        None => library.join("../crates"),
+        Some(folder) => vec![Path::new(folder).join("libcrackledray.a")],
+        None => sources(&library.join("..")),
     };
     let folder = given.unwrap_or_else(|| made(&library));
     println!("cargo:rustc-link-search=native={folder}");
     println!("cargo:rustc-link-lib=static=crackledray");
     println!("cargo:rerun-if-env-changed=CRACKLEDRAY_LIB");
-    println!("cargo:rerun-if-changed={}", watched.display());
+    for path in watched {
+        println!("cargo:rerun-if-changed={}", path.display());
+    }
 }
