@@ -1,4 +1,6 @@
 // The answers of the session language, written into a buffer from a place on; each function gives the place behind.
+#![tactic(auto)]
+
 ghost use Rattle.std.specs.Prelude.{◌≡◌, List, [], ◌∷◌, ◌++◌, ℕ, ◌+◌, ◌*◌, ◌≤◌, length, drop, replicate};
 ghost use Rattle.std.specs.Float.{binary32, binary64};
 ghost use Rattle.text.specs.Digits.{decimal_of};

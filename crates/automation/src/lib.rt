@@ -1,4 +1,6 @@
 // The walk over a block's heads: the five bodies, named as in the Rust, and the loop that takes one head after the other.
+#![tactic(auto)]
+
 ghost use Rattle.std.specs.Prelude.{◌≡◌, [], ℕ, ◌+◌, ◌≤◌, ◌<◌, ◌^◌, length};
 ghost use Rattle.std.specs.Float.{binary64};
 ghost use Rattle.std.specs.Float.Ieee.{add, sub};
@@ -18,7 +20,7 @@ use rules::{AutomationRate, BlockInfos, Event, Finished, Head, LastEvent, MaybeT
 use timeline::{AudioParamEventTimeline, hold_or};
 
 // What a walk carries from head to head, beside the places of the block, of which the first `filled` places are filled (at K-rate: the block's one value).
-#[derive(Drop)]
+#[derive(Clone, Copy)]
 pub struct Walk {
     pub intrinsic: f32,
     pub last: LastEvent,
@@ -95,14 +97,14 @@ impl Walk {
 }
 
 // What a body answers.
-#[derive(Drop)]
+#[derive(Clone, Copy)]
 pub enum Go {
     Stop,
     On,
 }
 
 // A body's answer: what the walk then carries, and, where it stops, what its head has become.
-#[derive(Drop)]
+#[derive(Clone, Copy)]
 pub struct Turn {
     pub walk: Walk,
     pub go: Go,
@@ -565,7 +567,7 @@ fn begin(infos: BlockInfos, intrinsic: f32, last: LastEvent, buffer: &mut [f32])
 }
 
 // What a walk leaves: what it carried, how many heads are finished, and what the head behind them has become, if one waits.
-#[derive(Drop)]
+#[derive(Clone, Copy)]
 pub struct Walked {
     pub walk: Walk,
     pub at: usize,

@@ -1,5 +1,7 @@
 // Document 01's bench sheet, played: each row as the document writes it, with the samples and steps that the code gives, those of
 // the plain renderer, and the first place at which the two differ. Then faults are planted, and must be seen.
+#![tactic(auto)]
+
 ghost use Rattle.std.specs.Prelude.{◌≤◌, length};
 ghost use Rattle.param.specs.Param.{SoundParam};
 ghost use Rattle.bench.specs.Blocks.{SoundBlocks};
@@ -10,7 +12,7 @@ use param::{AudioParam, Processed};
 use sheet::{Blocks, Renderer, Row};
 
 // What is changed of the plain renderer's first block before the two are compared: nothing but in the self-test.
-#[derive(Drop)]
+#[derive(Clone, Copy)]
 enum Fault {
     None,
     Sample,

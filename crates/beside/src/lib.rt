@@ -1,4 +1,6 @@
 // Two renderers' results beside each other: the first place at which their samples differ, and whether their answers are the same.
+#![tactic(auto)]
+
 ghost use Rattle.std.specs.Prelude.{◌≡◌};
 ghost use Rattle.param.specs.Param.{param_of, SoundParam};
 ghost use Rattle.beside.specs.Beside.{SameValue, FirstPlace, Tells, number_for};
@@ -9,7 +11,7 @@ use rules::Verdict;
 use text::write::single_bits;
 
 // A place of two runs of samples, or none of them.
-#[derive(Drop)]
+#[derive(Clone, Copy)]
 pub enum Place {
     None,
     At(usize),

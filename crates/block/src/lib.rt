@@ -1,4 +1,6 @@
 // What a block is and what it writes: its times, whether it needs a walk, its samples mixed with the input.
+#![tactic(auto)]
+
 ghost use Rattle.std.specs.Prelude.{◌≡◌, true, List, ℕ, ◌+◌, ◌≤◌, ◌<◌, length, take, replicate, Float};
 ghost use Rattle.rules.specs.Refusals.{fits_count};
 ghost use Rattle.rules.specs.Mix.{first_of};

@@ -1,4 +1,6 @@
 // A line of the session language, read as the call that it is.
+#![tactic(auto)]
+
 ghost use Rattle.std.specs.Prelude.{◌≡◌, List, ℕ, ◌≤◌, length, take, Float};
 ghost use Rattle.text.specs.Words.{words_from, taken, count_at};
 ghost use Rattle.calls.specs.Language.{heard, Heard, rate_in, rate_at, edition_taken, numbers_at, counted_at, singles, counted, make_of, set_of, timed, target_of, curve_of, cancelling, block_of, lend_of, poke_of, state_of, save_of, load_of, found, scheduling, call_of};
@@ -11,7 +13,7 @@ use text::words::{
 
 // A call of the page, or a line that has none. The numbers of a curve and a block's input go into a lent slice, and a file's bytes into
 // another.
-#[derive(Drop)]
+#[derive(Clone, Copy)]
 pub enum Call {
     Nothing,
     Unread,
@@ -78,42 +80,42 @@ pub enum Call {
     },
 }
 
-#[derive(Drop)]
+#[derive(Clone, Copy)]
 pub enum NextRate {
     Is { rate: AutomationRate, next: usize },
     Unread,
 }
 
 // Where the words behind some numbers begin.
-#[derive(Drop)]
+#[derive(Clone, Copy)]
 pub enum NextNumbers {
     At(usize),
     Unread,
 }
 
 // How many numbers were said, and where the words behind them begin.
-#[derive(Drop)]
+#[derive(Clone, Copy)]
 pub enum NextCounted {
     Is { len: usize, next: usize },
     Unread,
 }
 
 // What is scheduled by a value and a time, and what is called with a time alone.
-#[derive(Drop)]
+#[derive(Clone, Copy)]
 pub enum Timed {
     Step,
     Linear,
     Exponential,
 }
 
-#[derive(Drop)]
+#[derive(Clone, Copy)]
 pub enum Cancelling {
     Cancel,
     Hold,
 }
 
 // By which of the two a block is played; their answers are the same.
-#[derive(Drop)]
+#[derive(Clone, Copy)]
 pub enum Renderer {
     Fast,
     Plain,

@@ -1,11 +1,13 @@
 // A schedule file for the memory card (02, C-11): its rules (specs/) and what follows from them (proofs/). Here is what a call says of a file.
+#![tactic(auto)]
+
 ghost use Rattle.std.specs.Prelude.{◌≡◌};
 ghost use Rattle.card.specs.Card.{fault_number, is_accepted};
 
 use rules::Refusal;
 
 // Why a file is refused, or a schedule that is to be written.
-#[derive(Drop)]
+#[derive(Clone, Copy)]
 pub enum Fault {
     UnknownTag,
     WrongLength,
@@ -22,14 +24,14 @@ pub enum Fault {
     NoRoom,
 }
 
-#[derive(Drop)]
+#[derive(Clone, Copy)]
 pub enum CardVerdict {
     Answered,
     Refused(Fault),
 }
 
 // What a call says, and where: the offset of a field that is refused, an event's place in writing; answered, how many bytes the file has.
-#[derive(Drop)]
+#[derive(Clone, Copy)]
 pub struct Judged {
     pub verdict: CardVerdict,
     pub at: usize,

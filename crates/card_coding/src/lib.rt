@@ -1,5 +1,7 @@
 // The calls of a schedule file for programs in Rust or C (02, C-11): a parameter's state written as a file, and a file read in parts, the reader kept between them
 // in an array of plain numbers that the caller lends.
+#![tactic(auto)]
+
 ghost use Rattle.std.specs.Prelude.{◌≡◌};
 ghost use Rattle.card_coding.specs.Calls.{bad_card, WritesCard, OpensCard, HearsCard, EndsCard};
 

@@ -1,5 +1,7 @@
 // The reader: a file in parts, field by field. Beside the struct two slices are lent to it, and no one else writes to them: the window, in which a
 // field is put together, and the numbers of the curves read so far.
+#![tactic(auto)]
+
 ghost use Rattle.std.specs.Prelude.{◌≡◌, true, false, ◌&&◌, min, ◌+◌, ◌^◌, ◌≤◌, ◌<◌, leb, length, take};
 ghost use Rattle.rules.specs.Numbers.{store_length};
 ghost use Rattle.param.specs.Param.{SoundParam};
@@ -19,7 +21,7 @@ use text::write::put_word;
 pub mod field; // field.rt: what stands in a field
 
 // What is read so far, but the curves' numbers.
-#[derive(Drop)]
+#[derive(Clone, Copy)]
 pub struct CardReader {
     pub param: AudioParam,
     pub rate: AutomationRate,
@@ -43,21 +45,21 @@ pub const WINDOW: usize = 65538;
 pub const PART: usize = 65536;
 
 // The reader after the complete fields of some bytes, and how many bytes are done with: all, where a field is refused.
-#[derive(Drop)]
+#[derive(Clone, Copy)]
 pub struct Taken {
     reader: CardReader,
     used: usize,
 }
 
 // The reader after a part; one that is too long is not taken, and nothing changes.
-#[derive(Drop)]
+#[derive(Clone, Copy)]
 pub struct Fed {
     pub taken: bool,
     pub reader: CardReader,
 }
 
 // What reading a file says, and the parameter after it: the caller's where the file is refused.
-#[derive(Drop)]
+#[derive(Clone, Copy)]
 pub struct Loaded {
     pub says: Judged,
     pub param: AudioParam,

@@ -1,4 +1,6 @@
 // The writer: a parameter before its first block as a schedule file (02, C-11), into a lent slice.
+#![tactic(auto)]
+
 ghost use Rattle.std.specs.Prelude.{◌≡◌, ◌∷◌, ◌++◌, ◌+◌, ◌*◌, ◌≤◌, length};
 ghost use Rattle.rules.specs.Numbers.{store_length};
 ghost use Rattle.text.specs.Put.{Put};

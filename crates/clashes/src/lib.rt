@@ -1,4 +1,6 @@
 // What an event runs into that is refused by 11: a waiting curve, or an event that would be inside of it. And that in words.
+#![tactic(auto)]
+
 ghost use Rattle.std.specs.Prelude.{◌≡◌, ◌+◌, ◌≤◌, length};
 ghost use Rattle.text.specs.Put.{Put};
 ghost use Rattle.timeline.specs.Timeline.{waiting, Neat};
@@ -15,7 +17,7 @@ use text::write::put_word;
 use timeline::{AudioParamEventTimeline, curve_end, filed_under};
 
 // What is in the way: a curve, from its start to its end, or an event, by the time that it is filed under.
-#[derive(Drop)]
+#[derive(Clone, Copy)]
 pub enum Clash {
     None,
     Curve { start: f64, end: f64 },

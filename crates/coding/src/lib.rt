@@ -1,4 +1,6 @@
 // The state that a caller keeps, an array of plain numbers: a parameter read from it, and written to it.
+#![tactic(auto)]
+
 ghost use Rattle.std.specs.Prelude.{◌≡◌, length};
 ghost use Rattle.laws.specs.Editions.{number_of_edition};
 ghost use Rattle.param.specs.Param.{param_of, SoundParam, unmade};

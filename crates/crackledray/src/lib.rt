@@ -1,6 +1,8 @@
 // The parameter for programs in Rust or C: each call over a state, an array of plain numbers that the caller keeps, and the curve store.
 // A call gives 0, document 01's number of its refusal, or 100 where the state fails its test (coding's is_state); a file's calls 02's numbers too. Refused, nothing changes,
 // but that a make refused by 1 or 12 writes its empty parameter, and a refused block its 0 steps, current value 0 and not one-valued.
+#![tactic(auto)]
+
 ghost use Rattle.std.specs.Prelude.{◌≡◌, [], length};
 ghost use Rattle.rules.specs.Block.{set, step, linear, exponential, target, curve, cancel, hold};
 ghost use Rattle.block.specs.Asked.{asked};

@@ -6,7 +6,7 @@ use Prim.Native.Char.{code}
 use Rattle.std.specs.Float.{nan, inf, Format, binary32, binary64}
 use Rattle.std.specs.Float.Ieee.{round}
 use Rattle.rules.specs.Numbers.{narrowed}
-use Rattle.bytes.specs.Bytes.{index_of}
+use Rattle.scan.specs.Bytes.{index_of}
 use Rattle.text.specs.Digits.{number_in}
 use Rattle.text.specs.Floats.{float_in}
 use Rattle.text.specs.Words.{Word, same_word, count_in}

@@ -6,14 +6,14 @@ ghost use Rattle.std.specs.Float.Ieee.Exact.{HasValue};
 ghost use Rattle.text.specs.Digits.{number_from, as_number};
 ghost use Rattle.text.specs.Floats.{as_single, as_double};
 ghost use Rattle.text.specs.Words.{up_to};
-ghost use Rattle.bytes.specs.Bytes.{index_of};
+ghost use Rattle.scan.specs.Bytes.{index_of};
 ghost use Rattle.decimal.specs.Decimals.{is_minus, sign_length, fraction_digits, digits_in, tens_in, scaled_by, unsigned_in, decimal_in, named_in, plain_in};
 
 use text::read::{Double, Number, Single, count_in, digit, double_in, single_in};
 use text::words::same;
 
 // How many tens a number is multiplied by, or divided by.
-#[derive(Drop)]
+#[derive(Clone, Copy)]
 pub enum Tens {
     Up(u64),
     Down(u64),
@@ -21,7 +21,7 @@ pub enum Tens {
 }
 
 // Whether a number begins with a minus, and the place behind its sign.
-#[derive(Drop)]
+#[derive(Clone, Copy)]
 struct Sign {
     minus: bool,
     len: usize,
@@ -175,10 +175,10 @@ fn lowered(minus: bool, d: u64, places: u64, n: u64) -> Double
 fn unsigned_in(minus: bool, word: &[u8]) -> Double
     ensures { result ≡ as_double (unsigned_in minus word.now) }
 {
-    let lower = bytes::scan::find(word, 0, word.len(), b'e');
-    let end = bytes::scan::find(word, 0, lower, b'E');
+    let lower = scan::find(word, 0, word.len(), b'e');
+    let end = scan::find(word, 0, lower, b'E');
     let digits = &word[..end];
-    let point = bytes::scan::find(digits, 0, end, b'.');
+    let point = scan::find(digits, 0, end, b'.');
     let Number::Is(d) = digits_in(digits, point) else {
         return Double::Unread;
     };

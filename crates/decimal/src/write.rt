@@ -8,7 +8,7 @@ ghost use Rattle.decimal.specs.Shown.{shown_as, shown as shown_of, sign_text, pl
 use text::write::{put_byte, put_count, put_digits, put_double, put_single, put_word};
 
 // What of a float is shown.
-#[derive(Drop)]
+#[derive(Clone, Copy)]
 pub enum Printed {
     NotANumber,
     Infinite(bool),

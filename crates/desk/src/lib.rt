@@ -1,4 +1,6 @@
 // The calls of a session, made on one parameter and its store, and their answers.
+#![tactic(auto)]
+
 ghost use Rattle.std.specs.Prelude.{◌≡◌, true, List, ℕ, ◌+◌, ◌*◌, ◌≤◌, ◌<◌, length, take, drop, replicate, Float};
 ghost use Rattle.rules.specs.declared.Verdict.TheVariants as Verdict;
 ghost use Rattle.rules.specs.Numbers.{plus_zero};
@@ -24,7 +26,7 @@ use timeline::length_of;
 mod files; // files.rt: a schedule file written and read
 
 // The parameter at hand, how many numbers of the store are lent to its calls, and what these have cost since it was made.
-#[derive(Drop)]
+#[derive(Clone, Copy)]
 pub struct Desk {
     pub param: AudioParam,
     pub lent: usize,
@@ -32,7 +34,7 @@ pub struct Desk {
 }
 
 // The desk after a call, and the place behind its answer.
-#[derive(Drop)]
+#[derive(Clone, Copy)]
 pub struct Answered {
     pub desk: Desk,
     pub next: usize,

@@ -1,4 +1,6 @@
 // Runs of samples into the places of a block: one value, a ramp, a target, a curve.
+#![tactic(auto)]
+
 ghost use Rattle.std.specs.Prelude.{◌≡◌, cond, ℕ, ◌≤◌, length};
 ghost use Rattle.rules.specs.Numbers.{store_length, plus_zero, is_subnormal, time_at};
 ghost use Rattle.rules.specs.Samples.{ramp_sample, linear_sample, target_sample, curve_sample};
@@ -9,7 +11,7 @@ ghost use Rattle.fills.specs.Filled.{Room, Filled, Flushed, writes_none};
 use rules::{AutomationRate, BlockInfos, Finished};
 
 // What `fill_target` gives back: how many places are filled then, and the target's value at its `end_time`.
-#[derive(Drop)]
+#[derive(Clone, Copy)]
 pub struct Faded {
     pub filled: usize,
     pub value: f32,

@@ -1,4 +1,6 @@
 // Tests of single floats, each equal to document 01's word for it; and the times that it names.
+#![tactic(auto)]
+
 ghost use Rattle.std.specs.Prelude.{◌≡◌};
 ghost use Rattle.rules.specs.Numbers.{is_finite, is_zero, is_positive, is_negative, is_subnormal, magnitude as magnitude_of, taken_time, later_of};
 

@@ -1,4 +1,6 @@
 // The two whole-number kernels: falling power and log.
+#![tactic(auto)]
+
 ghost use Rattle.std.specs.Prelude.{◌≡◌, ◌^◌, ◌≤◌, ◌<◌, drop};
 ghost use Rattle.rules.specs.Kernels.{table, falling_from, falling, log as log_of};
 

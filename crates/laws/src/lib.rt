@@ -1,1 +1,2 @@
 // No code: a parameter's invariant (specs/), and theorems over `rules` that many proofs want (proofs/).
+#![tactic(auto)]

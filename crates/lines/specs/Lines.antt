@@ -1,6 +1,6 @@
 -- Lines of an input that comes in pieces, by what a buffer holds of it.
 use Rattle.std.specs.Prelude.{Bool, true, false, cond, ◌||◌, List, ℕ, ◌+◌, ◌-◌, ◌≤◌, eqb, length, take, drop}
-use Rattle.bytes.specs.Bytes.{index_of, slice}
+use Rattle.scan.specs.Bytes.{index_of, slice}
 use Rattle.text.specs.Put.{put}
 use Rattle.lines.specs.declared.Lines.{Lines}
 use Rattle.lines.specs.declared.Next.{Next}

@@ -1,25 +1,27 @@
 // Lines taken out of a buffer that is filled from the input. A line that is longer than the buffer is passed over to
 // its newline, and said to be long.
+#![tactic(auto)]
+
 ghost use Rattle.std.specs.Prelude.{◌≡◌, ℕ, ◌+◌, ◌-◌, ◌≤◌, ◌<◌, length, take, drop};
 ghost use Rattle.text.specs.Put.{put};
 ghost use Rattle.lines.specs.Lines.{Within, next_of, last_of, left_of, moved_of};
 
 // The bytes of the buffer that are not yet taken, and whether the line that they begin with was begun before them.
-#[derive(Drop)]
+#[derive(Clone, Copy)]
 pub struct Lines {
     pub from: usize,
     pub to: usize,
     pub long: bool,
 }
 
-#[derive(Drop)]
+#[derive(Clone, Copy)]
 pub enum Next {
     Line { from: usize, to: usize },
     Long,
     None,
 }
 
-#[derive(Drop)]
+#[derive(Clone, Copy)]
 pub struct Taken {
     pub next: Next,
     pub lines: Lines,
@@ -32,7 +34,7 @@ pub fn next_line(buf: &[u8], lines: Lines) -> Taken
 {
     let from = lines.from;
     let to = lines.to;
-    let end = bytes::scan::find(buf, from, to, b'\n');
+    let end = scan::find(buf, from, to, b'\n');
     if end == to {
         return Taken {
             next: Next::None,

@@ -1,4 +1,6 @@
 // The mix: each sample is input + value, NaN becomes the default, all else is clamped to the range.
+#![tactic(auto)]
+
 ghost use Rattle.std.specs.Prelude.{◌≡◌, true, false, cond, ◌≤◌, length, replicate};
 ghost use Rattle.std.specs.Float.{binary32};
 ghost use Rattle.std.specs.Float.Ieee.{add, lt, is_nan};

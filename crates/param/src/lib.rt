@@ -1,4 +1,6 @@
 // One parameter: its constructor, and the calls that schedule and cancel its events.
+#![tactic(auto)]
+
 ghost use Rattle.std.specs.Prelude.{◌≡◌, cond, [], leb, length, take, drop};
 ghost use Rattle.rules.specs.Queue.{lengths_of, any_covers, is_by, has_started, loses_head, loses_curve, returned, target_event};
 ghost use Rattle.rules.specs.Refusals.{is_crossed};
@@ -15,7 +17,7 @@ use timeline::{AudioParamEventTimeline, curve_end, filed_under, goes_at, is_ramp
 mod taking; // taking.rt: events that can wait, from outside
 pub mod process; // process.rt: the block
 
-#[derive(Drop)]
+#[derive(Clone, Copy)]
 pub struct AudioParam {
     bounds: Bounds,
     rate: AutomationRate,
@@ -30,14 +32,14 @@ pub struct AudioParam {
 }
 
 // What a call says, and the parameter after it.
-#[derive(Drop)]
+#[derive(Clone, Copy)]
 pub struct Outcome {
     pub verdict: Verdict,
     pub param: AudioParam,
 }
 
 // What a block says, and the parameter after it. `one` says that all its samples are one value.
-#[derive(Drop)]
+#[derive(Clone, Copy)]
 pub struct Processed {
     pub verdict: Verdict,
     pub param: AudioParam,

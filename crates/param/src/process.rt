@@ -12,7 +12,7 @@ use rules::{BlockInfos, Head, LastEvent, MaybeTime, Verdict};
 use timeline::AudioParamEventTimeline;
 
 // What the events of a block leave, and what the block says of them.
-#[derive(Drop)]
+#[derive(Clone, Copy)]
 pub struct Played {
     pub intrinsic: f32,
     pub last: LastEvent,

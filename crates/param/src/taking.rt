@@ -8,7 +8,7 @@ use refusals::sound::{is_clear, is_due, reach_of};
 use timeline::{AudioParamEventTimeline, filed_under, length_of};
 
 // Whether these events pass the tests of the invariant, and then the queue in which they wait.
-#[derive(Drop)]
+#[derive(Clone, Copy)]
 pub struct Taken {
     pub sound: bool,
     pub queue: AudioParamEventTimeline,

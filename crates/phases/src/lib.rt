@@ -1,4 +1,6 @@
 // What fast paths share: floors and sums seen in the patterns of `f64` values, and with them the sum of a linear or a curve's sample.
+#![tactic(auto)]
+
 ghost use Rattle.std.specs.Prelude.{◌≡◌, true, ◌⊎◌, ◌+◌, ◌*◌, ◌^◌, ◌≤◌, ◌<◌, T};
 ghost use Rattle.std.specs.Float.{binary32};
 ghost use Rattle.std.specs.Float.Ieee.{fits, eq};

@@ -1,6 +1,8 @@
 // The plain renderer: a slow engine to be read, with docs/RULES.md beside it. For each place of a block it starts again from the parameter as it was before the
 // block and finds that place's value alone, by a walk over the whole block that keeps one number. From the top: the block, a look for one place of it, the heads
 // that the look walks through, and how the value of a head goes with time.
+#![tactic(auto)]
+
 ghost use Rattle.std.specs.Prelude.{◌≡◌, ℕ, ◌-◌, ◌≤◌, ◌<◌, ◌^◌};
 ghost use Rattle.rules.specs.declared.BlockInfos.{BlockInfos};
 ghost use Rattle.rules.specs.Numbers.{time_at};
@@ -91,7 +93,7 @@ fn carry_on(param: AudioParam, infos: BlockInfos, input: usize, store: &mut [f32
 // ---- a look for one place
 
 // What a look carries from head to head.
-#[derive(Drop)]
+#[derive(Clone, Copy)]
 pub struct Look {
     // the block
     pub infos: BlockInfos,
@@ -108,7 +110,7 @@ pub struct Look {
 }
 
 // A look at its end: how many events are finished, and what the one behind them has become.
-#[derive(Drop)]
+#[derive(Clone, Copy)]
 pub struct Looked {
     pub look: Look,
     pub at: usize,
@@ -191,7 +193,7 @@ fn counted(look: Look) -> Look
 // ---- the heads
 
 // What a head does: it stops the walk and waits on, as it was or as what it has become; or it is consumed, and the walk goes on.
-#[derive(Drop)]
+#[derive(Clone, Copy)]
 pub enum Turn {
     Stop(Look, Event),
     On(Look),

@@ -1,4 +1,6 @@
 // Plays calls as a person writes them: reads them from standard input, a line each, and answers each with a line.
+#![tactic(auto)]
+
 ghost use Rattle.std.specs.Prelude.{◌≡◌, ℕ, ◌+◌, ◌*◌, ◌≤◌, length, Float, List};
 ghost use Rattle.text.specs.Put.{Put};
 ghost use Rattle.calls.specs.Language.{call_of};
@@ -20,7 +22,7 @@ use wording::{Field, translate};
 
 // What goes on from line to line: `count` lines were taken, the first `at` characters of the answers wait to be written, and
 // `more` says that the input has not ended.
-#[derive(Drop)]
+#[derive(Clone, Copy)]
 struct Played {
     desk: Desk,
     lines: Lines,

@@ -1,1 +1,2 @@
 // No code: theorems over the rules.
+#![tactic(auto)]

@@ -1,4 +1,6 @@
 // The falling power, estimated from above by a table that is made once a run and lent to each sample.
+#![tactic(auto)]
+
 ghost use Rattle.std.specs.Prelude.{◌≡◌, ◌+◌, ◌*◌, ◌/◌, ◌^◌, ◌≤◌, ◌<◌};
 ghost use Rattle.rules.specs.Kernels.{falling};
 ghost use Rattle.powers.specs.Estimates.{estimates};

@@ -1,4 +1,6 @@
 // Document 01's refusals: their numbers, and for each call the verdict. What is tested against a ceiling, the caller tests: it has the ceilings.
+#![tactic(auto)]
+
 ghost use Rattle.std.specs.Prelude.{◌≡◌, not, List, ◌∷◌, [], ◌+◌, leb, ltb, eqb, length, Float};
 ghost use Rattle.rules.specs.Numbers.{most_events, store_length, taken_time};
 ghost use Rattle.rules.specs.Queue.{lengths_of, any_covers};

@@ -1,4 +1,6 @@
 // An answer of the session language written for a person: floats in plain numbers, and what a refusal means.
+#![tactic(auto)]
+
 ghost use Rattle.std.specs.Prelude.{◌≡◌, ℕ, ◌+◌, ◌*◌, ◌≤◌, length, drop};
 ghost use Rattle.text.specs.Put.{Put};
 ghost use Rattle.text.specs.Words.{words_of};

@@ -1,5 +1,7 @@
 // IEEE 754's narrowing of an `f64` to an `f32`, and fused products, each rounded once, to the nearest, ties to even.
 // A fast path through `f64` where its result shows that nothing is lost, and whole-number arithmetic on the bits everywhere else.
+#![tactic(auto)]
+
 ghost use Rattle.std.specs.Prelude.{◌≡◌, cond, not, ◌⊎◌, ◌+◌, ◌*◌, ◌/◌, ◌%◌, ◌^◌, ◌≤◌, ◌<◌, T, eqb};
 ghost use Rattle.std.specs.Float.{binary32, binary64};
 ghost use Rattle.std.specs.Float.Ieee.{round, top, fits, is_nan, of_bits};
@@ -97,7 +99,7 @@ pub fn finite32(x: f32) -> bool
 }
 
 // A finite float taken apart: ±m * 2^j of its format's smallest value.
-#[derive(Drop)]
+#[derive(Clone, Copy)]
 pub struct Parts {
     pub neg: bool,
     pub m: u64,
@@ -128,7 +130,7 @@ pub fn parts32(x: f32) -> Parts
 }
 
 // A whole part, and whether there is a fraction beside it.
-#[derive(Drop)]
+#[derive(Clone, Copy)]
 struct Quotient {
     q: u64,
     rest: bool,
@@ -156,7 +158,7 @@ fn sticky(d: u64, rest: bool) -> u64
 }
 
 // ±d * 2^u.
-#[derive(Drop)]
+#[derive(Clone, Copy)]
 struct Signed {
     neg: bool,
     d: u64,

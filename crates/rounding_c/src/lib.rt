@@ -1,4 +1,6 @@
 // The functions of `rounding` for a program in Rust or C.
+#![tactic(auto)]
+
 ghost use Rattle.std.specs.Prelude.{◌≡◌, ◌≤◌};
 ghost use Rattle.std.specs.Float.{binary32, binary64};
 ghost use Rattle.rules.specs.Numbers.{narrowed, fused, wide};

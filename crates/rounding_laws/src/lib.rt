@@ -1,1 +1,2 @@
 // No code: laws of rounding over the format, for every crate that rounds.
+#![tactic(auto)]

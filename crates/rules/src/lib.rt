@@ -1,14 +1,15 @@
 // The plain types that document 01's rules speak of. No code: the rules are in specs/.
+#![tactic(auto)]
 
 // A time that may be missing: of the last answered block, of a hold, of a target's end.
-#[derive(Drop)]
+#[derive(Clone, Copy)]
 pub enum MaybeTime {
     Missing,
     At(f64),
 }
 
 // A waiting event; a curve's numbers stand in the curve store, `len` of them.
-#[derive(Drop)]
+#[derive(Clone, Copy)]
 pub enum Event {
     Step {
         value: f32,
@@ -39,28 +40,28 @@ pub enum Event {
 }
 
 // The first event of a queue, or that none waits.
-#[derive(Drop)]
+#[derive(Clone, Copy)]
 pub enum Head {
     Event(Event),
     Empty,
 }
 
 // Whether a block has a value for each sample (A) or one for all (K).
-#[derive(Drop)]
+#[derive(Clone, Copy)]
 pub enum AutomationRate {
     A,
     K,
 }
 
 // Which edition of the Web Audio API a parameter is made under: 1.0, or 1.1 with its longer blocks.
-#[derive(Drop)]
+#[derive(Clone, Copy)]
 pub enum Edition {
     First,
     Second,
 }
 
 // The range of a parameter's samples, and the value that it starts with.
-#[derive(Drop)]
+#[derive(Clone, Copy)]
 pub struct Bounds {
     pub min: f32,
     pub default: f32,
@@ -68,21 +69,21 @@ pub struct Bounds {
 }
 
 // A finished event's time and value.
-#[derive(Drop)]
+#[derive(Clone, Copy)]
 pub struct Finished {
     pub time: f64,
     pub value: f32,
 }
 
 // The last finished event: none, or its time and value.
-#[derive(Drop)]
+#[derive(Clone, Copy)]
 pub enum LastEvent {
     None,
     Done(Finished),
 }
 
 // What a body may know of its block: its time, the sample period, the next block's time, the count of samples, the rate.
-#[derive(Drop)]
+#[derive(Clone, Copy)]
 pub struct BlockInfos {
     pub time: f64,
     pub dt: f64,
@@ -92,7 +93,7 @@ pub struct BlockInfos {
 }
 
 // Why a call is refused; `number_of` in specs/Refusals.antt gives document 01's numbers, and 02's.
-#[derive(Drop)]
+#[derive(Clone, Copy)]
 pub enum Refusal {
     Bounds,
     NotFinite,
@@ -110,7 +111,7 @@ pub enum Refusal {
 }
 
 // What a call says: answered, or refused and why.
-#[derive(Drop)]
+#[derive(Clone, Copy)]
 pub enum Verdict {
     Answered,
     Refused(Refusal),

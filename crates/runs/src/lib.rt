@@ -1,5 +1,7 @@
 // Runs of samples: every place of a slice takes the sample at its time, the first at `time`, each next one `dt` later.
 // Up to 128 places take some passes, so that a processor need not wait in one for what it works out in another.
+#![tactic(auto)]
+
 ghost use Rattle.std.specs.Prelude.{◌≡◌, ℕ, ◌+◌, ◌-◌, ◌*◌, ◌/◌, ◌%◌, ◌^◌, ◌<◌, ◌≤◌, true, not, T, ◌⊎◌, length, ◌≢◌, from_bits, is_nan, slice_index, slice_index_or, Float};
 ghost use Rattle.std.specs.Float.{nan, binary32, binary64};
 ghost use Rattle.std.specs.Float.Ieee.{fits, sub, mul, lt};

@@ -1,4 +1,6 @@
 // The samples of the four kinds of event, named as in the Rust, a ramp's value, and the end place of a time.
+#![tactic(auto)]
+
 ghost use Rattle.std.specs.Prelude.{◌≡◌, ◌-◌, ◌*◌, ◌^◌, ◌<◌, ◌≤◌, true, length, pos, neg_ℤ};
 ghost use Rattle.rules.specs.Numbers.{store_length, whole_part, narrowed, periods_to, limit, place_from, end_place};
 ghost use Rattle.rules.specs.Samples.{decay_of, decay as decay_at, ratio_log, power as power_of, factor_of, has_no_length, ramp_sample, linear_sample, curve_sample};
@@ -257,7 +259,7 @@ fn limit_of(n: usize) -> f64
 }
 
 // The places from `low` to `high`: one of them is the end place.
-#[derive(Drop)]
+#[derive(Clone, Copy)]
 struct Candidates {
     low: usize,
     high: usize,
@@ -288,7 +290,7 @@ fn candidates_of(q: f64, count: usize) -> Candidates
 }
 
 // The place that a search found, and how many tests of q it took: whether it is a number, then one at each middle.
-#[derive(Drop)]
+#[derive(Clone, Copy)]
 struct Found {
     place: usize,
     tests: usize,

@@ -1,4 +1,6 @@
 // The runs of samples for programs in other languages: what speed/ measures.
+#![tactic(auto)]
+
 ghost use Rattle.std.specs.Prelude.{◌≡◌, ◌≤◌, length};
 ghost use Rattle.rules.specs.Numbers.{store_length, run};
 ghost use Rattle.rules.specs.Samples.{ratio_log, curve_sample};

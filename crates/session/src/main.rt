@@ -1,4 +1,6 @@
 // Reads calls of the session language from standard input, a line each, and answers each with a line.
+#![tactic(auto)]
+
 ghost use Rattle.std.specs.Prelude.{◌≡◌, ℕ, ◌+◌, ◌≤◌, length};
 ghost use Rattle.desk.specs.Desk.{SoundDesk, Spoken};
 ghost use Rattle.lines.specs.declared.Next.TheVariants as Next;
@@ -10,7 +12,7 @@ use libc::{STDIN_FILENO, STDOUT_FILENO};
 use lines::{Lines, Next, last_line, make_room, next_line};
 
 // What goes on from line to line. The first `at` characters of the answers wait to be written; `more` says that the input has not ended.
-#[derive(Drop)]
+#[derive(Clone, Copy)]
 struct Session {
     desk: Desk,
     lines: Lines,

@@ -1,4 +1,6 @@
 // Document 01's bench sheet: the rows B2 to B12, and how one is played by a renderer.
+#![tactic(auto)]
+
 ghost use Rattle.std.specs.Prelude.{◌≡◌};
 ghost use Rattle.block.specs.Asked.{asked};
 ghost use Rattle.param.specs.Param.{SoundParam};
@@ -11,7 +13,7 @@ use rules::{AutomationRate, Bounds, Verdict};
 use tick::process_by_tick;
 
 // What a row asks for before a block.
-#[derive(Drop)]
+#[derive(Clone, Copy)]
 pub enum Call {
     Nothing,
     Step {
@@ -42,7 +44,7 @@ pub enum Call {
 }
 
 // A row: the parameter, up to three calls, and a block at time 0.
-#[derive(Drop)]
+#[derive(Clone, Copy)]
 pub struct Row {
     pub bounds: Bounds,
     pub rate: AutomationRate,
@@ -340,7 +342,7 @@ fn set_up(row: Row, store: &mut [f32]) -> AudioParam
 }
 
 // What renders a block: all three have one contract.
-#[derive(Drop)]
+#[derive(Clone, Copy)]
 pub enum Renderer {
     Process,
     Tick,
@@ -388,7 +390,7 @@ fn block(
 }
 
 // What a row's two blocks answer.
-#[derive(Drop)]
+#[derive(Clone, Copy)]
 pub struct Blocks {
     pub first: Processed,
     pub second: Processed,

@@ -1,4 +1,5 @@
 // Blocks in a loop, for speed/run: the parameter of a state is read once, before the first block. The contract says nothing: it is safe, and ends.
+#![tactic(auto)]
 
 // Blocks `again` and again on the parameter as it was, for events that a block uses up: the steps of the last. `again` is an argument so that the compiler cannot leave out what a block leaves.
 #[unsafe(no_mangle)]

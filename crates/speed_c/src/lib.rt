@@ -1,4 +1,5 @@
 // Blocks in a loop, for speed/run: the parameter of a state is read once, before the first block. The contract says nothing: it is safe, and ends.
+#![tactic(auto)]
 
 // Blocks one behind the other, `advance` apart, each on the parameter that the last one left: the steps of the last.
 // The block is called from one place, so that the compiler can put it into the loop, and what it leaves is always taken: a test would cost a copy of the parameter.

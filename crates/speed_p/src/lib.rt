@@ -1,4 +1,6 @@
 // Blocks in a loop, for speed/run: the parameter of a state is read once, before the first block. The contract says nothing: it is safe, and ends.
+#![tactic(auto)]
+
 use plain::process;
 
 // Blocks one behind the other, `advance` apart, each on the parameter that the last one left, or `again` and again on the parameter as it was: the steps of the last.

@@ -1,4 +1,6 @@
 // Puts calls as a person writes them into the session language, a line each: what `./play --plain` hands to `session`.
+#![tactic(auto)]
+
 ghost use Rattle.std.specs.Prelude.{◌≡◌, ◌+◌, ◌*◌, ◌≤◌, length};
 ghost use Rattle.lines.specs.Lines.{LineIn};
 ghost use Rattle.strict.specs.Strict.{Going};
@@ -8,7 +10,7 @@ use lines::{Lines, Next, last_line, make_room, next_line};
 use wording::{Field, translate};
 
 // What goes on from line to line; `more` says that the input has not ended.
-#[derive(Drop)]
+#[derive(Clone, Copy)]
 struct Reading {
     lines: Lines,
     more: bool,

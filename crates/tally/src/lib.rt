@@ -1,4 +1,6 @@
 // The totals of a session as it goes on, kept from what is seen of each call; and they in words.
+#![tactic(auto)]
+
 ghost use Rattle.std.specs.Prelude.{◌≡◌, ◌++◌, ℕ, ◌+◌, ◌-◌, ◌≤◌, length};
 ghost use Rattle.text.specs.Digits.{decimal_of};
 ghost use Rattle.text.specs.Put.{Put};

@@ -2,7 +2,7 @@
 use Rattle.std.specs.Prelude.{Bool, true, false, cond, ◌&&◌, List, [], ◌∷◌, ℕ, ◌+◌, leb, eqb, length, drop, Float}
 use Rattle.std.proofs.Math.Option.{Option, none, some}
 use Rattle.std.specs.Float.{Format}
-use Rattle.bytes.specs.Bytes.{index_of}
+use Rattle.scan.specs.Bytes.{index_of}
 use Rattle.text.specs.Digits.{number_in}
 use Rattle.text.specs.declared.words.NextCount.{NextCount}
 use Rattle.text.specs.declared.words.NextCount.TheVariants as NextCount

@@ -6,19 +6,19 @@ ghost use Rattle.text.specs.Digits.{digit_of, number_in, bits_in, as_number};
 ghost use Rattle.text.specs.Floats.{float_in, as_single, as_double};
 
 // A number, or that the word is none.
-#[derive(Drop)]
+#[derive(Clone, Copy)]
 pub enum Number {
     Is(u64),
     Unread,
 }
 
-#[derive(Drop)]
+#[derive(Clone, Copy)]
 pub enum Single {
     Is(f32),
     Unread,
 }
 
-#[derive(Drop)]
+#[derive(Clone, Copy)]
 pub enum Double {
     Is(f64),
     Unread,

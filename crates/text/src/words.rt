@@ -8,19 +8,19 @@ ghost use Rattle.text.specs.Words.{same_word, end_of, words_from, taken, count_i
 use crate::read::{Double, Number, Single, count_in, double_in, single_in};
 
 // A number, and where the next word begins.
-#[derive(Drop)]
+#[derive(Clone, Copy)]
 pub enum NextCount {
     Is { value: u64, next: usize },
     Unread,
 }
 
-#[derive(Drop)]
+#[derive(Clone, Copy)]
 pub enum NextSingle {
     Is { value: f32, next: usize },
     Unread,
 }
 
-#[derive(Drop)]
+#[derive(Clone, Copy)]
 pub enum NextDouble {
     Is { value: f64, next: usize },
     Unread,
@@ -47,7 +47,7 @@ pub fn word_end(line: &[u8], at: usize) -> usize
     requires { at ≤ length line.now }
     ensures { (result ≡ end_of line.now at) × (at ≤ result) × (result ≤ length line.now) }
 {
-    bytes::scan::find(line, at, line.len(), b' ')
+    scan::find(line, at, line.len(), b' ')
 }
 
 // Whether no word is left.

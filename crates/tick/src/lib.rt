@@ -1,4 +1,6 @@
 // A block of a parameter that is lent, and changed where it lies.
+#![tactic(auto)]
+
 ghost use Rattle.param.specs.Param.{SoundParam};
 ghost use Rattle.param.specs.Processed.{Processes};
 ghost use Rattle.block.specs.Asked.{asked};
@@ -8,7 +10,7 @@ use param::{AudioParam, Processed};
 use rules::Verdict;
 
 // What a tick says; the parameter after it lies where the caller lent it.
-#[derive(Drop)]
+#[derive(Clone, Copy)]
 pub struct Ticked {
     pub verdict: Verdict,
     pub steps: usize,

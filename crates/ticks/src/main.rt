@@ -1,4 +1,6 @@
 // The bench sheet played twice, by `process` and by a tick of a parameter that is lent, and every result compared.
+#![tactic(auto)]
+
 use beside::{same_answer, same_values};
 use libc::STDOUT_FILENO;
 use param::AudioParam;

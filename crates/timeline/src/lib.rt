@@ -1,4 +1,6 @@
 // The waiting events of one parameter, by value, in the order in which they are walked.
+#![tactic(auto)]
+
 ghost use Rattle.std.specs.Prelude.{◌≡◌, [], ◌≤◌, ◌<◌, ◌^◌, take, drop, set};
 ghost use Rattle.rules.specs.Numbers.{most_events};
 ghost use Rattle.rules.specs.Queue.{hold_or, filed_under, is_ramp, curve_end, is_inside, is_filed_inside, any_covers, any_inside, length_of, lengths_of, place_behind, put_at, arrived, those, lasts_to, goes_at, held_event, runs_at, last_held, held, events_of, attached};
@@ -12,13 +14,13 @@ use rules::{Event, Head, MaybeTime};
 pub const EVENTS: usize = 64;
 
 // One waiting event.
-#[derive(Drop)]
+#[derive(Clone, Copy)]
 pub struct AudioParamEvent {
     pub event: Event,
 }
 
 // The events of the first `len` slots wait; the other slots are blank.
-#[derive(Drop)]
+#[derive(Clone, Copy)]
 pub struct AudioParamEventTimeline {
     pub slots: [AudioParamEvent; EVENTS],
     pub len: usize,

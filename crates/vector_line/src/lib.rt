@@ -1,5 +1,7 @@
 // One line of the list of outside vectors: read, worked out with `rounding`, and compared.
 // A line is a letter, four numbers of 16 hexadecimal digits, each behind a space, and a newline: operands, then what Rust gives.
+#![tactic(auto)]
+
 ghost use Rattle.std.specs.Prelude.{◌≡◌, ◌+◌, ◌%◌, ◌^◌, ◌≤◌, ◌<◌};
 ghost use Rattle.std.specs.Float.{binary32, binary64};
 ghost use Rattle.std.specs.Float.Ieee.{of_bits};

@@ -1,9 +1,11 @@
 // The outside vectors: each line of standard input is worked out and compared; a line that does not hold is named, then the lines are counted.
+#![tactic(auto)]
+
 ghost use Rattle.std.specs.Prelude.{◌+◌, ◌≤◌, ◌<◌};
 
 use libc::{STDIN_FILENO, STDOUT_FILENO};
 
-#[derive(Drop)]
+#[derive(Clone, Copy)]
 struct Tally {
     lines: u64,
     wrong: u64,

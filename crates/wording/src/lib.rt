@@ -1,4 +1,6 @@
 // A line as a person writes it, put into the session language: the same calls with decimal numbers, and `cost`, which that language has not.
+#![tactic(auto)]
+
 ghost use Rattle.std.specs.Prelude.{◌≡◌, ℕ, ◌+◌, ◌-◌, ◌*◌, ◌≤◌, ◌<◌, length, drop};
 ghost use Rattle.text.specs.Put.{Put};
 ghost use Rattle.wording.specs.Plain.{is_blank, is_small, words_at, spaced, field_of, fields, numbers, length_for, block_fields, edition_fields, made_fields, tail_of, formed, form_in, scheduling, rows, translated, translation};
@@ -10,7 +12,7 @@ use text::words::same;
 use text::write::{put_byte, put_count, put_double, put_single, put_word};
 
 // What a word is in the session language: a value's bits, a time's bits, or the same word.
-#[derive(Drop)]
+#[derive(Clone, Copy)]
 pub enum Kind {
     Value,
     Time,
@@ -18,7 +20,7 @@ pub enum Kind {
 }
 
 // The last words of a call: so many of a kind; all that are left, as values; those of a block; or a rate and what is behind it.
-#[derive(Drop)]
+#[derive(Clone, Copy)]
 pub enum Tail {
     Fields(Kind, usize),
     Numbers,
@@ -27,28 +29,28 @@ pub enum Tail {
 }
 
 // The words behind a call's name: so many of a kind, then the last ones.
-#[derive(Drop)]
+#[derive(Clone, Copy)]
 pub enum Form {
     Is { kind: Kind, many: usize, tail: Tail },
     Unknown,
 }
 
 // The places of the next word, or that none is left.
-#[derive(Drop)]
+#[derive(Clone, Copy)]
 pub enum Next {
     Word { from: usize, to: usize },
     End,
 }
 
 // The place behind what was written.
-#[derive(Drop)]
+#[derive(Clone, Copy)]
 pub enum Field {
     To(usize),
     Unread,
 }
 
 // The places behind what was read of a line, and behind what was written.
-#[derive(Drop)]
+#[derive(Clone, Copy)]
 pub enum Told {
     At { next: usize, to: usize },
     Unread,
@@ -424,6 +426,6 @@ pub fn translate(out: &mut [u8], line: &[u8]) -> Field
     requires { 21 + 17 * length line.now ≤ length out.old }
     ensures { Wrote (translation line.now) out.old 0 result out.new × Room out.old result }
 {
-    let end = bytes::scan::find(line, 0, line.len(), b'#');
+    let end = scan::find(line, 0, line.len(), b'#');
     put_call(out, &line[..end])
 }

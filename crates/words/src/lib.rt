@@ -1,4 +1,6 @@
 // Numbers and floats as bytes, low byte first, and floats as their bits, with one pattern for every NaN.
+#![tactic(auto)]
+
 ghost use Rattle.std.specs.Prelude.{◌≡◌, ◌+◌, ◌≤◌, length};
 ghost use Rattle.text.specs.Put.{Put};
 ghost use Rattle.words.specs.Words.{single_in, double_in, SingleBits, DoubleBits, bytes_of, word_at, single_at, double_at, single_bytes, double_bytes};
