@@ -7,9 +7,10 @@ ghost use Rattle.param.specs.Param.{SoundParam};
 ghost use Rattle.bench.specs.Blocks.{SoundBlocks};
 
 use beside::{Place, first_difference, same_answer, same_values};
-use libc::STDOUT_FILENO;
 use param::{AudioParam, Processed};
 use sheet::{Blocks, Renderer, Row};
+use std::io;
+use std::io::Stdout;
 
 // What is changed of the plain renderer's first block before the two are compared: nothing but in the self-test.
 #[derive(Clone, Copy)]
@@ -19,97 +20,109 @@ enum Fault {
     Steps,
 }
 
-fn say(text: &[u8]) {
-    io::write_all(STDOUT_FILENO, text);
+fn say(stdout: Stdout, text: &[u8]) -> io::Result<()> {
+    stdout.write_all(text)
 }
 
-fn say_count(n: u64) {
-    io::print_decimal(STDOUT_FILENO, n);
+fn say_count(stdout: Stdout, n: u64) -> io::Result<()> {
+    stdout.print(n)
 }
 
 // A value in plain decimals.
-fn say_value(x: f32) {
+fn say_value(stdout: Stdout, x: f32) -> io::Result<()> {
     let mut text = [0u8; 28];
     let n = decimal::write::put_value(&mut text, 0, x);
-    io::write_all(STDOUT_FILENO, &text[..n]);
+    say(stdout, &text[..n])
 }
 
 // A block's samples, and its steps.
-fn say_block(samples: &[f32], steps: usize) {
+fn say_block(stdout: Stdout, samples: &[f32], steps: usize) -> io::Result<()> {
     let mut i = 0;
     while i < samples.len() {
         if 0 < i {
-            say(b" ");
+            say(stdout, b" ")?;
         }
-        say_value(samples[i]);
+        say_value(stdout, samples[i])?;
         i += 1;
     }
-    say(b"; ");
-    say_count(steps as u64);
+    say(stdout, b"; ")?;
+    say_count(stdout, steps as u64)
 }
 
 // The set-up of a row from 2 to 12, in the sheet's words.
-fn say_set_up(n: u64) {
+fn say_set_up(stdout: Stdout, n: u64) -> io::Result<()> {
     if n == 2 {
-        say(b"step 5 at 2, 4");
+        say(stdout, b"step 5 at 2, 4")
     } else if n == 3 {
-        say(b"step 5 at 2.5, 4");
+        say(stdout, b"step 5 at 2.5, 4")
     } else if n == 4 {
-        say(b"step 5 at 4, 4");
+        say(stdout, b"step 5 at 4, 4")
     } else if n == 5 {
-        say(b"step 0 at 0, linear 8 at 8, 10");
+        say(stdout, b"step 0 at 0, linear 8 at 8, 10")
     } else if n == 6 {
-        say(b"B5 with hold at 2, 4");
+        say(stdout, b"B5 with hold at 2, 4")
     } else if n == 7 {
-        say(b"curve 0 4 0 from 0 for 4, 6");
+        say(stdout, b"curve 0 4 0 from 0 for 4, 6")
     } else if n == 8 {
-        say(b"step 0 at 0, exponential 5 at 3, 5");
+        say(stdout, b"step 0 at 0, exponential 5 at 3, 5")
     } else if n == 9 {
-        say(b"range \xe2\x88\x9210..3, step 5 at 2, 4");
+        say(stdout, b"range \xe2\x88\x9210..3, step 5 at 2, 4")
     } else if n == 10 {
-        say(b"K-rate, step 5 at 0, 4 and 4");
+        say(stdout, b"K-rate, step 5 at 0, 4 and 4")
     } else if n == 11 {
-        say(b"range \xe2\x88\x921..1, default 0.5, input NaN 0, 2");
+        say(
+            stdout,
+            b"range \xe2\x88\x921..1, default 0.5, input NaN 0, 2",
+        )
     } else {
-        say(b"B5, count 4, cancel at 5, 4");
+        say(stdout, b"B5, count 4, cancel at 5, 4")
     }
 }
 
 // What a renderer gives for a row.
-fn say_blocks(row: Row, r: Blocks, first: &[f32], second: &[f32])
+fn say_blocks(stdout: Stdout, row: Row, r: Blocks, first: &[f32], second: &[f32]) -> io::Result<()>
     requires { SoundBlocks r × (row.count ≤ length first.now) × (row.again ≤ length second.now) }
 {
     let count = row.count;
     let before = r.first;
-    say_block(&first[..count], before.steps);
+    say_block(stdout, &first[..count], before.steps)?;
     if row.shows {
-        say(b", intrinsic ");
+        say(stdout, b", intrinsic ")?;
         let p = before.param;
-        say_value(p.intrinsic_value());
+        say_value(stdout, p.intrinsic_value())?;
     }
     if 0 < row.again {
         let again = row.again;
         let after = r.second;
-        say(b", then ");
-        say_block(&second[..again], after.steps);
+        say(stdout, b", then ")?;
+        say_block(stdout, &second[..again], after.steps)?;
     }
+    Ok(())
 }
 
 // A block by both: the first place at which their samples differ, and whether anything else that they answer does.
-fn say_difference(r: Processed, t: Processed, output: &[f32], samples: &[f32])
+fn say_difference(
+    stdout: Stdout,
+    r: Processed,
+    t: Processed,
+    output: &[f32],
+    samples: &[f32],
+) -> io::Result<()>
     requires { SoundParam r.param × SoundParam t.param }
 {
     match first_difference(output, samples) {
-        Place::None => say(b"none"),
-        Place::At(i) => say_count(i as u64),
+        Place::None => say(stdout, b"none")?,
+        Place::At(i) => say_count(stdout, i as u64)?,
     }
     if !same_answer(r, t) {
-        say(b" (the answers differ)");
+        say(stdout, b" (the answers differ)")?;
     }
+    Ok(())
 }
 
 // The blocks of a row by both.
 fn say_differences(
+    stdout: Stdout,
     row: Row,
     r: Blocks,
     t: Blocks,
@@ -117,18 +130,19 @@ fn say_differences(
     second: &[f32],
     plain_first: &[f32],
     plain_second: &[f32],
-)
+) -> io::Result<()>
     requires { SoundBlocks r × SoundBlocks t }
 {
     let before = r.first;
     let plain_before = t.first;
-    say_difference(before, plain_before, first, plain_first);
+    say_difference(stdout, before, plain_before, first, plain_first)?;
     if 0 < row.again {
         let after = r.second;
         let plain_after = t.second;
-        say(b", then ");
-        say_difference(after, plain_after, second, plain_second);
+        say(stdout, b", then ")?;
+        say_difference(stdout, after, plain_after, second, plain_second)?;
     }
+    Ok(())
 }
 
 // An answer with another count of steps.
@@ -177,7 +191,7 @@ fn play_plain(
 }
 
 // A row by both, each with a parameter and a store of its own.
-fn say_row(row: Row, fault: Fault)
+fn say_row(stdout: Stdout, row: Row, fault: Fault) -> io::Result<()>
     requires { (row.count ≤ 10) × (row.again ≤ 10) }
 {
     let mut store = [0.0f32; AudioParam::STORE];
@@ -195,54 +209,71 @@ fn say_row(row: Row, fault: Fault)
         &mut plain_store,
     );
     let stores = same_values(&store, &plain_store);
-    say_blocks(row, r, &first, &second);
-    say(b" | ");
-    say_blocks(row, t, &plain_first, &plain_second);
-    say(b" | ");
-    say_differences(row, r, t, &first, &second, &plain_first, &plain_second);
+    say_blocks(stdout, row, r, &first, &second)?;
+    say(stdout, b" | ")?;
+    say_blocks(stdout, row, t, &plain_first, &plain_second)?;
+    say(stdout, b" | ")?;
+    say_differences(
+        stdout,
+        row,
+        r,
+        t,
+        &first,
+        &second,
+        &plain_first,
+        &plain_second,
+    )?;
     if !stores {
-        say(b" (the stores differ)");
+        say(stdout, b" (the stores differ)")?;
     }
-    say(b" |\n");
+    say(stdout, b" |\n")
 }
 
 // A line of the sheet.
-fn say_line(n: u64) {
-    say(b"| B");
-    say_count(n);
-    say(b" | ");
-    say_set_up(n);
-    say(b" | ");
-    say_row(sheet::row_of(n), Fault::None);
+fn say_line(stdout: Stdout, n: u64) -> io::Result<()> {
+    say(stdout, b"| B")?;
+    say_count(stdout, n)?;
+    say(stdout, b" | ")?;
+    say_set_up(stdout, n)?;
+    say(stdout, b" | ")?;
+    say_row(stdout, sheet::row_of(n), Fault::None)
 }
 
 // A kernel, of which there is one.
-fn say_falling_power() {
-    say(b"| B13 | falling power of 0 and 2^23 | ");
-    say_count(kernels::falling_power(0));
-    say(b", ");
-    say_count(kernels::falling_power(8388608));
-    say(b" | no block | no block |\n");
+fn say_falling_power(stdout: Stdout) -> io::Result<()> {
+    say(stdout, b"| B13 | falling power of 0 and 2^23 | ")?;
+    say_count(stdout, kernels::falling_power(0))?;
+    say(stdout, b", ")?;
+    say_count(stdout, kernels::falling_power(8388608))?;
+    say(stdout, b" | no block | no block |\n")
 }
 
 // Faults planted on purpose: were they not seen, `none` would stand in the last column.
-fn say_self_test() {
-    say(b"| self-test | B5, place 4 of the plain samples changed on purpose | ");
-    say_row(sheet::row_of(5), Fault::Sample);
-    say(b"| self-test | B5, the plain steps changed on purpose | ");
-    say_row(sheet::row_of(5), Fault::Steps);
+fn say_self_test(stdout: Stdout) -> io::Result<()> {
+    say(
+        stdout,
+        b"| self-test | B5, place 4 of the plain samples changed on purpose | ",
+    )?;
+    say_row(stdout, sheet::row_of(5), Fault::Sample)?;
+    say(
+        stdout,
+        b"| self-test | B5, the plain steps changed on purpose | ",
+    )?;
+    say_row(stdout, sheet::row_of(5), Fault::Steps)
 }
 
-fn main() {
+fn main(rt: HostRuntime) -> io::Result<()> {
+    let stdout = rt.stdout();
     say(
+        stdout,
         b"| | Set-up, count | Samples; steps | By the plain renderer | First place that differs |\n",
-    );
-    say(b"|---|---|---|---|---|\n");
+    )?;
+    say(stdout, b"|---|---|---|---|---|\n")?;
     let mut n = 2u64;
     while n <= 12 {
-        say_line(n);
+        say_line(stdout, n)?;
         n += 1;
     }
-    say_falling_power();
-    say_self_test();
+    say_falling_power(stdout)?;
+    say_self_test(stdout)
 }

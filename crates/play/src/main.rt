@@ -1,7 +1,7 @@
 // Plays calls as a person writes them: reads them from standard input, a line each, and answers each with a line.
 #![tactic(auto)]
 
-ghost use Rattle.std.specs.Prelude.{◌≡◌, ℕ, ◌+◌, ◌*◌, ◌≤◌, length, Float, List};
+ghost use Rattle.std.specs.Prelude.{◌≡◌, ℕ, ◌+◌, ◌*◌, ◌≤◌, length, Float, List, IfOk};
 ghost use Rattle.text.specs.Put.{Put};
 ghost use Rattle.calls.specs.Language.{call_of};
 ghost use Rattle.param.specs.Param.{param_of};
@@ -12,9 +12,10 @@ ghost use Rattle.play.specs.Played.{not_read, clash_in, told, strict_turn, cost_
 use calls::read_call;
 use clashes::{Clash, clash_of, put_clash};
 use desk::{Answered, Desk, answer_line, at_first};
-use libc::{STDIN_FILENO, STDOUT_FILENO};
 use lines::{Lines, Next, last_line, make_room, next_line};
 use replies::put_reply;
+use std::io;
+use std::io::{Read, Stdin, Stdout};
 use tally::put_cost;
 use text::words::same;
 use text::write::{put_byte, put_count, put_word};
@@ -157,19 +158,20 @@ fn answer_plain(
 }
 
 // Room for one more answer: where there is none, those that wait are written.
-fn room(out: &[u8], at: usize) -> usize
+fn room(stdout: Stdout, out: &[u8], at: usize) -> io::Result<usize>
     requires { (at ≤ length out.now) × (168200 ≤ length out.now) }
-    ensures { result + 168200 ≤ length out.now }
+    ensures { IfOk result (λ n. n + 168200 ≤ length out.now) }
 {
     if at <= out.len() - 168200 {
-        return at;
+        return Ok(at);
     }
-    io::write_all(STDOUT_FILENO, &out[..at]);
-    0
+    stdout.write_all(&out[..at])?;
+    Ok(0)
 }
 
 // The answer to a line, or none where there is none.
 fn answer_next(
+    stdout: Stdout,
     desk: Desk,
     n: u64,
     next: Next,
@@ -180,13 +182,13 @@ fn answer_next(
     said: &mut [u8],
     out: &mut [u8],
     at: usize,
-) -> Answered
+) -> io::Result<Answered>
     requires { SoundDesk desk × LineIn input.now next × Lent input.now strict.old numbers.old store.old said.old out.old × (at ≤ length out.old) }
-    ensures { SoundDesk result.desk × (result.next ≤ length out.old) }
+    ensures { IfOk result (λ r. SoundDesk r.desk × (r.next ≤ length out.old)) }
 {
-    let at = room(out, at);
+    let at = room(stdout, out, at)?;
     match next {
-        Next::Line { from, to } => answer_plain(
+        Next::Line { from, to } => Ok(answer_plain(
             desk,
             n,
             &input[from..to],
@@ -196,9 +198,9 @@ fn answer_next(
             said,
             out,
             at,
-        ),
-        Next::Long => answer_not_read(desk, n, out, at),
-        Next::None => Answered { desk, next: at },
+        )),
+        Next::Long => Ok(answer_not_read(desk, n, out, at)),
+        Next::None => Ok(Answered { desk, next: at }),
     }
 }
 
@@ -209,6 +211,7 @@ fn following(n: u64) -> u64 {
 
 // Every line of the input that ends in a newline.
 fn answer_lines(
+    stdout: Stdout,
     p: Played,
     input: &[u8],
     strict: &mut [u8],
@@ -216,9 +219,9 @@ fn answer_lines(
     store: &mut [f32],
     said: &mut [u8],
     out: &mut [u8],
-) -> Played
+) -> io::Result<Played>
     requires { Going p.desk p.lines p.at input.now strict.old numbers.old store.old said.old out.old }
-    ensures { Going result.desk result.lines result.at input.now strict.new numbers.new store.new said.new out.new }
+    ensures { IfOk result (λ r. Going r.desk r.lines r.at input.now strict.new numbers.new store.new said.new out.new) }
 {
     let mut desk = p.desk;
     let mut lines = p.lines;
@@ -229,17 +232,19 @@ fn answer_lines(
         let rest = t.lines;
         // no line was taken
         if rest.from == lines.from {
-            return Played {
+            return Ok(Played {
                 desk,
                 lines,
                 count: n,
                 at,
                 more: p.more,
-            };
+            });
         }
         let next = t.next;
         n = following(n);
-        let r = answer_next(desk, n, next, input, strict, numbers, store, said, out, at);
+        let r = answer_next(
+            stdout, desk, n, next, input, strict, numbers, store, said, out, at,
+        )?;
         desk = r.desk;
         lines = rest;
         at = r.next;
@@ -247,17 +252,17 @@ fn answer_lines(
 }
 
 // One read behind what is left of the input; how many characters came, none at its end.
-fn read_more(input: &mut [u8], at: usize) -> usize
+fn read_more(mut stdin: Stdin, input: &mut [u8], at: usize) -> io::Result<usize>
     requires { at ≤ length input.old }
-    ensures { at + result ≤ length input.old }
+    ensures { IfOk result (λ n. at + n ≤ length input.old) }
 {
-    let part = &mut input[at..];
-    let got = libc::read(STDIN_FILENO, part);
-    io::count(got, part)
+    stdin.read(&mut input[at..])
 }
 
 // Answers the lines that the input has, writes all answers, and reads more.
 fn turn(
+    stdin: Stdin,
+    stdout: Stdout,
     p: Played,
     input: &mut [u8],
     strict: &mut [u8],
@@ -265,33 +270,34 @@ fn turn(
     store: &mut [f32],
     said: &mut [u8],
     out: &mut [u8],
-) -> Played
+) -> io::Result<Played>
     requires { Going p.desk p.lines p.at input.old strict.old numbers.old store.old said.old out.old }
-    ensures { Going result.desk result.lines result.at input.new strict.new numbers.new store.new said.new out.new }
+    ensures { IfOk result (λ r. Going r.desk r.lines r.at input.new strict.new numbers.new store.new said.new out.new) }
 {
-    let p = answer_lines(p, &input[..], strict, numbers, store, said, out);
+    let p = answer_lines(stdout, p, &input[..], strict, numbers, store, said, out)?;
     let at = p.at;
-    io::write_all(STDOUT_FILENO, &out[..at]);
+    stdout.write_all(&out[..at])?;
     let left = make_room(input, p.lines);
     let to = left.to;
-    let got = read_more(input, to);
+    let got = read_more(stdin, input, to)?;
     let desk = p.desk;
     let lines = Lines {
         from: left.from,
         to: to + got,
         long: left.long,
     };
-    Played {
+    Ok(Played {
         desk,
         lines,
         count: p.count,
         at: 0,
         more: 0 < got,
-    }
+    })
 }
 
 // The line that the input ends with, where it has no newline.
 fn finish(
+    stdout: Stdout,
     p: Played,
     input: &[u8],
     strict: &mut [u8],
@@ -299,26 +305,30 @@ fn finish(
     store: &mut [f32],
     said: &mut [u8],
     out: &mut [u8],
-)
+) -> io::Result<()>
     requires { Going p.desk p.lines p.at input.now strict.old numbers.old store.old said.old out.old }
 {
     let desk = p.desk;
     let n = following(p.count);
     let next = last_line(p.lines);
-    let r = answer_next(desk, n, next, input, strict, numbers, store, said, out, 0);
+    let r = answer_next(
+        stdout, desk, n, next, input, strict, numbers, store, said, out, 0,
+    )?;
     let end = r.next;
-    io::write_all(STDOUT_FILENO, &out[..end]);
+    stdout.write_all(&out[..end])
 }
 
 // The whole input, as it comes.
 fn serve(
+    stdin: Stdin,
+    stdout: Stdout,
     input: &mut [u8],
     strict: &mut [u8],
     numbers: &mut [f32],
     store: &mut [f32],
     said: &mut [u8],
     out: &mut [u8],
-)
+) -> io::Result<()>
     requires { Lent input.old strict.old numbers.old store.old said.old out.old }
 {
     let mut p = Played {
@@ -337,10 +347,10 @@ fn serve(
         if !p.more {
             break;
         }
-        p = turn(p, input, strict, numbers, store, said, out);
+        p = turn(stdin, stdout, p, input, strict, numbers, store, said, out)?;
         turns -= 1;
     }
-    finish(p, &input[..], strict, numbers, store, said, out);
+    finish(stdout, p, &input[..], strict, numbers, store, said, out)
 }
 
 // Zeros for the translation of a line of 65,536 characters.
@@ -357,19 +367,28 @@ fn out_buffer() -> [u8; 262144]
     [0; 262144]
 }
 
-fn main() {
-    let mut input = io::large_buffer();
+// Zeros for what is read at a time, and for an answer of the session language.
+fn large_buffer() -> [u8; 65536]
+    ensures { 65536 ≡ length result }
+{
+    [0; 65536]
+}
+
+fn main(rt: HostRuntime) -> io::Result<()> {
+    let mut input = large_buffer();
     let mut strict = strict_buffer();
     let mut numbers = [0.0f32; 5000];
     let mut store = [0.0f32; 8192];
-    let mut said = io::large_buffer();
+    let mut said = large_buffer();
     let mut out = out_buffer();
     serve(
+        rt.stdin(),
+        rt.stdout(),
         &mut input,
         &mut strict,
         &mut numbers,
         &mut store,
         &mut said,
         &mut out,
-    );
+    )
 }

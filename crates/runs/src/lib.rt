@@ -15,7 +15,7 @@ ghost use Rattle.samples.specs.At.{linear_at, exponential_at, exponential_over, 
 ghost use Rattle.decays.specs.Cell.{Lifts, Middle};
 ghost use Rattle.decays.specs.Told.{Steps, shown, Shows};
 ghost use Rattle.runs.specs.After.{after};
-ghost use Rattle.runs.specs.Passes.{each, timed, phase_sum, every, begun, held_at};
+ghost use Rattle.runs.specs.Passes.{each, timed, phase_sum, Every, begun, held_at};
 ghost use Rattle.runs.specs.Placed.{Placed, Stands, Listed, Factor, InLifts, InGrown, Grows, Celled, Ordered, OneCell, Grew};
 ghost use Rattle.runs.specs.Rising.{Plain, Steady, Started, Rises, Spans, Between, Climbs, position_of, at_position};
 
@@ -748,7 +748,7 @@ fn factors_of(xs: &mut [f64], table: &[u32; 768])
 
 // And the sum with each.
 fn faded_any(out: &mut [f32], fs: &[f64], a: f64, c: f64)
-    requires out_len { (length out.old ≡ length fs.now) × every (λ f. T (fits binary32 f) × T (not (is_nan f))) fs.now }
+    requires out_len { (length out.old ≡ length fs.now) × Every (λ f. T (fits binary32 f) × T (not (is_nan f))) fs.now }
     requires t { T (fits binary32 a) × T (fits binary32 c) × T (finite a) × T (finite c) }
     ensures { out.new ≡ each (λ f. fused binary32 a f c) fs.now }
 {

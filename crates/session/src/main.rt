@@ -1,15 +1,16 @@
 // Reads calls of the session language from standard input, a line each, and answers each with a line.
 #![tactic(auto)]
 
-ghost use Rattle.std.specs.Prelude.{◌≡◌, ℕ, ◌+◌, ◌≤◌, length};
+ghost use Rattle.std.specs.Prelude.{◌≡◌, ℕ, ◌+◌, ◌≤◌, length, IfOk};
 ghost use Rattle.desk.specs.Desk.{SoundDesk, Spoken};
 ghost use Rattle.lines.specs.declared.Next.TheVariants as Next;
 ghost use Rattle.lines.specs.Lines.{LineIn, next_of};
 ghost use Rattle.session.specs.Session.{Lent, Going, Through, next_turn};
 
 use desk::{Answered, Desk, answer_line, answer_long, at_first};
-use libc::{STDIN_FILENO, STDOUT_FILENO};
 use lines::{Lines, Next, last_line, make_room, next_line};
+use std::io;
+use std::io::{Read, Stdin, Stdout};
 
 // What goes on from line to line. The first `at` characters of the answers wait to be written; `more` says that the input has not ended.
 #[derive(Clone, Copy)]
@@ -82,76 +83,85 @@ fn answer_lines(
 }
 
 // One read behind what is left of the input; how many characters came, none at its end.
-fn read_more(input: &mut [u8], at: usize) -> usize
+fn read_more(mut stdin: Stdin, input: &mut [u8], at: usize) -> io::Result<usize>
     requires { at ≤ length input.old }
-    ensures { at + result ≤ length input.old }
+    ensures { IfOk result (λ n. at + n ≤ length input.old) }
 {
-    let part = &mut input[at..];
-    let got = libc::read(STDIN_FILENO, part);
-    io::count(got, part)
+    stdin.read(&mut input[at..])
 }
 
 // Answers lines and writes the answers, or reads more where no whole line is left.
 fn turn(
+    stdin: Stdin,
+    stdout: Stdout,
     s: Session,
     input: &mut [u8],
     numbers: &mut [f32],
     file: &mut [u8],
     store: &mut [f32],
     out: &mut [u8],
-) -> Session
+) -> io::Result<Session>
     requires { Going s.desk s.lines s.at input.old numbers.old file.old store.old out.old }
-    ensures { Going result.desk result.lines result.at input.new numbers.new file.new store.new out.new }
+    ensures { IfOk result (λ r. Going r.desk r.lines r.at input.new numbers.new file.new store.new out.new) }
 {
     let s = answer_lines(s, &input[..], numbers, file, store, out);
     let at = s.at;
     let desk = s.desk;
     if 0 < at {
-        io::write_all(STDOUT_FILENO, &out[..at]);
+        stdout.write_all(&out[..at])?;
         let lines = s.lines;
-        return Session {
+        return Ok(Session {
             desk,
             lines,
             at: 0,
             more: true,
-        };
+        });
     }
     let left = make_room(input, s.lines);
     let to = left.to;
-    let n = read_more(input, to);
+    let n = read_more(stdin, input, to)?;
     let lines = Lines {
         from: left.from,
         to: to + n,
         long: left.long,
     };
-    Session {
+    Ok(Session {
         desk,
         lines,
         at: 0,
         more: 0 < n,
-    }
+    })
 }
 
 // The line that the input ends with, where it has no newline.
 fn finish(
+    stdout: Stdout,
     s: Session,
     input: &[u8],
     numbers: &mut [f32],
     file: &mut [u8],
     store: &mut [f32],
     out: &mut [u8],
-)
+) -> io::Result<()>
     requires { Going s.desk s.lines s.at input.now numbers.old file.old store.old out.old }
 {
     let desk = s.desk;
     let next = last_line(s.lines);
     let r = answer_next(desk, next, input, numbers, file, store, out, 0);
     let end = r.next;
-    io::write_all(STDOUT_FILENO, &out[..end]);
+    stdout.write_all(&out[..end])
 }
 
 // The whole input, as it comes.
-fn serve(input: &mut [u8], numbers: &mut [f32], file: &mut [u8], store: &mut [f32], out: &mut [u8])
+fn serve(
+    stdin: Stdin,
+    stdout: Stdout,
+    input: &mut [u8],
+    numbers: &mut [f32],
+    file: &mut [u8],
+    store: &mut [f32],
+    out: &mut [u8],
+) -> io::Result<()>
     requires { Lent numbers.old file.old store.old out.old }
 {
     let mut s = Session {
@@ -169,17 +179,32 @@ fn serve(input: &mut [u8], numbers: &mut [f32], file: &mut [u8], store: &mut [f3
         if !s.more {
             break;
         }
-        s = turn(s, input, numbers, file, store, out);
+        s = turn(stdin, stdout, s, input, numbers, file, store, out)?;
         turns -= 1;
     }
-    finish(s, &input[..], numbers, file, store, out);
+    finish(stdout, s, &input[..], numbers, file, store, out)
 }
 
-fn main() {
-    let mut input = io::large_buffer();
-    let mut out = io::large_buffer();
+// Zeros for what is read and written at a time.
+fn large_buffer() -> [u8; 65536]
+    ensures { 65536 ≡ length result }
+{
+    [0; 65536]
+}
+
+fn main(rt: HostRuntime) -> io::Result<()> {
+    let mut input = large_buffer();
+    let mut out = large_buffer();
     let mut numbers = [0.0f32; 5000];
     let mut file = [0u8; 30000];
     let mut store = [0.0f32; 8192];
-    serve(&mut input, &mut numbers, &mut file, &mut store, &mut out);
+    serve(
+        rt.stdin(),
+        rt.stdout(),
+        &mut input,
+        &mut numbers,
+        &mut file,
+        &mut store,
+        &mut out,
+    )
 }

@@ -1,12 +1,13 @@
 // Puts calls as a person writes them into the session language, a line each: what `./play --plain` hands to `session`.
 #![tactic(auto)]
 
-ghost use Rattle.std.specs.Prelude.{◌≡◌, ◌+◌, ◌*◌, ◌≤◌, length};
+ghost use Rattle.std.specs.Prelude.{◌≡◌, ◌+◌, ◌*◌, ◌≤◌, length, IfOk};
 ghost use Rattle.lines.specs.Lines.{LineIn};
 ghost use Rattle.strict.specs.Strict.{Going};
 
-use libc::{STDIN_FILENO, STDOUT_FILENO};
 use lines::{Lines, Next, last_line, make_room, next_line};
+use std::io;
+use std::io::{Read, Stdin, Stdout};
 use wording::{Field, translate};
 
 // What goes on from line to line; `more` says that the input has not ended.
@@ -17,32 +18,30 @@ struct Reading {
 }
 
 // A line, translated. Where it says nothing an empty line is written, which is no call of the session language either.
-fn write_line(line: &[u8], strict: &mut [u8])
+fn write_line(stdout: Stdout, line: &[u8], strict: &mut [u8]) -> io::Result<()>
     requires { 21 + 17 * length line.now ≤ length strict.old }
 {
     if let Field::To(to) = translate(strict, line) {
-        io::write_all(STDOUT_FILENO, &strict[..to]);
+        stdout.write_all(&strict[..to])?;
     }
-    io::write_all(STDOUT_FILENO, b"\n");
+    stdout.write_all(b"\n")
 }
 
 // A line, or none where there is none.
-fn write_next(next: Next, input: &[u8], strict: &mut [u8])
+fn write_next(stdout: Stdout, next: Next, input: &[u8], strict: &mut [u8]) -> io::Result<()>
     requires { LineIn input.now next × (length input.now ≤ 65536) × (21 + 17 * 65536 ≤ length strict.old) }
 {
     match next {
-        Next::Line { from, to } => write_line(&input[from..to], strict),
-        Next::Long => {
-            io::write_all(STDOUT_FILENO, b"\n");
-        }
-        Next::None => {}
+        Next::Line { from, to } => write_line(stdout, &input[from..to], strict),
+        Next::Long => stdout.write_all(b"\n"),
+        Next::None => Ok(()),
     }
 }
 
 // Every line of the input that ends in a newline; what is left.
-fn write_lines(lines: Lines, input: &[u8], strict: &mut [u8]) -> Lines
+fn write_lines(stdout: Stdout, lines: Lines, input: &[u8], strict: &mut [u8]) -> io::Result<Lines>
     requires { Going lines input.now strict.old }
-    ensures { Going result input.now strict.new }
+    ensures { IfOk result (λ l. Going l input.now strict.new) }
 {
     let mut lines = lines;
     loop {
@@ -50,46 +49,50 @@ fn write_lines(lines: Lines, input: &[u8], strict: &mut [u8]) -> Lines
         let rest = t.lines;
         // no line was taken
         if rest.from == lines.from {
-            return lines;
+            return Ok(lines);
         }
         let next = t.next;
-        write_next(next, input, strict);
+        write_next(stdout, next, input, strict)?;
         lines = rest;
     }
 }
 
 // One read behind what is left of the input; how many characters came, none at its end.
-fn read_more(input: &mut [u8], at: usize) -> usize
+fn read_more(mut stdin: Stdin, input: &mut [u8], at: usize) -> io::Result<usize>
     requires { at ≤ length input.old }
-    ensures { at + result ≤ length input.old }
+    ensures { IfOk result (λ n. at + n ≤ length input.old) }
 {
-    let part = &mut input[at..];
-    let got = libc::read(STDIN_FILENO, part);
-    io::count(got, part)
+    stdin.read(&mut input[at..])
 }
 
 // Writes the lines that the input has, and reads more.
-fn turn(lines: Lines, input: &mut [u8], strict: &mut [u8]) -> Reading
+fn turn(
+    stdin: Stdin,
+    stdout: Stdout,
+    lines: Lines,
+    input: &mut [u8],
+    strict: &mut [u8],
+) -> io::Result<Reading>
     requires { Going lines input.old strict.old }
-    ensures { Going result.lines input.new strict.new }
+    ensures { IfOk result (λ r. Going r.lines input.new strict.new) }
 {
-    let lines = write_lines(lines, &input[..], strict);
+    let lines = write_lines(stdout, lines, &input[..], strict)?;
     let left = make_room(input, lines);
     let to = left.to;
-    let got = read_more(input, to);
+    let got = read_more(stdin, input, to)?;
     let lines = Lines {
         from: left.from,
         to: to + got,
         long: left.long,
     };
-    Reading {
+    Ok(Reading {
         lines,
         more: 0 < got,
-    }
+    })
 }
 
 // The whole input, as it comes, and the line that it ends with, where that has no newline.
-fn serve(input: &mut [u8], strict: &mut [u8])
+fn serve(stdin: Stdin, stdout: Stdout, input: &mut [u8], strict: &mut [u8]) -> io::Result<()>
     requires { (length input.old ≤ 65536) × (21 + 17 * 65536 ≤ length strict.old) }
 {
     let mut r = Reading {
@@ -105,10 +108,10 @@ fn serve(input: &mut [u8], strict: &mut [u8])
         if !r.more {
             break;
         }
-        r = turn(r.lines, input, strict);
+        r = turn(stdin, stdout, r.lines, input, strict)?;
         turns -= 1;
     }
-    write_next(last_line(r.lines), &input[..], strict);
+    write_next(stdout, last_line(r.lines), &input[..], strict)
 }
 
 // Zeros for the translation of a line of 65,536 characters.
@@ -118,8 +121,15 @@ fn strict_buffer() -> [u8; 1114133]
     [0; 1114133]
 }
 
-fn main() {
-    let mut input = io::large_buffer();
+// Zeros for what is read at a time.
+fn large_buffer() -> [u8; 65536]
+    ensures { 65536 ≡ length result }
+{
+    [0; 65536]
+}
+
+fn main(rt: HostRuntime) -> io::Result<()> {
+    let mut input = large_buffer();
     let mut strict = strict_buffer();
-    serve(&mut input, &mut strict);
+    serve(rt.stdin(), rt.stdout(), &mut input, &mut strict)
 }

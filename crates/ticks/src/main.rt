@@ -2,9 +2,10 @@
 #![tactic(auto)]
 
 use beside::{same_answer, same_values};
-use libc::STDOUT_FILENO;
 use param::AudioParam;
 use sheet::{Renderer, Row};
+use std::io;
+use std::io::Stdout;
 
 // A row by either, each with a parameter and a store of its own.
 fn is_same(row: Row) -> bool {
@@ -31,20 +32,20 @@ fn is_same(row: Row) -> bool {
     samples & answers & same_values(&store, &tick_store)
 }
 
-fn say_row(n: u64) {
-    io::write_all(STDOUT_FILENO, b"B");
-    io::print_decimal(STDOUT_FILENO, n);
+fn say_row(stdout: Stdout, n: u64) -> io::Result<()> {
     if is_same(sheet::row_of(n)) {
-        io::write_all(STDOUT_FILENO, b" same\n");
+        println!(stdout; "B{n} same")
     } else {
-        io::write_all(STDOUT_FILENO, b" differs\n");
+        println!(stdout; "B{n} differs")
     }
 }
 
-fn main() {
+fn main(rt: HostRuntime) -> io::Result<()> {
+    let stdout = rt.stdout();
     let mut n = 2u64;
     while n <= 12 {
-        say_row(n);
+        say_row(stdout, n)?;
         n += 1;
     }
+    Ok(())
 }

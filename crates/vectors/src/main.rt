@@ -1,9 +1,10 @@
 // The outside vectors: each line of standard input is worked out and compared; a line that does not hold is named, then the lines are counted.
 #![tactic(auto)]
 
-ghost use Rattle.std.specs.Prelude.{◌+◌, ◌≤◌, ◌<◌};
+ghost use Rattle.std.specs.Prelude.{◌+◌, ◌≤◌, ◌<◌, length, IfOk};
 
-use libc::{STDIN_FILENO, STDOUT_FILENO};
+use std::io;
+use std::io::{Read, Stdin, Stdout};
 
 #[derive(Clone, Copy)]
 struct Tally {
@@ -12,46 +13,60 @@ struct Tally {
     more: bool,
 }
 
+// Reads until the buffer is full or the input ends; how many bytes came.
+fn read_full(mut stdin: Stdin, buf: &mut [u8]) -> io::Result<usize>
+    ensures { IfOk result (λ n. n ≤ length buf.new) }
+{
+    let mut done = 0;
+    while done < buf.len() {
+        let n = stdin.read(&mut buf[done..])?;
+        if n == 0 {
+            break;
+        }
+        done += n;
+    }
+    Ok(done)
+}
+
 // One line more.
-fn turn(t: Tally) -> Tally
+fn turn(stdin: Stdin, stdout: Stdout, t: Tally) -> io::Result<Tally>
     requires { (t.lines < 1000000) × (t.wrong ≤ t.lines) }
-    ensures { (result.lines ≤ t.lines + 1) × (result.wrong ≤ result.lines) }
+    ensures { IfOk result (λ r. (r.lines ≤ t.lines + 1) × (r.wrong ≤ r.lines)) }
 {
     let mut line = [0u8; 70];
-    let n = io::read_full(STDIN_FILENO, &mut line);
+    let n = read_full(stdin, &mut line)?;
     if n == 0 {
-        return Tally {
+        return Ok(Tally {
             lines: t.lines,
             wrong: t.wrong,
             more: false,
-        };
+        });
     }
     let at = t.lines + 1;
     if vector_line::holds(&line) {
-        return Tally {
+        return Ok(Tally {
             lines: at,
             wrong: t.wrong,
             more: true,
-        };
+        });
     }
-    io::write_all(STDOUT_FILENO, b"line ");
-    io::print_decimal(STDOUT_FILENO, at);
-    io::write_all(STDOUT_FILENO, b" does not hold\n");
-    Tally {
+    println!(stdout; "line {at} does not hold")?;
+    Ok(Tally {
         lines: at,
         wrong: t.wrong + 1,
         more: true,
-    }
+    })
 }
 
-fn summary(t: Tally) {
-    io::print_decimal(STDOUT_FILENO, t.lines);
-    io::write_all(STDOUT_FILENO, b" lines, ");
-    io::print_decimal(STDOUT_FILENO, t.wrong);
-    io::write_all(STDOUT_FILENO, b" do not hold\n");
+fn summary(stdout: Stdout, t: Tally) -> io::Result<()> {
+    let lines = t.lines;
+    let wrong = t.wrong;
+    println!(stdout; "{lines} lines, {wrong} do not hold")
 }
 
-fn main() {
+fn main(rt: HostRuntime) -> io::Result<()> {
+    let stdin = rt.stdin();
+    let stdout = rt.stdout();
     let mut t = Tally {
         lines: 0,
         wrong: 0,
@@ -62,8 +77,8 @@ fn main() {
         if !t.more {
             break;
         }
-        t = turn(t);
+        t = turn(stdin, stdout, t)?;
         turns -= 1;
     }
-    summary(t);
+    summary(stdout, t)
 }
