@@ -11,7 +11,7 @@ use lib.Ieee.{Float, binary32, of_bits, to_bits, eq, ne}
 use borrow.Author.Tests.{not-true, not-false, eq-eqb, ne_eqb}
 use Rattle.text.specs.Floats.{float_text}
 use Rattle.text.specs.Put.{Put}
-use Rattle.text.proofs.Writing.{put-nothing_lem, put_same, put_then, length_float}
+use Rattle.text.proofs.Writing.{put-nothing, put_same, put_then, length_float}
 use Rattle.answers.specs.Answers.{list_text, are_marks, are_zeros}
 
 -- ---- numbers written
@@ -25,7 +25,7 @@ next_number mark i xs d inside p room q =
 
 pub no_number : (out : List ℕ) (at first mark : ℕ) (xs : List Float) (i : ℕ) → length xs ≤ i → Put out at (list_text first mark (drop i xs)) out at
 unfolding list_text
-no_number out at first mark xs i past = rw (drop_of_length-le xs past) (put-nothing_lem out at)
+no_number out at first mark xs i past = rw (drop_of_length-le xs past) (put-nothing out at)
 
 -- ---- numbers looked at
 
@@ -46,9 +46,9 @@ module _ (xs : List Float) (i : ℕ) (d : Float) where
   unfolding are_zeros
   no_zero inside e n = rw (drop-cons xs i d inside, ne_eqb (to_bits binary32 (get_or xs i d)) 0 (λ z. n (e ∙ z)))
 
-pub all-marks_lem : (xs : List Float) (i : ℕ) → length xs ≤ i → are_marks (drop i xs) ≡ true
+pub all-marks : (xs : List Float) (i : ℕ) → length xs ≤ i → are_marks (drop i xs) ≡ true
 unfolding are_marks
-all-marks_lem xs i past = rw (drop_of_length-le xs past)
+all-marks xs i past = rw (drop_of_length-le xs past)
 
 pub all_zeros_lem : (xs : List Float) (i : ℕ) → length xs ≤ i → are_zeros (drop i xs) ≡ true
 unfolding are_zeros

@@ -149,14 +149,14 @@ module _ {f : BlockInfos} {w : Walk} {b : List Float} {ended : MaybeTime} {sampl
 
 -- v is the value at the next block
 module _ (f : BlockInfos) (w : Walk) (b : List Float) (e : Event) (target v : Float) where
-  pub left-stays_lem : snaps target v ≡ false → w.filled ≤ length b → Turns b [] (target_left f (walk_as w b) (alone e) target v) (stopped_with (with_intrinsic v w) e) b
+  pub left-stays : snaps target v ≡ false → w.filled ≤ length b → Turns b [] (target_left f (walk_as w b) (alone e) target v) (stopped_with (with_intrinsic v w) e) b
   unfolding turn_as target_left Rules.with_intrinsic
-  left-stays_lem g h = record { turn = rw g; filled = h; whole = refl }
+  left-stays g h = record { turn = rw g; filled = h; whole = refl }
 
-  pub left-snaps_lem : snaps target v ≡ true → w.filled ≤ length b → {c : List Float} → Flushed target w.filled b c
+  pub left-snaps : snaps target v ≡ true → w.filled ≤ length b → {c : List Float} → Flushed target w.filled b c
       → Turns b [] (target_left f (walk_as w b) (alone e) target v) (stopped_with (with_intrinsic target w) (Event.Step target f.next)) c
   unfolding turn_as target_left with_values Rules.with_intrinsic
-  left-snaps_lem g h flushed = record { turn = rw (g, flushed.values); filled = omega (arith, flushed.whole); whole = flushed.whole }
+  left-snaps g h flushed = record { turn = rw (g, flushed.values); filled = omega (arith, flushed.whole); whole = flushed.whole }
 
 -- a curve's last number, as code reads it
 pub last_read : (xs : List Float) → 2 ≤ length xs → get_or xs (length xs - 1) nan ≡ last_number xs

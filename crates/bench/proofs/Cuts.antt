@@ -15,9 +15,9 @@ pub cut_length : {A : Type 0} (k : ℕ) (l : List A) → k ≤ length l → k �
 cut_length k l within = rw length-take (omega (arith, within))
 
 -- what is written at a buffer's beginning ends within it
-pub put-within_lem : {l xs l' : List ℕ} {next : ℕ} → Put l 0 xs l' next → next ≤ length l'
+pub put-within : {l xs l' : List ℕ} {next : ℕ} → Put l 0 xs l' next → next ≤ length l'
 unfolding put
-put-within_lem p = rw (p.bytes, p.place) (simp length-append (omega arith))
+put-within p = rw (p.bytes, p.place) (simp length-append (omega arith))
 
 pub sound_blocks : {row : Row} {s o l : List Float} {r : Blocks} {o' l' after : List Float} → PlaysRow row s o l r o' l' after → SoundBlocks r
 sound_blocks p = record { first = p.first.sound; second = p.second.sound }

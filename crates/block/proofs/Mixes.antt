@@ -15,7 +15,7 @@ use Rattle.rules.specs.Numbers.{plus_zero}
 use Rattle.rules.specs.Mix.{mixed, mixed_all, first_of, spread, inputs}
 use Rattle.rules.specs.Block.{is_silent, says_one}
 use Rattle.laws.proofs.Tests.{never}
-use Rattle.laws.proofs.Within.{mixed-length_lem}
+use Rattle.laws.proofs.Within.{mixed-length}
 use Rattle.mix.specs.Mixed.{over}
 use Rattle.block.specs.Asked.{Fitting, Given, mixed_in, written}
 use Rattle.block.proofs.Tests.{fits_whole}
@@ -47,11 +47,11 @@ inputs_alike Rate.A n (x ∷ xs) h = never h
 inputs_alike Rate.K n (x ∷ xs) h = refl
 
 -- an input for each
-pub inputs-each_lem : (r : AutomationRate) (n : ℕ) (xs : List Float) → says_one r true xs ≡ false → (inputs r n xs ≡ xs) × (is_silent xs ≡ false)
+pub inputs-each : (r : AutomationRate) (n : ℕ) (xs : List Float) → says_one r true xs ≡ false → (inputs r n xs ≡ xs) × (is_silent xs ≡ false)
 unfolding says_one is_silent inputs spread
-inputs-each_lem Rate.A n [] h = never (sym h)
-inputs-each_lem Rate.A n (x ∷ xs) h = (refl, refl)
-inputs-each_lem Rate.K n xs h = never (sym h)
+inputs-each Rate.A n [] h = never (sym h)
+inputs-each Rate.A n (x ∷ xs) h = (refl, refl)
+inputs-each Rate.K n xs h = never (sym h)
 
 module _ (b : Bounds) (f : BlockInfos) (input output : List Float) (fits : Fitting f input output) where
   abbrev n : ℕ
@@ -69,11 +69,11 @@ module _ (b : Bounds) (f : BlockInfos) (input output : List Float) (fits : Fitti
     pub one_value : says_one f.rate true input ≡ false → out ≡ over (mixed_all b input (replicate (length input) v)) output
         → out ≡ written b f input (replicate n v) output
     one_value h o =
-        let a = inputs-each_lem f.rate n input h in
+        let a = inputs-each f.rate n input h in
         let l : length input ≡ n = fits_whole input n fits.lent a.1 in
         writes b f input (replicate n v) output o
         (rw (a.0, spread_alike f.rate n v fits.some, l))
-        (mixed-length_lem b input (replicate (length input) v) (sym (length-replicate (length input) v)) ∙ length-replicate (length input) v ∙ l)
+        (mixed-length b input (replicate (length input) v) (sym (length-replicate (length input) v)) ∙ length-replicate (length input) v ∙ l)
 
   pub each_room : is_silent input ≡ false → length input ≤ length output
   each_room h = let r : n ≤ length output = fits.room in omega (arith, fits_whole input n fits.lent h)

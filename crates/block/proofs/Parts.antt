@@ -17,7 +17,7 @@ use Rattle.rules.specs.Refusals.{fits_count}
 use Rattle.rules.specs.Mix.{mixed, mixed_all, spread, inputs}
 use Rattle.rules.specs.Block.{is_silent}
 use Rattle.laws.proofs.Tests.{never}
-use Rattle.laws.proofs.Within.{mixed-length_lem}
+use Rattle.laws.proofs.Within.{mixed-length}
 use Rattle.mix.specs.Mixed.{over}
 use Rattle.block.specs.Asked.{mixed_in}
 use Rattle.block.proofs.Tests.{fits_whole}
@@ -30,19 +30,19 @@ module _ (b : Bounds) where
   mixed_none [] = refl
   mixed_none (i ∷ is) = refl
 
-  mixed-take_lem : (n : ℕ) (is vs : List Float) → mixed_all b (take n is) (take n vs) ≡ take n (mixed_all b is vs)
+  mixed-take : (n : ℕ) (is vs : List Float) → mixed_all b (take n is) (take n vs) ≡ take n (mixed_all b is vs)
   unfolding mixed_all
-  mixed-take_lem zero is vs = refl
-  mixed-take_lem (suc n) [] vs = refl
-  mixed-take_lem (suc n) (i ∷ is) [] = refl
-  mixed-take_lem (suc n) (i ∷ is) (v ∷ vs) = ap (λ (l : List Float). mixed b i v ∷ l) (mixed-take_lem n is vs)
+  mixed-take zero is vs = refl
+  mixed-take (suc n) [] vs = refl
+  mixed-take (suc n) (i ∷ is) [] = refl
+  mixed-take (suc n) (i ∷ is) (v ∷ vs) = ap (λ (l : List Float). mixed b i v ∷ l) (mixed-take n is vs)
 
-  mixed-drop_lem : (n : ℕ) (is vs : List Float) → mixed_all b (drop n is) (drop n vs) ≡ drop n (mixed_all b is vs)
+  mixed-drop : (n : ℕ) (is vs : List Float) → mixed_all b (drop n is) (drop n vs) ≡ drop n (mixed_all b is vs)
   unfolding mixed_all
-  mixed-drop_lem zero is vs = refl
-  mixed-drop_lem (suc n) [] vs = refl
-  mixed-drop_lem (suc n) (i ∷ is) [] = mixed_none (drop n is)
-  mixed-drop_lem (suc n) (i ∷ is) (v ∷ vs) = mixed-drop_lem n is vs
+  mixed-drop zero is vs = refl
+  mixed-drop (suc n) [] vs = refl
+  mixed-drop (suc n) (i ∷ is) [] = mixed_none (drop n is)
+  mixed-drop (suc n) (i ∷ is) (v ∷ vs) = mixed-drop n is vs
 
 -- silence has silent parts
 silence_part : (n i m : ℕ) → i + m ≤ n → take m (drop i (replicate n plus_zero)) ≡ replicate m plus_zero
@@ -119,8 +119,8 @@ module _ (ys o : List Float) (many : length ys ≡ length o) where
     pub values_there : (n : ℕ) → mid_of i n s ≡ take n (drop i o)
     values_there n = ap (λ (l : List Float). take n (drop i l)) m.places ∙ ap (take n) (drop_at (take i ys) (drop i o) i first_long)
 
-    pub part-mixed_lem : (n : ℕ) → i + n ≤ length o → (p : List Float) → p ≡ take n (drop i ys) → Mixing ys o (i + n) (put_mid i n s p)
-    part-mixed_lem n h p e =
+    pub part-mixed : (n : ℕ) → i + n ≤ length o → (p : List Float) → p ≡ take n (drop i ys) → Mixing ys o (i + n) (put_mid i n s p)
+    part-mixed n h p e =
         let before : take i s ≡ take i ys = ap (take i) m.places ∙ take_at (take i ys) (drop i o) i first_long in
         let behind : post_of i n s ≡ drop (i + n) o = ap (λ (l : List Float). drop n (drop i l)) m.places ∙ ap (drop n) (drop_at (take i ys) (drop i o) i first_long) ∙ drop-drop n i o in
         record {
@@ -130,8 +130,8 @@ module _ (ys o : List Float) (many : length ys ≡ length o) where
               (sym (append_assoc (take i ys) (take n (drop i ys)) (drop (i + n) o)) ∙ ap (λ (l : List Float). l ++ drop (i + n) o) (sym (take-add i n ys)));
         }
 
-    pub all-mixed_lem : length o ≤ i → s ≡ ys
-    all-mixed_lem h =
+    pub all-mixed : length o ≤ i → s ≡ ys
+    all-mixed h =
         m.places
         ∙ ap₂ (λ (x y : List Float). x ++ y) (take_all i ys (omega (arith, many))) (drop_of_length-le o h)
         ∙ append-nil ys
@@ -146,7 +146,7 @@ module _ (b : Bounds) (input o : List Float) (fits : fits_count input (length o)
 
   pub mixed_long : length (mixed_in b input o) ≡ length o
   unfolding mixed_in
-  mixed_long = mixed-length_lem b (inputs Rate.A (length o) input) o inputs_long
+  mixed_long = mixed-length b (inputs Rate.A (length o) input) o inputs_long
 
   -- the samples of a part are that part of the samples
   pub mixed_there : (i e : ℕ) {from to : ℕ} → i < e → e ≤ length o → Smaller i (length input) from → Smaller e (length input) to
@@ -155,7 +155,7 @@ module _ (b : Bounds) (input o : List Float) (fits : fits_count input (length o)
   mixed_there i e {from} {to} some within a z =
       let part = part_input input (length o) i e fits some within a z in
       let many : length (take (e - i) (drop i o)) ≡ e - i = length-take-le (e - i) (drop i o) (rw length-drop (omega arith)) in
-      rw (many, part.is) (mixed-take_lem b (e - i) _ _ ∙ ap (take (e - i)) (mixed-drop_lem b i _ o))
+      rw (many, part.is) (mixed-take b (e - i) _ _ ∙ ap (take (e - i)) (mixed-drop b i _ o))
 
 -- ---- one part
 
@@ -165,9 +165,9 @@ unfolding over
 taken_out xs o = take_at xs (drop (length xs) o) (length xs) refl
 
 -- written over as many
-pub over-all_lem : (ys o : List Float) → length ys ≡ length o → over ys o ≡ ys
+pub over-all : (ys o : List Float) → length ys ≡ length o → over ys o ≡ ys
 unfolding over
-over-all_lem ys o h =
+over-all ys o h =
     let few : length o ≤ length ys = omega arith in
     ap (λ (l : List Float). ys ++ l) (drop_of_length-le o few) ∙ append-nil ys
 
@@ -175,7 +175,7 @@ module _ (b : Bounds) (input o : List Float) {out : List Float} where
   pub silent_in : is_silent input ≡ true → out ≡ over (mixed_all b (replicate (length o) plus_zero) o) o → out ≡ mixed_in b input o
   unfolding mixed_in
   silent_in h e =
-      e ∙ over-all_lem _ o (mixed-length_lem b (replicate (length o) plus_zero) o (length-replicate (length o) plus_zero)) ∙ ap (λ (is : List Float). mixed_all b is o) (sym (go input h))
+      e ∙ over-all _ o (mixed-length b (replicate (length o) plus_zero) o (length-replicate (length o) plus_zero)) ∙ ap (λ (is : List Float). mixed_all b is o) (sym (go input h))
     where
       go : (xs : List Float) → is_silent xs ≡ true → inputs Rate.A (length o) xs ≡ replicate (length o) plus_zero
       go [] h = unfold inputs in refl
@@ -184,7 +184,7 @@ module _ (b : Bounds) (input o : List Float) {out : List Float} where
   pub lent_in : fits_count input (length o) ≡ true → is_silent input ≡ false → out ≡ over (mixed_all b input o) o → out ≡ mixed_in b input o
   unfolding mixed_in
   lent_in f h e =
-      e ∙ over-all_lem _ o (mixed-length_lem b input o (fits_whole input (length o) f h)) ∙ ap (λ (is : List Float). mixed_all b is o) (sym (go input h))
+      e ∙ over-all _ o (mixed-length b input o (fits_whole input (length o) f h)) ∙ ap (λ (is : List Float). mixed_all b is o) (sym (go input h))
     where
       go : (xs : List Float) → is_silent xs ≡ false → inputs Rate.A (length o) xs ≡ xs
       go [] h = never (sym (unfold is_silent in h))

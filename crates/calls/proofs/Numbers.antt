@@ -89,10 +89,10 @@ module _ {o : Option Said} (numbers : List Float) (file : List ℕ) where
   heard_file {call} n e = subst (λ (o : Option Said). Heard o call numbers file) (sym e) (refl, refl, front n file)
 
 -- a call that has neither
-pub heard-bare_lem : (o : Option Call) {call : Call} (numbers : List Float) (file : List ℕ) → call ≡ heard o → Heard (bare o) call numbers file
+pub heard-bare : (o : Option Call) {call : Call} (numbers : List Float) (file : List ℕ) → call ≡ heard o → Heard (bare o) call numbers file
 unfolding Heard heard bare
-heard-bare_lem none numbers file e = e
-heard-bare_lem (some c) numbers file e = (e, refl, refl)
+heard-bare none numbers file e = e
+heard-bare (some c) numbers file e = (e, refl, refl)
 
 module _ {B : Type 0} (s : List ℕ) (at n : ℕ) (xs : List Float) {r : NextNumbers} (then : List Float → List Word → Option B) (e : numbers_at s xs r ≡ singles n (words_from s at)) where
   pub numbers_are : {next : ℕ} → r ≡ NextNumbers.At next → with_taken (singles n (words_from s at)) then ≡ then xs (words_from s next)

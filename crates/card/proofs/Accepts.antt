@@ -24,10 +24,10 @@ use Rattle.laws.specs.Sound.{is_from_zero, is_clear, is_due, all, are_due, goes_
 use Rattle.laws.specs.Apart.{is_apart, are_apart}
 use Rattle.laws.proofs.Tests.{never, clash, both, and}
 use Rattle.laws.proofs.Order.{le_not_lt}
-use Rattle.laws.proofs.Results.{positive_from_zero, taken-parts_lem}
-use Rattle.laws.proofs.Clear.{all-parts_lem, step_parts, linear_parts, exponential_parts, target_parts, curve_parts}
+use Rattle.laws.proofs.Results.{positive_from_zero, taken-parts}
+use Rattle.laws.proofs.Clear.{all-parts, step_parts, linear_parts, exponential_parts, target_parts, curve_parts}
 use Rattle.laws.proofs.Events.{events_append, lengths_append}
-use Rattle.laws.proofs.Store.{numbers-length_lem, packed-length_lem}
+use Rattle.laws.proofs.Store.{numbers-length, packed-length}
 use Rattle.laws.proofs.Reach.{filed_before, apart_parts}
 use Rattle.laws.proofs.Ordered.{order_parts}
 use Rattle.words.specs.Words.{AreSingles}
@@ -41,8 +41,8 @@ use Rattle.card.proofs.Kept.{scheduled_verdict, called_verdict}
 
 module _ (test : Event → Bool) where
   pub all_middle : (q : List Event) (e : Event) (rest : List Event) → all test (q ++ (e ∷ rest)) ≡ true → test e ≡ true
-  all_middle [] e rest h = (all-parts_lem test e rest h).0
-  all_middle (d ∷ q) e rest h = all_middle q e rest (all-parts_lem test d (q ++ (e ∷ rest)) h).1
+  all_middle [] e rest h = (all-parts test e rest h).0
+  all_middle (d ∷ q) e rest h = all_middle q e rest (all-parts test d (q ++ (e ∷ rest)) h).1
 
   pub all_front : (q rest : List Event) → all test (q ++ rest) ≡ true → all test q ≡ true
   unfolding all
@@ -187,7 +187,7 @@ module _ (p : Param) (ws : List Waiting) where
   accepts_as (Event.Linear v t (MaybeTime.At c)) xs w b lent = never (sym w.free)
   accepts_as (Event.Linear v t MaybeTime.Missing) xs w b lent =
       let k = linear_parts v t MaybeTime.Missing b.clear in
-      let z : is_from_zero t ≡ true = (taken-parts_lem t k.1.time).1 in
+      let z : is_from_zero t ≡ true = (taken-parts t k.1.time).1 in
       record {
         answered = scheduled_verdict _ _ _ _ ∙ value_answers (events_of ws) b.few t b.due z w.event.1 b.outside v k.0;
         turn = in_turn_by (linear v t) b.order z refl;
@@ -195,7 +195,7 @@ module _ (p : Param) (ws : List Waiting) where
   accepts_as (Event.Exponential v t (MaybeTime.At c)) xs w b lent = never (sym w.free)
   accepts_as (Event.Exponential v t MaybeTime.Missing) xs w b lent =
       let k = exponential_parts v t MaybeTime.Missing b.clear in
-      let z : is_from_zero t ≡ true = (taken-parts_lem t k.2.time).1 in
+      let z : is_from_zero t ≡ true = (taken-parts t k.2.time).1 in
       record {
         answered = scheduled_verdict _ _ _ _ ∙ exponential_answers (events_of ws) b.few t b.due z w.event.1 b.outside v k.0 (not-true _ k.1);
         turn = in_turn_by (exponential v t) b.order z refl;
@@ -203,7 +203,7 @@ module _ (p : Param) (ws : List Waiting) where
   accepts_as (Event.Target v t c (MaybeTime.At h)) xs w b lent = never (sym w.free)
   accepts_as (Event.Target v t c MaybeTime.Missing) xs w b lent =
       let k = target_parts v t c MaybeTime.Missing b.clear in
-      let z : is_from_zero t ≡ true = (taken-parts_lem t k.time).1 in
+      let z : is_from_zero t ≡ true = (taken-parts t k.time).1 in
       let a = both (is_finite c) (is_positive c) (unfold is_period in k.constant) in
       record {
         answered = scheduled_verdict _ _ _ _ ∙ target_answers (events_of ws) b.few t b.due z w.event.1.0 b.outside v c k.value a.0 a.1;
@@ -212,7 +212,7 @@ module _ (p : Param) (ws : List Waiting) where
   accepts_as (Event.Curve s d n (MaybeTime.At h)) xs w b lent = never (sym w.free)
   accepts_as (Event.Curve s d n MaybeTime.Missing) xs w b lent =
       let k = curve_parts s d n MaybeTime.Missing b.clear in
-      let z : is_from_zero s ≡ true = (taken-parts_lem s k.start).1 in
+      let z : is_from_zero s ≡ true = (taken-parts s k.start).1 in
       let a = both (is_finite d) (is_positive d) (unfold is_period in k.duration) in
       let two : 2 ≤ length xs = rw w.long (leb-true 2 n k.enough) in
       let fit : lengths_of (events_of ws) + length xs ≤ store_length = rw w.long b.room in
@@ -242,4 +242,4 @@ module _ (p : Param) (ws : List Waiting) where
         few = omega (arith, few, many);
         room = omega (arith, room, sum);
       } in
-      accepts_as e v.numbers (writable_middle ws v vs g.each) behind (packed-length_lem ws (omega (arith, numbers-length_lem ws fit, room, sum)))
+      accepts_as e v.numbers (writable_middle ws v vs g.each) behind (packed-length ws (omega (arith, numbers-length ws fit, room, sum)))

@@ -21,9 +21,9 @@ use Rattle.rules.specs.Refusals.{is_earlier}
 use Rattle.laws.specs.Sound.{is_number, is_from_zero, are_clear}
 use Rattle.laws.proofs.Tests.{never}
 use Rattle.laws.proofs.Order.{not_lt}
-use Rattle.laws.proofs.Clear.{all-parts_lem, clear_number}
+use Rattle.laws.proofs.Clear.{all-parts, clear_number}
 use Rattle.laws.proofs.Events.{events_length, events_inserted}
-use Rattle.laws.proofs.Store.{numbers-append_lem}
+use Rattle.laws.proofs.Store.{numbers-append}
 use Rattle.card.specs.Card.{is_minus_zero}
 use Rattle.card.specs.Back.{last_time}
 
@@ -74,14 +74,14 @@ or_true false = refl
 module _ (t : Float) (number : is_number t ≡ true) where
   not_later : (e : Event) (q : List Event) → are_clear (e ∷ q) ≡ true → is_earlier (last_time (e ∷ q)) t ≡ false → has_not_later t (e ∷ q) ≡ true
   unfolding has_not_later last_time is_earlier
-  not_later e [] k h = rw (not_lt t (filed_under e) number (clear_number e (all-parts_lem _ e [] k).0) h) refl
-  not_later e (d ∷ q) k h = rw (not_later d q (all-parts_lem _ e (d ∷ q) k).1 h) (or_true (Ieee.le (filed_under e) t))
+  not_later e [] k h = rw (not_lt t (filed_under e) number (clear_number e (all-parts _ e [] k).0) h) refl
+  not_later e (d ∷ q) k h = rw (not_later d q (all-parts _ e (d ∷ q) k).1 h) (or_true (Ieee.le (filed_under e) t))
 
   place_last : (q : List Event) → are_clear q ≡ true → is_earlier (last_time q) t ≡ false → place_behind t q ≡ length q
   unfolding place_behind last_time
   place_last [] k h = refl
   place_last (e ∷ []) k h = rw (not_later e [] k h) refl
-  place_last (e ∷ d ∷ q) k h = rw (not_later e (d ∷ q) k h) (ap suc (place_last (d ∷ q) (all-parts_lem _ e (d ∷ q) k).1 h))
+  place_last (e ∷ d ∷ q) k h = rw (not_later e (d ∷ q) k h) (ap suc (place_last (d ∷ q) (all-parts _ e (d ∷ q) k).1 h))
 
 module _ (w : Waiting) (ws : List Waiting) (number : is_number (filed_under w.event) ≡ true) (clear : are_clear (events_of ws) ≡ true)
     (order : is_earlier (last_time (events_of ws)) (filed_under w.event) ≡ false) where
@@ -93,9 +93,9 @@ module _ (w : Waiting) (ws : List Waiting) (number : is_number (filed_under w.ev
   arrived_last = sym (events_inserted w ws) ∙ ap events_of inserted_last
 
 -- one that has no numbers leaves the store as it is
-pub packed-alone_lem : (w : Waiting) (ws : List Waiting) → w.numbers ≡ [] → packed (ws ++ (w ∷ [])) ≡ packed ws
+pub packed-alone : (w : Waiting) (ws : List Waiting) → w.numbers ≡ [] → packed (ws ++ (w ∷ [])) ≡ packed ws
 unfolding packed numbers_of
-packed-alone_lem w ws h = rw (numbers-append_lem ws (w ∷ []), h, append-nil (numbers_of ws)) refl
+packed-alone w ws h = rw (numbers-append ws (w ∷ []), h, append-nil (numbers_of ws)) refl
 
 -- the last of these
 pub last_time_lem : (q : List Event) (e : Event) → last_time (q ++ (e ∷ [])) ≡ MaybeTime.At (filed_under e)

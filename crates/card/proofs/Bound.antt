@@ -13,7 +13,7 @@ use Rattle.rules.specs.Queue.{Waiting, numbers_of, attached, length_of, lengths_
 use Rattle.rules.specs.Block.{Param}
 use Rattle.laws.specs.Fits.{AllFit}
 use Rattle.laws.specs.Sound.{Sound}
-use Rattle.laws.proofs.Store.{attached_fits, attached-length_lem, attached-numbers_lem}
+use Rattle.laws.proofs.Store.{attached_fits, attached-length, attached-numbers}
 use Rattle.words.specs.Words.{single_bytes, double_bytes, numbers_bytes}
 use Rattle.card.specs.Card.{range_field, event_field, fields_of, file_of}
 use Rattle.card.specs.Back.{most_bytes}
@@ -93,4 +93,4 @@ pub written_bound : (p : Param) (store : List Float) → Sound p → length stor
 written_bound p store s lent =
     let room : lengths_of p.queue ≤ length store = omega (arith, s.waiting.room, lent) in
     file_bound p.bounds (attached p.queue store) (attached_fits p.queue store room)
-    (omega (arith, attached-length_lem p.queue store, s.waiting.few)) (omega (arith, attached-numbers_lem p.queue store room, s.waiting.room))
+    (omega (arith, attached-length p.queue store, s.waiting.few)) (omega (arith, attached-numbers p.queue store room, s.waiting.room))

@@ -21,7 +21,7 @@ use Rattle.laws.proofs.Store.{packed_back, no_numbers}
 use Rattle.laws.proofs.Rows.{value_answered, exponential_answered, target_answered, curve_answered}
 use Rattle.card.specs.Card.{is_held, has_hold, time_of, is_minus_zero, has_no_constant, is_out_of_turn}
 use Rattle.card.specs.Back.{FitEvent, command_of, last_time}
-use Rattle.card.proofs.Arrives.{taken_is, inserted_last, arrived_last, packed-alone_lem}
+use Rattle.card.proofs.Arrives.{taken_is, inserted_last, arrived_last, packed-alone}
 
 pub scheduled_verdict : (v : Verdict) (p : Param) (store : List Float) (e : Event) → (scheduled_as v p store e).verdict ≡ v
 unfolding scheduled_as
@@ -65,7 +65,7 @@ module _ (p : Param) (ws : List Waiting) (fit : AllFit ws) (clear : are_clear (e
       rw a
       (record {
         param = ap (λ (q : List Event). with_queue q p) (arrived_last (alone e) ws n clear o);
-        store = sym (packed-alone_lem (alone e) ws refl);
+        store = sym (packed-alone (alone e) ws refl);
       })
 
   curve_adds : (w : Waiting) (v : Verdict) → v ≡ Verdict.Answered → is_number (filed_under w.event) ≡ true → is_earlier (last_time (events_of ws)) (filed_under w.event) ≡ false

@@ -30,12 +30,12 @@ taken_short zero bs r h = refl
 taken_short (suc n) bs r h = rw (short bs h, and_false (is_accepted r.verdict)) refl
 
 -- as many turns as there are bytes are enough
-pub taken-enough_lem : (m n : ℕ) (bs : List ℕ) (r : Reader) → length bs ≤ m → length bs ≤ n → taken m bs r ≡ taken n bs r
+pub taken-enough : (m n : ℕ) (bs : List ℕ) (r : Reader) → length bs ≤ m → length bs ≤ n → taken m bs r ≡ taken n bs r
 unfolding taken
-taken-enough_lem zero n bs r a b = sym (taken_short n bs r a)
-taken-enough_lem (suc m) zero bs r a b = taken_short (suc m) bs r b
-taken-enough_lem (suc m) (suc n) bs r a b =
-    go (is_accepted r.verdict && is_whole bs) refl (λ w. taken-enough_lem m n (drop (field_length bs) bs) (field_turn bs r) (fewer bs m w a) (fewer bs n w b))
+taken-enough zero n bs r a b = sym (taken_short n bs r a)
+taken-enough (suc m) zero bs r a b = taken_short (suc m) bs r b
+taken-enough (suc m) (suc n) bs r a b =
+    go (is_accepted r.verdict && is_whole bs) refl (λ w. taken-enough m n (drop (field_length bs) bs) (field_turn bs r) (fewer bs m w a) (fewer bs n w b))
   where
     go : (k : Bool) → (is_accepted r.verdict && is_whole bs) ≡ k
         → (is_whole bs ≡ true → taken m (drop (field_length bs) bs) (field_turn bs r) ≡ taken n (drop (field_length bs) bs) (field_turn bs r))
@@ -49,7 +49,7 @@ pub taken_one : (bs : List ℕ) (r : Reader) → is_accepted r.verdict ≡ true 
 unfolding taken is_whole has_head
 taken_one [] r k w = never w
 taken_one (b ∷ bs) r k w =
-    rw (k, w) (taken-enough_lem (length bs) _ (drop (field_length (b ∷ bs)) (b ∷ bs)) (field_turn (b ∷ bs) r) (fewer (b ∷ bs) (length bs) w (le_refl (suc (length bs)))) (le_refl _))
+    rw (k, w) (taken-enough (length bs) _ (drop (field_length (b ∷ bs)) (b ∷ bs)) (field_turn (b ∷ bs) r) (fewer (b ∷ bs) (length bs) w (le_refl (suc (length bs)))) (le_refl _))
 
 pub taken_none : (bs : List ℕ) (r : Reader) → (is_accepted r.verdict && is_whole bs) ≡ false → taken (length bs) bs r ≡ stopped bs r
 unfolding taken
@@ -65,10 +65,10 @@ unfolding fed
 waits bs cs r true e none = rw (taken_none bs r none, e) refl
 waits bs cs r false e none = rw (taken_none bs r none, taken_none (bs ++ cs) r (rw e refl), e) refl
 
-taken-append_lem : (n : ℕ) (bs cs : List ℕ) (r : Reader) → length bs ≤ n → taken (length (bs ++ cs)) (bs ++ cs) r ≡ fed (taken (length bs) bs r) cs
-taken-append_lem zero bs cs r h = waits bs cs r (is_accepted r.verdict) refl (rw (short bs h) (and_false (is_accepted r.verdict)))
-taken-append_lem (suc n) bs cs r h =
-    go (is_accepted r.verdict) (is_whole bs) refl refl (λ w. taken-append_lem n (drop (field_length bs) bs) cs (field_turn bs r) (fewer bs n w h))
+taken-append : (n : ℕ) (bs cs : List ℕ) (r : Reader) → length bs ≤ n → taken (length (bs ++ cs)) (bs ++ cs) r ≡ fed (taken (length bs) bs r) cs
+taken-append zero bs cs r h = waits bs cs r (is_accepted r.verdict) refl (rw (short bs h) (and_false (is_accepted r.verdict)))
+taken-append (suc n) bs cs r h =
+    go (is_accepted r.verdict) (is_whole bs) refl refl (λ w. taken-append n (drop (field_length bs) bs) cs (field_turn bs r) (fewer bs n w h))
   where
     go : (k w : Bool) → is_accepted r.verdict ≡ k → is_whole bs ≡ w
         → (is_whole bs ≡ true → taken (length (drop (field_length bs) bs ++ cs)) (drop (field_length bs) bs ++ cs) (field_turn bs r) ≡ fed (taken (length (drop (field_length bs) bs)) (drop (field_length bs) bs) (field_turn bs r)) cs)
@@ -84,31 +84,31 @@ unfolding fed
 refused_stays s a e = rw e refl
 
 -- a part, and another
-pub fed-append_lem : (s : Reading) (a b : List ℕ) → fed (fed s a) b ≡ fed s (a ++ b)
+pub fed-append : (s : Reading) (a b : List ℕ) → fed (fed s a) b ≡ fed s (a ++ b)
 unfolding fed
-fed-append_lem s a b = go (is_accepted s.reader.verdict) refl
+fed-append s a b = go (is_accepted s.reader.verdict) refl
   where
     go : (k : Bool) → is_accepted s.reader.verdict ≡ k → fed (fed s a) b ≡ fed s (a ++ b)
-    go true e = rw (e, ← append_assoc s.rest a b) (sym (taken-append_lem (length (s.rest ++ a)) (s.rest ++ a) b s.reader (le_refl _)))
+    go true e = rw (e, ← append_assoc s.rest a b) (sym (taken-append (length (s.rest ++ a)) (s.rest ++ a) b s.reader (le_refl _)))
     go false e = ap (λ (t : Reading). fed t b) (refused_stays s a e) ∙ refused_stays s b e ∙ sym (refused_stays s (a ++ b) e)
 
 -- an empty part is nothing
-pub fed-nothing_lem : (s : Reading) (a : List ℕ) → fed (fed s a) [] ≡ fed s a
-fed-nothing_lem s a = fed-append_lem s a [] ∙ ap (fed s) (append-nil a)
+pub fed-nothing : (s : Reading) (a : List ℕ) → fed (fed s a) [] ≡ fed s a
+fed-nothing s a = fed-append s a [] ∙ ap (fed s) (append-nil a)
 
 -- ---- a file
 
-fed-parts_lem : (s : Reading) (a : List ℕ) (parts : List (List ℕ)) → fed_all (fed s a) parts ≡ fed s (a ++ joined parts)
+fed-parts : (s : Reading) (a : List ℕ) (parts : List (List ℕ)) → fed_all (fed s a) parts ≡ fed s (a ++ joined parts)
 unfolding fed_all joined
-fed-parts_lem s a [] = ap (fed s) (sym (append-nil a))
-fed-parts_lem s a (part ∷ parts) =
-    ap (λ (t : Reading). fed_all t parts) (fed-append_lem s a part) ∙ fed-parts_lem s (a ++ part) parts ∙ ap (fed s) (append_assoc a part (joined parts))
+fed-parts s a [] = ap (fed s) (sym (append-nil a))
+fed-parts s a (part ∷ parts) =
+    ap (λ (t : Reading). fed_all t parts) (fed-append s a part) ∙ fed-parts s (a ++ part) parts ∙ ap (fed s) (append_assoc a part (joined parts))
 
 -- "The answer does not depend on the cuts" (reading 9): in parts, the empty ones among them, or in one
 pub parts_are_the_file : (rate : AutomationRate) (n : ℕ) (parts : List (List ℕ)) → at_end (fed_all (begun rate n) parts) ≡ read rate n (joined parts)
 unfolding fed_all joined read fed taken is_accepted
 parts_are_the_file rate n [] = refl
-parts_are_the_file rate n (part ∷ parts) = ap at_end (fed-parts_lem (begun rate n) part parts)
+parts_are_the_file rate n (part ∷ parts) = ap at_end (fed-parts (begun rate n) part parts)
 
 pub cuts_are_nothing : (rate : AutomationRate) (n : ℕ) (these those : List (List ℕ)) → joined these ≡ joined those
     → at_end (fed_all (begun rate n) these) ≡ at_end (fed_all (begun rate n) those)

@@ -20,9 +20,9 @@ use Rattle.rules.specs.Block.{Param, fresh, with_queue, made, Command, set, step
 use Rattle.laws.specs.Sound.{is_clear, all, are_clear}
 use Rattle.laws.specs.Apart.{are_apart}
 use Rattle.laws.specs.Editions.{number_of_edition}
-use Rattle.laws.proofs.Kept.{made-fresh_lem, made_sound, called_sound, called-apart_lem}
-use Rattle.laws.proofs.Clear.{all-parts_lem, step_parts, linear_parts, exponential_parts, target_parts, curve_parts}
-use Rattle.laws.proofs.Results.{taken-parts_lem}
+use Rattle.laws.proofs.Kept.{made-fresh, made_sound, called_sound, called-apart}
+use Rattle.laws.proofs.Clear.{all-parts, step_parts, linear_parts, exponential_parts, target_parts, curve_parts}
+use Rattle.laws.proofs.Results.{taken-parts}
 use Rattle.playing.specs.Play.{State, begun, asked, after_call, scheduled}
 use Rattle.card.specs.declared.CardVerdict.TheVariants as CardVerdict
 use Rattle.card.specs.Card.{time_of, is_minus_zero, read, loaded, file_of, judged}
@@ -60,11 +60,11 @@ leaves_rest p store (hold c) n = called_leaves _ p store _ _ (rw n (same_value_l
 
 -- ---- reached before the first block
 
-made-unplayed_lem : (b : Bounds) (r : AutomationRate) (n : ℕ) → Unplayed (made b r n)
+made-unplayed : (b : Bounds) (r : AutomationRate) (n : ℕ) → Unplayed (made b r n)
 unfolding are_apart
-made-unplayed_lem b r n =
+made-unplayed b r n =
     let p : Param = made b r n in
-    let new : p ≡ fresh p.bounds p.rate p.edition = made-fresh_lem b r n in
+    let new : p ≡ fresh p.bounds p.rate p.edition = made-fresh b r n in
     let empty : p.queue ≡ [] = ap (λ (q : Param). q.queue) new in
     record {
       sound = made_sound b r n;
@@ -78,23 +78,23 @@ still_new : (p r : Param) → p ≡ with_queue p.queue (fresh p.bounds p.rate p.
 still_new p r new h =
     h ∙ ap (with_queue r.queue) new ∙ ap (λ (q : Param). with_queue r.queue (fresh q.bounds q.rate q.edition)) (sym h)
 
-called-unplayed_lem : (p : Param) (store : List Float) (c : Command) → Unplayed p → Unplayed (called p store c).param
-called-unplayed_lem p store c u =
+called-unplayed : (p : Param) (store : List Float) (c : Command) → Unplayed p → Unplayed (called p store c).param
+called-unplayed p store c u =
     record {
       sound = called_sound p store u.sound c;
-      apart = called-apart_lem p store u.sound c u.apart;
+      apart = called-apart p store u.sound c u.apart;
       new = still_new p (called p store c).param u.new (leaves_rest p store c (ap (λ (q : Param). q.last) u.new));
     }
 
 pub reached_unplayed : (s : State) (cs : List Command) → Unplayed s.param → Unplayed (scheduled s cs).param
 unfolding scheduled after_call asked
 reached_unplayed s [] u = u
-reached_unplayed s (c ∷ cs) u = reached_unplayed (after_call s c) cs (called-unplayed_lem s.param s.store c u)
+reached_unplayed s (c ∷ cs) u = reached_unplayed (after_call s c) cs (called-unplayed s.param s.store c u)
 
 -- every parameter that is reached by calls from a fresh one, before its first block
 pub before_the_first_block : (b : Bounds) (r : AutomationRate) (n : ℕ) (store : List Float) (cs : List Command) → Unplayed (scheduled (begun b r n store) cs).param
 unfolding begun
-before_the_first_block b r n store cs = reached_unplayed (begun b r n store) cs (made-unplayed_lem b r n)
+before_the_first_block b r n store cs = reached_unplayed (begun b r n store) cs (made-unplayed b r n)
 
 -- "What the writer writes, the reader gives back, event for event": the parameter and the store that any calls leave before the first block
 pub what_is_written_is_read : (b : Bounds) (r : AutomationRate) (n : ℕ) (store : List Float) (cs : List Command) → let s = scheduled (begun b r n store) cs in
@@ -111,16 +111,16 @@ what_is_written_is_read b r n store cs f g a p other lent =
 no_minus_zero : (e : Event) (xs : List Float) → is_clear e ≡ true → is_minus_zero (time_of (command_of e xs)) ≡ false
 unfolding time_of command_of
 no_minus_zero (Event.Step v t) xs k = from_zero_not_minus t (step_parts v t k).1
-no_minus_zero (Event.Linear v t h) xs k = from_zero_not_minus t (taken-parts_lem t (linear_parts v t h k).1.time).1
-no_minus_zero (Event.Exponential v t h) xs k = from_zero_not_minus t (taken-parts_lem t (exponential_parts v t h k).2.time).1
-no_minus_zero (Event.Target v t c h) xs k = from_zero_not_minus t (taken-parts_lem t (target_parts v t c h k).time).1
-no_minus_zero (Event.Curve s d n h) xs k = from_zero_not_minus s (taken-parts_lem s (curve_parts s d n h k).start).1
+no_minus_zero (Event.Linear v t h) xs k = from_zero_not_minus t (taken-parts t (linear_parts v t h k).1.time).1
+no_minus_zero (Event.Exponential v t h) xs k = from_zero_not_minus t (taken-parts t (exponential_parts v t h k).2.time).1
+no_minus_zero (Event.Target v t c h) xs k = from_zero_not_minus t (taken-parts t (target_parts v t c h k).time).1
+no_minus_zero (Event.Curve s d n h) xs k = from_zero_not_minus s (taken-parts s (curve_parts s d n h k).start).1
 
 pub no_time_is_minus_zero : (q : List Event) → are_clear q ≡ true → all (λ e. not (is_minus_zero (time_of (command_of e [])))) q ≡ true
 unfolding all
 no_time_is_minus_zero [] k = refl
 no_time_is_minus_zero (e ∷ q) k =
-    let a = all-parts_lem is_clear e q k in
+    let a = all-parts is_clear e q k in
     rw (no_minus_zero e [] a.0) (no_time_is_minus_zero q a.1)
 
 -- "Immediate sets are written as steps at 0": they wait as such

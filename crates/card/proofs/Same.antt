@@ -24,12 +24,12 @@ use Rattle.rules.specs.Block.{Command, Param, fresh, edition_of, made, made_as, 
 use Rattle.laws.specs.Fits.{AllFit}
 use Rattle.laws.specs.Sound.{is_number, has_played, Sound}
 use Rattle.laws.proofs.Tests.{never, clash, both, neither}
-use Rattle.laws.proofs.Store.{fit_append, numbers-length_lem, packed-length_lem, packed_back}
+use Rattle.laws.proofs.Store.{fit_append, numbers-length, packed-length, packed_back}
 use Rattle.laws.proofs.Kept.{called_sound, made_sound}
 use Rattle.laws.proofs.Order.{finite_number}
 use Rattle.laws.proofs.Rows.{passes, value_answered, exponential_answered, target_answered, curve_answered}
 use Rattle.words.specs.Words.{AreBytes, single_at, double_at, singles_at, single_bytes, double_bytes, numbers_bytes}
-use Rattle.words.proofs.Bytes.{bytes_drop, fits_single, fits_double, length-singles_lem, word_bytes_back, single_bytes_back, double_bytes_back, singles_bytes_back}
+use Rattle.words.proofs.Bytes.{bytes_drop, fits_single, fits_double, length-singles, word_bytes_back, single_bytes_back, double_bytes_back, singles_bytes_back}
 use Rattle.card.specs.declared.Fault.TheVariants as Fault
 use Rattle.card.specs.Card.{tag_of, length_in, field_length, is_whole, is_tag, is_range, is_wrong, is_misplaced, is_accepted, numbers_in, event_in, fits_tag, is_held, has_hold, is_unwritable, bounds_in, Reader, opened, refused_by, ranged_as, time_of, is_out_of_turn, taken_as, event_turn, contents_turn, field_turn, Reading, taken, fed, at_end, end_turn, read, field_of, range_field, event_field, fields_of, file_of}
 use Rattle.card.specs.Back.{FitEvent, any_unwritable, command_of, last_time, behind, Rewritten}
@@ -226,7 +226,7 @@ module _ (bs : List ℕ) (h : AreBytes bs) (w : is_whole bs ≡ true) (right : i
           command = curve_in_lem bs t;
           free = refl;
           event = (fits_double bs 3, fits_double bs 11);
-          long = length-singles_lem bs 19 n;
+          long = length-singles bs 19 n;
           finite = r.numbers;
           bytes =
               field_bytes bs h w _ (curve_bytes bs h n (omega (arith, long, (whole_parts bs w).1)) r.scheduled.time r.duration r.numbers ∙ ap (λ (k : ℕ). take k (drop 3 bs)) size)
@@ -362,11 +362,11 @@ module _ (rate : AutomationRate) (n : ℕ) (b : Bounds) where
   run_of [] h ws k ok more = ([], no_more ws k)
   run_of (c ∷ cs) h ws k ok more = run_on (c ∷ cs) (omega arith) h ws k ok more
 
-  pub accepted-run_lem : (m : ℕ) (bs : List ℕ) → length bs ≤ m → AreBytes bs → (ws : List Waiting) → Kept ws → is_accepted (at_end (taken (length bs) bs (behind rate n b ws))).verdict ≡ true
+  pub accepted-run : (m : ℕ) (bs : List ℕ) → length bs ≤ m → AreBytes bs → (ws : List Waiting) → Kept ws → is_accepted (at_end (taken (length bs) bs (behind rate n b ws))).verdict ≡ true
       → (vs : List Waiting) × Run bs ws vs
-  accepted-run_lem zero bs few h ws k ok = run_of bs h ws k ok (λ whole w more. absurd (omega (arith, few, (whole_parts bs whole).0)))
-  accepted-run_lem (suc m) bs few h ws k ok =
-      run_of bs h ws k ok (λ whole w more. accepted-run_lem m (drop (field_length bs) bs) (fewer bs m whole few) (bytes_drop (field_length bs) bs h) (ws ++ (w ∷ [])) more.kept)
+  accepted-run zero bs few h ws k ok = run_of bs h ws k ok (λ whole w more. absurd (omega (arith, few, (whole_parts bs whole).0)))
+  accepted-run (suc m) bs few h ws k ok =
+      run_of bs h ws k ok (λ whole w more. accepted-run m (drop (field_length bs) bs) (fewer bs m whole few) (bytes_drop (field_length bs) bs h) (ws ++ (w ∷ [])) more.kept)
 
 -- ---- the range
 
@@ -456,7 +456,7 @@ module _ (rate : AutomationRate) (n : ℕ) where
       let first = ranged rate n file h turn in
       let same : taken (length file) file (opened rate n) ≡ taken (length (drop (field_length file) file)) (drop (field_length file) file) (behind rate n (bounds_in file) []) =
       taken_one file (opened rate n) refl w ∙ rw first.reader refl in
-      let v = accepted-run_lem rate n (bounds_in file) (length (drop (field_length file) file)) (drop (field_length file) file) (le_refl _) (bytes_drop (field_length file) file h) [] first.kept
+      let v = accepted-run rate n (bounds_in file) (length (drop (field_length file) file)) (drop (field_length file) file) (le_refl _) (bytes_drop (field_length file) file h) [] first.kept
       (subst (λ (s : Reading). is_accepted (at_end s).verdict ≡ true) same ok) in (
         v.0,
         record {
@@ -483,9 +483,9 @@ module _ (rate : AutomationRate) (n : ℕ) where
   rewritten : (b : Bounds) (ws : List Waiting) → Kept rate n b ws → Rewritten (file_of b ws) (behind rate n b ws).param (behind rate n b ws).store
   unfolding has_played
   rewritten b ws k =
-      let few : length (numbers_of ws) ≤ store_length = omega (arith, numbers-length_lem ws k.fit, k.sound.waiting.room) in
+      let few : length (numbers_of ws) ≤ store_length = omega (arith, numbers-length ws k.fit, k.sound.waiting.room) in
       record {
-        answered = refused_exactly (behind rate n b ws).param (packed ws) (packed-length_lem ws few) ∙ rw (packed_back ws k.fit, k.free) refl;
+        answered = refused_exactly (behind rate n b ws).param (packed ws) (packed-length ws few) ∙ rw (packed_back ws k.fit, k.free) refl;
         bytes = ap (file_of b) (packed_back ws k.fit);
       }
 

@@ -26,14 +26,14 @@ use Rattle.card.proofs.Kept.{adds, in_turn}
 
 -- ---- a file and one field more
 
-pub fields-append_lem : (ws vs : List Waiting) → fields_of (ws ++ vs) ≡ fields_of ws ++ fields_of vs
+pub fields-append : (ws vs : List Waiting) → fields_of (ws ++ vs) ≡ fields_of ws ++ fields_of vs
 unfolding fields_of
-fields-append_lem [] vs = refl
-fields-append_lem (w ∷ ws) vs = rw (fields-append_lem ws vs) (sym (append_assoc (event_field w.event w.numbers) (fields_of ws) (fields_of vs)))
+fields-append [] vs = refl
+fields-append (w ∷ ws) vs = rw (fields-append ws vs) (sym (append_assoc (event_field w.event w.numbers) (fields_of ws) (fields_of vs)))
 
 pub file_append : (b : Bounds) (ws vs : List Waiting) → file_of b (ws ++ vs) ≡ file_of b ws ++ fields_of vs
 unfolding file_of
-file_append b ws vs = rw (fields-append_lem ws vs) (sym (append_assoc (range_field b) (fields_of ws) (fields_of vs)))
+file_append b ws vs = rw (fields-append ws vs) (sym (append_assoc (range_field b) (fields_of ws) (fields_of vs)))
 
 -- the time of an event that is not held is the one that it is filed under
 command_time : (e : Event) (xs : List Float) → is_held e ≡ false → time_of (command_of e xs) ≡ filed_under e

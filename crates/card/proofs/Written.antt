@@ -16,7 +16,7 @@ use Rattle.rules.specs.Numbers.{store_length}
 use Rattle.rules.specs.Refusals.{lowest, making_rows}
 use Rattle.laws.proofs.Tests.{and}
 use Rattle.words.specs.Words.{bytes_of, word_at, single_at, double_at, singles_at, single_bytes, double_bytes, numbers_bytes, AreSingles}
-use Rattle.words.proofs.Bytes.{length_bytes, word_behind, word_written, single-behind_lem, double-behind_lem, singles-behind_lem, single_back, double_back, singles_back, length-numbers_lem}
+use Rattle.words.proofs.Bytes.{length_bytes, word_behind, word_written, single-behind, double-behind, singles-behind, single_back, double_back, singles_back, length-numbers}
 use Rattle.card.specs.Card.{tag_of, has_head, length_in, field_length, is_whole, is_tag, is_range, fits_tag, is_wrong, is_misplaced, Reader, ranged_as, event_turn, contents_turn, field_turn, numbers_in, bounds_in, event_in, field_of, range_field, event_field}
 use Rattle.card.specs.Back.{FitEvent, FitBounds, command_of}
 use Rattle.card.proofs.Fields.{and_false, step_in, linear_in, exponential_in, target_in, curve_in_lem}
@@ -36,7 +36,7 @@ abbrev several : ℕ → List ℕ → ℕ → List Float
 several n bs at = singles_at bs at n
 
 several_behind : (n : ℕ) → Behind (several n)
-several_behind n bs cs at = singles-behind_lem bs cs at n
+several_behind n bs cs at = singles-behind bs cs at n
 
 -- ---- a field
 
@@ -63,25 +63,25 @@ module _ (tag : ℕ) (contents rest : List ℕ) where
   in_contents f b at = past f b head contents rest head_long at
 
   module _ (small : length contents < 65536) where
-    pub written-length_lem : length_in field ≡ length contents
+    pub written-length : length_in field ≡ length contents
     unfolding length_in
-    written-length_lem =
+    written-length =
         word_behind 2 (tag ∷ []) ((bytes_of 2 (length contents) ++ contents) ++ rest) 0
         ∙ ap (λ (bs : List ℕ). word_at 2 bs 0) (append_assoc (bytes_of 2 (length contents)) contents rest) ∙ word_written 2 (length contents) (contents ++ rest) small
 
-    pub written-field_lem : field_length field ≡ length (field_of tag contents)
+    pub written-field : field_length field ≡ length (field_of tag contents)
     unfolding field_length
-    written-field_lem = ap (λ (n : ℕ). 3 + n) written-length_lem ∙ sym field_long
+    written-field = ap (λ (n : ℕ). 3 + n) written-length ∙ sym field_long
 
-    pub written-whole_lem : is_whole field ≡ true
+    pub written-whole : is_whole field ≡ true
     unfolding is_whole has_head
-    written-whole_lem =
+    written-whole =
         let long : length field ≡ length (field_of tag contents) + length rest = length-append (field_of tag contents) rest in
         and (le-leb 3 (length field) (omega (arith, long, field_long)))
-        (le-leb (field_length field) (length field) (omega (arith, long, written-field_lem)))
+        (le-leb (field_length field) (length field) (omega (arith, long, written-field)))
 
     pub written_behind : drop (field_length field) field ≡ rest
-    written_behind = drop_at (field_of tag contents) rest (field_length field) (sym written-field_lem)
+    written_behind = drop_at (field_of tag contents) rest (field_length field) (sym written-field)
 
 -- ---- contents, number by number
 
@@ -116,7 +116,7 @@ pub target_long : (v t c : Float) → length (single_bytes v ++ (double_bytes t 
 target_long v t c = simp length-append (omega (arith, single_long v, double_long t, double_long c))
 
 pub curve_long : (s d : Float) (xs : List Float) → length (double_bytes s ++ (double_bytes d ++ numbers_bytes xs)) ≡ 16 + 4 * length xs
-curve_long s d xs = simp length-append (omega (arith, double_long s, double_long d, length-numbers_lem xs))
+curve_long s d xs = simp length-append (omega (arith, double_long s, double_long d, length-numbers xs))
 
 pub bounds_long : (a b c : Float) → length (single_bytes a ++ (single_bytes b ++ single_bytes c)) ≡ 12
 bounds_long a b c = simp length-append (omega (arith, single_long a, single_long b, single_long c))
@@ -127,16 +127,16 @@ module _ (rest : List ℕ) where
   -- a value and a time, behind any tag
   module _ (tag : ℕ) (v t : Float) (f : T (fits binary32 v) × T (fits binary64 t)) where
     value_of : single_at (field tag (single_bytes v ++ double_bytes t) rest) 3 ≡ v
-    value_of = in_contents tag (single_bytes v ++ double_bytes t) rest single_at single-behind_lem 0 ∙ first_single (double_bytes t) rest v f.0
+    value_of = in_contents tag (single_bytes v ++ double_bytes t) rest single_at single-behind 0 ∙ first_single (double_bytes t) rest v f.0
 
     time_of_lem : double_at (field tag (single_bytes v ++ double_bytes t) rest) 7 ≡ t
-    time_of_lem = in_contents tag (single_bytes v ++ double_bytes t) rest double_at double-behind_lem 4 ∙ past_single (double_bytes t) rest double_at double-behind_lem v 0 ∙ double_back t rest f.1
+    time_of_lem = in_contents tag (single_bytes v ++ double_bytes t) rest double_at double-behind 4 ∙ past_single (double_bytes t) rest double_at double-behind v 0 ∙ double_back t rest f.1
 
   curve_numbers : (s d : Float) (xs : List Float) → length xs ≤ store_length → numbers_in (field 5 (double_bytes s ++ (double_bytes d ++ numbers_bytes xs)) rest) ≡ length xs
   unfolding numbers_in
   curve_numbers s d xs few =
       let long = curve_long s d xs in
-      let is : length_in (field 5 (double_bytes s ++ (double_bytes d ++ numbers_bytes xs)) rest) ≡ 16 + 4 * length xs = written-length_lem 5 (double_bytes s ++ (double_bytes d ++ numbers_bytes xs)) rest (omega (arith, long, few)) ∙ long in
+      let is : length_in (field 5 (double_bytes s ++ (double_bytes d ++ numbers_bytes xs)) rest) ≡ 16 + 4 * length xs = written-length 5 (double_bytes s ++ (double_bytes d ++ numbers_bytes xs)) rest (omega (arith, long, few)) ∙ long in
       rw is (omega arith)
 
   pub event_written : (e : Event) (xs : List Float) → FitEvent e → AreSingles xs → length xs ≤ store_length → event_in (event_field e xs ++ rest) ≡ command_of e xs
@@ -149,15 +149,15 @@ module _ (rest : List ℕ) where
       exponential_in (field 3 (single_bytes v ++ double_bytes t) rest) (written_tag 3 (single_bytes v ++ double_bytes t) rest) ∙ rw (value_of 3 v t f, time_of_lem 3 v t f) refl
   event_written (Event.Target v t c h) xs f g few =
       let contents : List ℕ = single_bytes v ++ (double_bytes t ++ double_bytes c) in
-      let value : single_at (field 4 contents rest) 3 ≡ v = in_contents 4 contents rest single_at single-behind_lem 0 ∙ first_single (double_bytes t ++ double_bytes c) rest v f.0 in
-      let time : double_at (field 4 contents rest) 7 ≡ t = in_contents 4 contents rest double_at double-behind_lem 4 ∙ past_single (double_bytes t ++ double_bytes c) rest double_at double-behind_lem v 0 ∙ first_double (double_bytes c) rest t f.1.0 in
-      let constant : double_at (field 4 contents rest) 15 ≡ c = in_contents 4 contents rest double_at double-behind_lem 12 ∙ past_single (double_bytes t ++ double_bytes c) rest double_at double-behind_lem v 8 ∙ past_double (double_bytes c) rest double_at double-behind_lem t 0 ∙ double_back c rest f.1.1 in
+      let value : single_at (field 4 contents rest) 3 ≡ v = in_contents 4 contents rest single_at single-behind 0 ∙ first_single (double_bytes t ++ double_bytes c) rest v f.0 in
+      let time : double_at (field 4 contents rest) 7 ≡ t = in_contents 4 contents rest double_at double-behind 4 ∙ past_single (double_bytes t ++ double_bytes c) rest double_at double-behind v 0 ∙ first_double (double_bytes c) rest t f.1.0 in
+      let constant : double_at (field 4 contents rest) 15 ≡ c = in_contents 4 contents rest double_at double-behind 12 ∙ past_single (double_bytes t ++ double_bytes c) rest double_at double-behind v 8 ∙ past_double (double_bytes c) rest double_at double-behind t 0 ∙ double_back c rest f.1.1 in
       target_in (field 4 contents rest) (written_tag 4 contents rest) ∙ rw (value, time, constant) refl
   event_written (Event.Curve s d n h) xs f g few =
       let contents : List ℕ = double_bytes s ++ (double_bytes d ++ numbers_bytes xs) in
       let many : numbers_in (field 5 contents rest) ≡ length xs = curve_numbers s d xs few in
-      let start : double_at (field 5 contents rest) 3 ≡ s = in_contents 5 contents rest double_at double-behind_lem 0 ∙ first_double (double_bytes d ++ numbers_bytes xs) rest s f.0 in
-      let duration : double_at (field 5 contents rest) 11 ≡ d = in_contents 5 contents rest double_at double-behind_lem 8 ∙ past_double (double_bytes d ++ numbers_bytes xs) rest double_at double-behind_lem s 0 ∙ first_double (numbers_bytes xs) rest d f.1 in
+      let start : double_at (field 5 contents rest) 3 ≡ s = in_contents 5 contents rest double_at double-behind 0 ∙ first_double (double_bytes d ++ numbers_bytes xs) rest s f.0 in
+      let duration : double_at (field 5 contents rest) 11 ≡ d = in_contents 5 contents rest double_at double-behind 8 ∙ past_double (double_bytes d ++ numbers_bytes xs) rest double_at double-behind s 0 ∙ first_double (numbers_bytes xs) rest d f.1 in
       let numbers : singles_at (field 5 contents rest) 19 (length xs) ≡ xs = in_contents 5 contents rest (several (length xs)) (several_behind (length xs)) 16 ∙ past_double (double_bytes d ++ numbers_bytes xs) rest (several (length xs)) (several_behind (length xs)) s 8 ∙ past_double (numbers_bytes xs) rest (several (length xs)) (several_behind (length xs)) d 0 ∙ singles_back xs rest g in
       curve_in_lem (field 5 contents rest) (written_tag 5 contents rest) ∙ rw (start, duration, many, numbers) refl
 
@@ -174,7 +174,7 @@ pub record Written (bs field rest : List ℕ) : Type 0 where
 module _ (tag : ℕ) (contents rest : List ℕ) (small : length contents < 65536) where
   written_right : fits_tag tag (length contents) ≡ true → is_wrong (field tag contents rest) ≡ false
   unfolding is_wrong tag_of
-  written_right fit = rw (written-length_lem tag contents rest small, fit) (and_false (has_head (field tag contents rest)))
+  written_right fit = rw (written-length tag contents rest small, fit) (and_false (has_head (field tag contents rest)))
 
   written : is_tag tag ≡ true → fits_tag tag (length contents) ≡ true → Written (field tag contents rest) (field_of tag contents) rest
   unfolding tag_of
@@ -182,8 +182,8 @@ module _ (tag : ℕ) (contents rest : List ℕ) (small : length contents < 65536
       record {
         tag = known;
         right = written_right fit;
-        whole = written-whole_lem tag contents rest small;
-        long = written-field_lem tag contents rest small;
+        whole = written-whole tag contents rest small;
+        long = written-field tag contents rest small;
         behind = written_behind tag contents rest small;
       }
 
@@ -218,12 +218,12 @@ pub bounds_written : (b : Bounds) (rest : List ℕ) → FitBounds b → bounds_i
 unfolding range_field bounds_in
 bounds_written b rest f =
     let contents : List ℕ = single_bytes b.min ++ (single_bytes b.default ++ single_bytes b.max) in
-    let min : single_at (field 6 contents rest) 3 ≡ b.min = in_contents 6 contents rest single_at single-behind_lem 0 ∙ first_single (single_bytes b.default ++ single_bytes b.max) rest b.min f.0 in
+    let min : single_at (field 6 contents rest) 3 ≡ b.min = in_contents 6 contents rest single_at single-behind 0 ∙ first_single (single_bytes b.default ++ single_bytes b.max) rest b.min f.0 in
     let default : single_at (field 6 contents rest) 7 ≡ b.default =
-    in_contents 6 contents rest single_at single-behind_lem 4 ∙ past_single (single_bytes b.default ++ single_bytes b.max) rest single_at single-behind_lem b.min 0 ∙ first_single (single_bytes b.max) rest b.default f.1.0 in
+    in_contents 6 contents rest single_at single-behind 4 ∙ past_single (single_bytes b.default ++ single_bytes b.max) rest single_at single-behind b.min 0 ∙ first_single (single_bytes b.max) rest b.default f.1.0 in
     let max : single_at (field 6 contents rest) 11 ≡ b.max =
-    in_contents 6 contents rest single_at single-behind_lem 8 ∙ past_single (single_bytes b.default ++ single_bytes b.max) rest single_at single-behind_lem b.min 4
-    ∙ past_single (single_bytes b.max) rest single_at single-behind_lem b.default 0 ∙ single_back b.max rest f.1.1 in
+    in_contents 6 contents rest single_at single-behind 8 ∙ past_single (single_bytes b.default ++ single_bytes b.max) rest single_at single-behind b.min 4
+    ∙ past_single (single_bytes b.max) rest single_at single-behind b.default 0 ∙ single_back b.max rest f.1.1 in
     rw (min, default, max) refl
 
 -- ---- a turn on it

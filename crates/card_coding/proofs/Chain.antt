@@ -20,17 +20,17 @@ pub data Heard : List (List ℕ) → List ℕ → List Float → List ℕ → Li
       → HearsCard card numbers window part n after left over → Heard parts after left over last still end → Heard (part ∷ parts) card numbers window last still end
 
 -- what they keep is the reading with all of them
-pub all-kept_lem : {parts : List (List ℕ)} {card after : List ℕ} {numbers left : List Float} {window over : List ℕ} (s : Reading) → Heard parts card numbers window after left over
+pub all-kept : {parts : List (List ℕ)} {card after : List ℕ} {numbers left : List Float} {window over : List ℕ} (s : Reading) → Heard parts card numbers window after left over
     → Keeps card numbers window s → Keeps after left over (fed_all s parts)
 unfolding fed_all
-all-kept_lem s none k = k
-all-kept_lem s (more {part} short h rest) k = all-kept_lem _ rest (h.keeps s short k)
+all-kept s none k = k
+all-kept s (more {part} short h rest) k = all-kept _ rest (h.keeps s short k)
 
 module _ (rate : AutomationRate) (edition : ℕ) (parts : List (List ℕ)) {old card after : List ℕ} {lent numbers left : List Float} {window over : List ℕ} {before ended : Ended}
     (o : OpensCard rate edition old lent 0 card numbers) (long : length window ≡ window_length) (h : Heard parts card numbers window after left over)
     (e : EndsCard after left over before ended) where
   kept : Keeps after left over (fed_all (begun rate edition) parts)
-  kept = all-kept_lem (begun rate edition) h (o.keeps refl window long)
+  kept = all-kept (begun rate edition) h (o.keeps refl window long)
 
   -- opened, heard and ended: number, offset, state and store are those of the file that the parts are, however it is cut
   pub file_is_read : length before.state ≡ state_length → ended ≡ ended_as (loaded (read rate edition (joined parts)) (param_in before.state) before.store) before.state

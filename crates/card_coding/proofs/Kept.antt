@@ -178,8 +178,8 @@ module _ {card mid : List ℕ} {r : CardReader} (long : length card ≡ card_len
   state_long : length (state_in card) ≡ state_length
   state_long = simp length-drop (omega arith)
 
-  nothing-behind_lem : drop (length mid - card_head) (drop card_head mid) ≡ []
-  nothing-behind_lem = drop_of_length-le (drop card_head mid) {i = length mid - card_head} (simp length-drop (omega arith))
+  nothing-behind : drop (length mid - card_head) (drop card_head mid) ≡ []
+  nothing-behind = drop_of_length-le (drop card_head mid) {i = length mid - card_head} (simp length-drop (omega arith))
 
   pub puts_card : {after : List ℕ} → Encodes r.param (take (length mid - card_head) (drop card_head mid)) after
       → PutsCard card r (take card_head mid ++ (after ++ drop (length mid - card_head) (drop card_head mid)))
@@ -187,7 +187,7 @@ module _ {card mid : List ℕ} {r : CardReader} (long : length card ≡ card_len
       let is : Encodes r.param (state_in card) after = rw mid_state at e in
       let back = reads_back f state_long is in
       record {
-        is = rw (nothing-behind_lem, append-nil after) (rw (h.is, is.is));
+        is = rw (nothing-behind, append-nil after) (rw (h.is, is.is));
         small = h.small;
         before = h.before;
         state = rw is.is at back.0;

@@ -15,7 +15,7 @@ use Rattle.rules.specs.Numbers.{store_length, is_finite}
 use Rattle.rules.specs.Queue.{Waiting, filed_under, lengths_of, attached, place_behind, arrived, inserted}
 use Rattle.rules.specs.Refusals.{lowest, all_finite, curve_rows}
 use Rattle.rules.specs.Block.{Param, Command, step, linear, exponential, target, curve, Called, called, scheduled_as, called_as}
-use Rattle.laws.proofs.Events.{put-length_lem, events_attached, events_inserted}
+use Rattle.laws.proofs.Events.{put-length, events_attached, events_inserted}
 use Rattle.laws.proofs.Rows.{curve_answered}
 use Rattle.laws.proofs.Answers.{refused_called, unlent}
 use Rattle.param.specs.declared.AudioParam.{AudioParam}
@@ -106,13 +106,13 @@ Longer p k = k.verdict ≡ Verdict.Answered → length k.param.queue ≡ suc (le
 
 scheduled_longer : (v : Verdict) (p : Param) (s : List Float) (e : Event) → Longer p (scheduled_as v p s e)
 unfolding scheduled_as arrived
-scheduled_longer Verdict.Answered p s e h = put-length_lem (place_behind (filed_under e) p.queue) e p.queue
+scheduled_longer Verdict.Answered p s e h = put-length (place_behind (filed_under e) p.queue) e p.queue
 scheduled_longer (Verdict.Refused why) p s e h = let z : ◌≡◌ {A = ℕ} 0 1 = cc in absurd (omega arith)
 
 curve_longer : (v : Verdict) (p : Param) (s : List Float) (w : Waiting) (i : Float) → Longer p (called_as v p s (inserted w (attached p.queue s)) i)
 unfolding called_as arrived
 curve_longer Verdict.Answered p s w i h =
-    rw (events_inserted w (attached p.queue s), events_attached p.queue s) (put-length_lem (place_behind (filed_under w.event) p.queue) w.event p.queue)
+    rw (events_inserted w (attached p.queue s), events_attached p.queue s) (put-length (place_behind (filed_under w.event) p.queue) w.event p.queue)
 curve_longer (Verdict.Refused why) p s w i h = let z : ◌≡◌ {A = ℕ} 0 1 = cc in absurd (omega arith)
 
 pub event_longer : (bs : List ℕ) (p : Param) (s : List Float) → Longer p (called p s (event_in bs))

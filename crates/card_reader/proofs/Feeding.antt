@@ -11,7 +11,7 @@ use lib.Ieee.{Float}
 use Rattle.text.specs.Put.{put, Put}
 use Rattle.text.proofs.Writing.{put_front}
 use Rattle.card.specs.Card.{is_accepted, is_whole, Reading, taken, fed}
-use Rattle.card.proofs.Parts.{taken_none, fed-append_lem}
+use Rattle.card.proofs.Parts.{taken_none, fed-append}
 use Rattle.card_reader.specs.declared.CardReader.{CardReader}
 use Rattle.card_reader.specs.declared.Taken.{Taken}
 use Rattle.card_reader.specs.Reader.{reader_of, window_length, SoundReader, SoundWindow, Takes, Feeds}
@@ -52,7 +52,7 @@ pub fed_further : (s : Reading) {t u : Reading} (part : List ℕ) {from to : ℕ
 fed_further s part {from} {to} ordered first next =
     let more : List ℕ = take (to - from) (drop from part) in
     let sum : to ≡ from + (to - from) = omega arith in
-    next ∙ ap (λ (x : Reading). fed x more) first ∙ fed-append_lem s (take from part) more ∙ ap (fed s) (sym (ap (λ (n : ℕ). take n part) sum ∙ take-add from (to - from) part))
+    next ∙ ap (λ (x : Reading). fed x more) first ∙ fed-append s (take from part) more ∙ ap (fed s) (sym (ap (λ (n : ℕ). take n part) sum ∙ take-add from (to - from) part))
 
 -- ---- what a part does
 

@@ -17,38 +17,38 @@ module _ (bs : List ℕ) (at n : ℕ) where
   abbrev pub singles_from : ℕ → List Float
   singles_from i = singles_at bs (at + 4 * i) (n - i)
 
-  singles-next_lem : (i : ℕ) → i < n → singles_from i ≡ single_at bs (at + 4 * i) ∷ singles_from (i + 1)
+  singles-next : (i : ℕ) → i < n → singles_from i ≡ single_at bs (at + 4 * i) ∷ singles_from (i + 1)
   unfolding singles_at
-  singles-next_lem i h =
+  singles-next i h =
       let more : n - i ≡ suc (n - (i + 1)) = omega arith in
       let next : at + 4 * (i + 1) ≡ at + 4 * i + 4 = omega arith in
       rw (more, next)
 
-  singles-over_lem : (i : ℕ) → n ≤ i → singles_from i ≡ []
+  singles-over : (i : ℕ) → n ≤ i → singles_from i ≡ []
   unfolding singles_at
-  singles-over_lem i h = let none : n - i ≡ 0 = omega arith in rw none
+  singles-over i h = let none : n - i ≡ 0 = omega arith in rw none
 
   -- ---- read into a slice
 
-  pub read-turn_lem : (values : List Float) (i : ℕ) → i < n → i < length values
+  pub read-turn : (values : List Float) (i : ℕ) → i < n → i < length values
       → take i values ++ singles_from i ≡ take (i + 1) (set values i (single_at bs (at + 4 * i))) ++ singles_from (i + 1)
-  read-turn_lem values i h inside =
+  read-turn values i h inside =
       rw (add-one i, take-suc-set values i (single_at bs (at + 4 * i)) inside, append_assoc (take i values) (single_at bs (at + 4 * i) ∷ []) (singles_from (suc i)), ← add-one i)
-      (ap (λ (xs : List Float). take i values ++ xs) (singles-next_lem i h))
+      (ap (λ (xs : List Float). take i values ++ xs) (singles-next i h))
 
-  pub read-over_lem : (values : List Float) (i : ℕ) → n ≤ i → length values ≤ i → take i values ++ singles_from i ≡ values
-  read-over_lem values i h k = rw (take_all i values k, singles-over_lem i h) (append-nil values)
+  pub read-over : (values : List Float) (i : ℕ) → n ≤ i → length values ≤ i → take i values ++ singles_from i ≡ values
+  read-over values i h k = rw (take_all i values k, singles-over i h) (append-nil values)
 
   -- ---- asked whether they are finite
 
   pub finite_turn : (i : ℕ) → i < n → is_finite (single_at bs (at + 4 * i)) ≡ true → all_finite (singles_from i) ≡ all_finite (singles_from (i + 1))
   unfolding all_finite
-  finite_turn i h fine = rw (singles-next_lem i h, fine)
+  finite_turn i h fine = rw (singles-next i h, fine)
 
   pub finite_not : (i : ℕ) → i < n → is_finite (single_at bs (at + 4 * i)) ≡ false → all_finite (singles_from i) ≡ false
   unfolding all_finite
-  finite_not i h odd = rw (singles-next_lem i h, odd)
+  finite_not i h odd = rw (singles-next i h, odd)
 
   pub finite_over : (i : ℕ) → n ≤ i → all_finite (singles_from i) ≡ true
   unfolding all_finite
-  finite_over i h = rw (singles-over_lem i h)
+  finite_over i h = rw (singles-over i h)

@@ -17,9 +17,9 @@ use Rattle.card_reader.specs.Reader.{window_length}
 
 module _ (bs : List ℕ) (used : ℕ) (r : Reader) where
   -- one field more
-  pub taken-turn_lem : {s : Reader} {len : ℕ} → is_accepted r.verdict ≡ true → is_whole (drop used bs) ≡ true → len ≡ field_length (drop used bs) → s ≡ field_turn (drop used bs) r
+  pub taken-turn : {s : Reader} {len : ℕ} → is_accepted r.verdict ≡ true → is_whole (drop used bs) ≡ true → len ≡ field_length (drop used bs) → s ≡ field_turn (drop used bs) r
       → taken (length (drop used bs)) (drop used bs) r ≡ taken (length (drop (used + len) bs)) (drop (used + len) bs) s
-  taken-turn_lem kept whole size e = rw (size, e, ← drop-drop (field_length (drop used bs)) used bs) (taken_one (drop used bs) r kept whole)
+  taken-turn kept whole size e = rw (size, e, ← drop-drop (field_length (drop used bs)) used bs) (taken_one (drop used bs) r kept whole)
 
   -- no field is whole: the bytes wait; or one was refused, and they go
   module _ {all : Reading} (so_far : all ≡ taken (length (drop used bs)) (drop used bs) r) (stops : (is_accepted r.verdict && is_whole (drop used bs)) ≡ false) where

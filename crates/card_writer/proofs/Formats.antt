@@ -15,7 +15,7 @@ use Rattle.rules.specs.contracts.Event as event-type
 use Rattle.timeline.specs.declared.AudioParamEvent.{AudioParamEvent}
 use Rattle.timeline.specs.contracts.AudioParamEvent as slot-type
 use Rattle.words.specs.Words.{AreSingles}
-use Rattle.words.proofs.Bytes.{singles-take_lem, singles-drop_lem}
+use Rattle.words.proofs.Bytes.{singles-take, singles-drop}
 use Rattle.param.specs.declared.AudioParam.{AudioParam}
 use Rattle.param.specs.Param.{param_of}
 use Rattle.param.specs.contracts.AudioParam as param-type
@@ -41,7 +41,7 @@ slots_fit (suc n) [] us store h f = tt
 slots_fit (suc n) (s ∷ ss) [] store h f = absurd h
 slots_fit (suc n) (s ∷ ss) (u ∷ us) store h f =
     let k : ℕ = length_of s.event in
-    ((event_fits s.event h.0.1.1.0, singles-take_lem k store f), slots_fit n ss us (drop k store) h.1 (singles-drop_lem k store f))
+    ((event_fits s.event h.0.1.1.0, singles-take k store f), slots_fit n ss us (drop k store) h.1 (singles-drop k store f))
 
 pub printable : (p : AudioParam) (store : List Float) {vs : List Val} → Is param-type.the_row p vs → AreSingles store → Printable (param_of p) store
 printable p store h f =

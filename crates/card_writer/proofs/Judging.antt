@@ -19,7 +19,7 @@ use Rattle.card.specs.declared.CardVerdict.TheVariants as CardVerdict
 use Rattle.card.specs.declared.Judged.{Judged}
 use Rattle.card.specs.Card.{is_accepted, range_field, event_field, fields_of, file_of, is_unwritable, bad_store, unwritable, judged_from, judged}
 use Rattle.card.proofs.Bound.{range_size}
-use Rattle.card_writer.proofs.Parts.{fields-length_lem, fields-over_lem}
+use Rattle.card_writer.proofs.Parts.{fields-length, fields-over}
 
 -- nothing is against writing these many bytes
 abbrev pub fine : ℕ → Judged
@@ -43,7 +43,7 @@ module _ {ws : List Waiting} {many i : ℕ} (l : Looked ws many i) where
   pub looked_all : (b : Bounds) → drop i ws ≡ [] → fine many ≡ judged_from 0 ws (length (file_of b ws))
   unfolding judged_from
   looked_all b none =
-      let sum : many ≡ length (file_of b ws) = omega (arith, file_length b ws, l.sum, ap length (fields-over_lem none)) in
+      let sum : many ≡ length (file_of b ws) = omega (arith, file_length b ws, l.sum, ap length (fields-over none)) in
       rw (l.left, none, sum)
 
   module _ {w : Waiting} (here : drop i ws ≡ w ∷ drop (i + 1) ws) where
@@ -53,11 +53,11 @@ module _ {ws : List Waiting} {many i : ℕ} (l : Looked ws many i) where
 
     -- no more than the file has
     pub looked_few : (b : Bounds) → many + length (event_field w.event w.numbers) ≤ length (file_of b ws)
-    looked_few b = omega (arith, file_length b ws, l.sum, fields-length_lem here)
+    looked_few b = omega (arith, file_length b ws, l.sum, fields-length here)
 
     pub looked_more : {k : ℕ} → is_unwritable w ≡ false → k ≡ length (event_field w.event w.numbers) → Looked ws (many + k) (i + 1)
     unfolding judged_from
-    looked_more h n = record { sum = omega (arith, l.sum, fields-length_lem here); left = λ j. l.left j ∙ rw (here, h, add-one i) }
+    looked_more h n = record { sum = omega (arith, l.sum, fields-length here); left = λ j. l.left j ∙ rw (here, h, add-one i) }
 
 kept_from : (i : ℕ) (ws : List Waiting) (many : ℕ) → is_accepted (judged_from i ws many).verdict ≡ true → judged_from i ws many ≡ fine many
 unfolding judged_from is_accepted
@@ -82,9 +82,9 @@ module _ (p : Param) (store : List Float) where
   judged_store h = rw (ne_eqb (length store) store_length h)
 
   module _ (long : length store ≡ store_length) where
-    pub judged-played_lem : has_played p.last_block ≡ true → unwritable 0 ≡ judged p store
+    pub judged-played : has_played p.last_block ≡ true → unwritable 0 ≡ judged p store
     unfolding judged
-    judged-played_lem h = rw (eq-eqb (length store) store_length long, h)
+    judged-played h = rw (eq-eqb (length store) store_length long, h)
 
     pub judged_events : has_played p.last_block ≡ false → judged_from 0 ws bytes ≡ judged p store
     unfolding judged

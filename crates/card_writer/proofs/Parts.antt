@@ -8,7 +8,7 @@ use lib.Seq.{drop-cons}
 use lib.Ieee.{Float}
 use Rattle.rules.specs.Queue.{Waiting}
 use Rattle.text.specs.Put.{Put}
-use Rattle.text.proofs.Writing.{put_same, put_then, put-nothing_lem}
+use Rattle.text.proofs.Writing.{put_same, put_then, put-nothing}
 use Rattle.words.specs.Words.{single_bytes, numbers_bytes}
 use Rattle.card.specs.Card.{event_field, fields_of}
 
@@ -24,29 +24,29 @@ module _ {l l₁ xs left : List ℕ} {at p₁ : ℕ} (w : Leaves l at xs l₁ p�
   leaves_fewer e p h after r q = w after r (put_same (sym e) (put_then p q h))
 
   pub leaves_none : left ≡ [] → Put l at xs l₁ p₁
-  leaves_none e = w _ _ (put_same (sym e) (put-nothing_lem _ _))
+  leaves_none e = w _ _ (put_same (sym e) (put-nothing _ _))
 
 -- ---- numbers
 
 module _ (xs : List Float) (i : ℕ) where
-  pub numbers-next_lem : (d : Float) → i < length xs → numbers_bytes (drop i xs) ≡ single_bytes (get_or xs i d) ++ numbers_bytes (drop (i + 1) xs)
+  pub numbers-next : (d : Float) → i < length xs → numbers_bytes (drop i xs) ≡ single_bytes (get_or xs i d) ++ numbers_bytes (drop (i + 1) xs)
   unfolding numbers_bytes
-  numbers-next_lem d h = rw (drop-cons xs i d h, add-one i)
+  numbers-next d h = rw (drop-cons xs i d h, add-one i)
 
-  pub numbers-over_lem : length xs ≤ i → numbers_bytes (drop i xs) ≡ []
+  pub numbers-over : length xs ≤ i → numbers_bytes (drop i xs) ≡ []
   unfolding numbers_bytes
-  numbers-over_lem h = rw (drop_of_length-le xs h)
+  numbers-over h = rw (drop_of_length-le xs h)
 
 -- ---- the fields of the events from a place on
 
 module _ {w : Waiting} {left more : List Waiting} (here : left ≡ w ∷ more) where
-  pub fields-next_lem : fields_of left ≡ event_field w.event w.numbers ++ fields_of more
+  pub fields-next : fields_of left ≡ event_field w.event w.numbers ++ fields_of more
   unfolding fields_of
-  fields-next_lem = ap fields_of here
+  fields-next = ap fields_of here
 
-  pub fields-length_lem : length (fields_of left) ≡ length (event_field w.event w.numbers) + length (fields_of more)
-  fields-length_lem = ap length fields-next_lem ∙ length-append (event_field w.event w.numbers) (fields_of more)
+  pub fields-length : length (fields_of left) ≡ length (event_field w.event w.numbers) + length (fields_of more)
+  fields-length = ap length fields-next ∙ length-append (event_field w.event w.numbers) (fields_of more)
 
-pub fields-over_lem : {left : List Waiting} → left ≡ [] → fields_of left ≡ []
+pub fields-over : {left : List Waiting} → left ≡ [] → fields_of left ≡ []
 unfolding fields_of
-fields-over_lem none = ap fields_of none
+fields-over none = ap fields_of none

@@ -52,9 +52,9 @@ module _ (p : Param) (store : List Float) {j : Judged} (is : j ≡ judged p stor
       unfolding saved saved_as written_to
       saved_short h = rw (← is, k, lt-leb (length file) (length out) (rw said at h), said)
 
-      pub saved-whole_lem : {b : Bounds} {l₁ l₂ : List ℕ} {next r : ℕ} → j.at ≤ length out → b ≡ p.bounds → Put out 0 (range_field b) l₁ next
+      pub saved-whole : {b : Bounds} {l₁ l₂ : List ℕ} {next r : ℕ} → j.at ≤ length out → b ≡ p.bounds → Put out 0 (range_field b) l₁ next
           → Put l₁ next (fields_of (attached p.queue store)) l₂ r → says CardVerdict.Answered r l₂ ≡ saved p store out
       unfolding saved saved_as written_to file_of put
-      saved-whole_lem {b} h e range events =
+      saved-whole {b} h e range events =
           let all : Put out 0 file _ _ = put_then (put_same (ap range_field e) range) events (omega (arith, range.place, range_size b, bytes_said)) in
           rw (← is, k, le-leb (length file) (length out) (rw said at h), all.bytes, all.place, zero-add (length file))

@@ -10,7 +10,7 @@ use Rattle.rules.specs.declared.Head.{Head}
 use Rattle.rules.specs.declared.Head.TheVariants as Head
 use Rattle.rules.specs.Numbers.{store_length}
 use Rattle.rules.specs.Queue.{length_of, lengths_of, attached}
-use Rattle.laws.proofs.Store.{attached-length_lem}
+use Rattle.laws.proofs.Store.{attached-length}
 use Rattle.timeline.specs.declared.AudioParamEventTimeline.{AudioParamEventTimeline}
 use Rattle.timeline.specs.Timeline.{slot_of, waiting, made, Neat, first_of}
 use Rattle.timeline.specs.Heads.{waiting_as}
@@ -54,4 +54,4 @@ module _ {p : AudioParam} {q : AudioParamEventTimeline} (w : Walked p q) (store 
       }
 
   pub over : q.len ≤ i → drop i (attached (waiting q) store) ≡ []
-  over past = drop_of_length-le (attached (waiting q) store) {i = i} (omega (arith, attached-length_lem (waiting q) store, count q w.neat))
+  over past = drop_of_length-le (attached (waiting q) store) {i = i} (omega (arith, attached-length (waiting q) store, count q w.neat))

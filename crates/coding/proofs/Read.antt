@@ -33,9 +33,9 @@ use Rattle.coding.proofs.Words.{words_length}
 same : {a b : Outcome} → a.verdict ≡ b.verdict → a.param ≡ b.param → a ≡ b
 same v p = rw (v, p)
 
-pub nothing-made_lem : (b : Bounds) {r : Outcome} → are_bounds b ≡ false → Makes b Rate.A 1 r → r ≡ unmade
+pub nothing-made : (b : Bounds) {r : Outcome} → are_bounds b ≡ false → Makes b Rate.A 1 r → r ≡ unmade
 unfolding made made_as making_rows lowest
-nothing-made_lem b h m = same (m.verdict ∙ rw h) (m.param ∙ rw h)
+nothing-made b h m = same (m.verdict ∙ rw h) (m.param ∙ rw h)
 
 module _ (s : List ℕ) where
   pub decodes_none : {r : Outcome} → (length s ≡ state_length → ⊥) → r ≡ unmade → SoundParam r.param → Decodes s r

@@ -19,7 +19,7 @@ use Rattle.laws.proofs.Editions.{edition_back}
 use Rattle.timeline.specs.declared.AudioParamEvent.{AudioParamEvent}
 use Rattle.timeline.specs.declared.AudioParamEventTimeline.{AudioParamEventTimeline}
 use Rattle.timeline.specs.Timeline.{made}
-use Rattle.timeline.proofs.Laws.{Filled, filled-made_lem, waits_of}
+use Rattle.timeline.proofs.Laws.{Filled, filled-made, waits_of}
 use Rattle.words.specs.Words.{SingleBits}
 use Rattle.coding.specs.Coding.{head_words, state_length, state_version, place_of, rate_in, rate_word, event_at, events_in, param_in, words_of, words_for, head_of, state_of, flag_of, last_flag, last_time, last_value, TimeBits, PutsEvent, PutsLast, PutsHead, Queues}
 use Rattle.coding.proofs.Words.{six, event_behind, events_front, events_more, words_more, words_length}
@@ -33,7 +33,7 @@ filled_empty e = record { many = refl; held = ap (λ (u : AudioParamEventTimelin
 pub queues : (s : List ℕ) {slots : List AudioParamEvent} {len i : ℕ} → Filled slots i (events_in s i) → i ≡ len → len ≡ get_or s 14 0
     → Queues s (record { slots = slots; len = len })
 queues s {slots} {len} {i} f e m =
-    record { many = m; events = λ h. rw (← m, ← e) (waits_of (record { slots = slots; len = i }) (events_in s i) (filled-made_lem f)) }
+    record { many = m; events = λ h. rw (← m, ← e) (waits_of (record { slots = slots; len = i }) (events_in s i) (filled-made f)) }
 
 -- ---- events written one by one
 

@@ -18,10 +18,10 @@ use Rattle.rules.specs.Refusals.{lowest, making_rows}
 use Rattle.rules.specs.Walk.{Walked}
 use Rattle.rules.specs.Block.{Param, made, made_as, Command, set, step, linear, exponential, target, curve, cancel, hold, Called, called, called_as, scheduled_as, Call, Answer, infos_of, rendered, answer_of, verdict_of, answered}
 use Rattle.laws.specs.Sound.{Sound}
-use Rattle.laws.proofs.Events.{events_length, events_attached, events_inserted, events_cancelled, put-length_lem}
-use Rattle.laws.proofs.Store.{attached-length_lem}
+use Rattle.laws.proofs.Events.{events_length, events_attached, events_inserted, events_cancelled, put-length}
+use Rattle.laws.proofs.Store.{attached-length}
 use Rattle.laws.proofs.Counts.{rendered_counts}
-use Rattle.laws.proofs.Kept.{made-fresh_lem, made_sound, called_sound, answered_sound}
+use Rattle.laws.proofs.Kept.{made-fresh, made_sound, called_sound, answered_sound}
 use Rattle.laws.proofs.Answers.{refused_block, answer_is}
 use Rattle.laws.proofs.Held.{when_a_hold_moves_a_time}
 use Rattle.costs.specs.declared.Totals.{Totals}
@@ -49,7 +49,7 @@ arrived_weighs : (e : Event) (q : List Event) → (length (arrived e q) ≡ 1 + 
 unfolding arrived
 arrived_weighs e q =
     let n : ℕ = place_behind (filed_under e) q in
-    (omega (arith, put-length_lem n e q), omega (arith, one_at_most e, weigh_put exponentials n e q))
+    (omega (arith, put-length n e q), omega (arith, one_at_most e, weigh_put exponentials n e q))
 
 scheduled_stores : (v : Verdict) (p : Param) (store : List Float) (e : Event) → Stores p (scheduled_as v p store e)
 unfolding scheduled_as once_answered
@@ -132,7 +132,7 @@ module _ (p : Param) (store : List Float) (c : Call) (fine : verdict_of p store 
         steps = omega (arith, (rendered_counts (infos_of p.rate c) p.intrinsic p.last ws).steps);
         finished =
             omega
-            (arith, (rendered_counts (infos_of p.rate c) p.intrinsic p.last ws).finished, events_length done.queue, attached-length_lem p.queue store);
+            (arith, (rendered_counts (infos_of p.rate c) p.intrinsic p.last ws).finished, events_length done.queue, attached-length p.queue store);
         turned = rw (events_attached p.queue store) at (rendered_turns (infos_of p.rate c) p.intrinsic p.last ws);
       })
 
@@ -183,7 +183,7 @@ pub session_sums : (b : Bounds) (r : AutomationRate) (n : ℕ) (calls : List Ask
 unfolding most_steps weigh
 session_sums b r n calls =
     let t = session_balanced (made b r n) calls (made_sound b r n) in
-    let empty : (made b r n).queue ≡ [] = ap (λ (p : Param). p.queue) (made-fresh_lem b r n) in
+    let empty : (made b r n).queue ≡ [] = ap (λ (p : Param). p.queue) (made-fresh b r n) in
     let none : waiting_in (made b r n) ≡ 0 = ap length empty in
     let plain : turnable (made b r n) ≡ 0 = ap (weigh exponentials) empty in
     record {
@@ -202,9 +202,9 @@ unfolding left_by_all
 one_more_left p [] a = refl
 one_more_left p (b ∷ calls) a = one_more_left (left p b) calls a
 
-plus-nothing_lem : (t : Totals) → plus t nothing ≡ plus nothing t
+plus-nothing : (t : Totals) → plus t nothing ≡ plus nothing t
 unfolding plus
-plus-nothing_lem t = simp (add-zero, zero-add)
+plus-nothing t = simp (add-zero, zero-add)
 
 plus_assoc : (t u v : Totals) → plus t (plus u v) ≡ plus (plus t u) v
 unfolding plus
@@ -213,5 +213,5 @@ plus_assoc t u v =
 
 pub one_more_costs : (p : Param) (calls : List Asked) (a : Asked) → totals p (calls ++ (a ∷ [])) ≡ plus (totals p calls) (cost_of (left_by_all p calls) a)
 unfolding totals left_by_all
-one_more_costs p [] a = plus-nothing_lem (cost_of p a)
+one_more_costs p [] a = plus-nothing (cost_of p a)
 one_more_costs p (b ∷ calls) a = ap (plus (cost_of p b)) (one_more_costs (left p b) calls a) ∙ plus_assoc (cost_of p b) (totals (left p b) calls) _

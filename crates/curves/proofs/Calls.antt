@@ -13,7 +13,7 @@ use Rattle.rules.specs.declared.Event.TheVariants as Event
 use Rattle.rules.specs.Numbers.{plus_zero, store_length}
 use Rattle.rules.specs.Queue.{Waiting, filed_under, is_ramp, length_of, lengths_of, events_of, numbers_of, packed, attached, place_behind, put_at, arrived, inserted, those, is_before, cancelled, is_later, is_not_later, held_at, last_held, holds_ramp, held_by, held}
 use Rattle.laws.proofs.Events.{events_attached, events_drop, events_inserted, events_cancelled, held_by_ramp, events_held, alones, lengths_split}
-use Rattle.laws.proofs.Store.{numbers-append_lem, numbers-attached_lem, numbers-put_lem, numbers-last_held, attached-length_lem, attached-take_lem, attached-drop_lem}
+use Rattle.laws.proofs.Store.{numbers-append, numbers-attached, numbers-put, numbers-last_held, attached-length, attached-take, attached-drop}
 use Rattle.timeline.specs.declared.AudioParamEventTimeline.{AudioParamEventTimeline}
 use Rattle.timeline.specs.Timeline.{made, waiting, is_kept, stays}
 use Rattle.timeline.proofs.Laws.{waits_of}
@@ -22,14 +22,14 @@ use Rattle.curves.specs.Curves.{moved, packed_in, Leaves, curve_of}
 -- ---- what is packed
 
 -- the whole store is the part of a parameter that has it alone
-pub packed-whole_lem : (store : List Float) (ws : List Waiting) → length store ≡ store_length → packed_in (length store) ws ≡ packed ws
+pub packed-whole : (store : List Float) (ws : List Waiting) → length store ≡ store_length → packed_in (length store) ws ≡ packed ws
 unfolding packed_in packed
-packed-whole_lem store ws e = rw e
+packed-whole store ws e = rw e
 
 -- only the numbers matter
-pub packed-same_lem : (n : ℕ) (ws vs : List Waiting) → numbers_of ws ≡ numbers_of vs → packed_in n ws ≡ packed_in n vs
+pub packed-same : (n : ℕ) (ws vs : List Waiting) → numbers_of ws ≡ numbers_of vs → packed_in n ws ≡ packed_in n vs
 unfolding packed_in
-packed-same_lem n ws vs e = rw e
+packed-same n ws vs e = rw e
 
 -- numbers at the front of a part, then zeros
 packs : (n : ℕ) (ws : List Waiting) (s : List Float) (used : ℕ) → take used s ≡ numbers_of ws → used ≤ length s → length s ≡ n
@@ -79,12 +79,12 @@ by_numbers c ws [] f = numbers-last_held c ws
 by_numbers c ws (x ∷ xs) f = go (holds_ramp c ws x) (λ h. f.0 (held_by_ramp c ws x h))
   where
     go : (b : Bool) → (b ≡ true → x.numbers ≡ []) → numbers_of (cond b (ws ++ (held_at c x ∷ [])) (last_held c ws)) ≡ numbers_of ws
-    go true g = numbers-append_lem ws (held_at c x ∷ []) ∙ ap (λ (l : List Float). numbers_of ws ++ (l ++ [])) (g refl) ∙ append-nil (numbers_of ws)
+    go true g = numbers-append ws (held_at c x ∷ []) ∙ ap (λ (l : List Float). numbers_of ws ++ (l ++ [])) (g refl) ∙ append-nil (numbers_of ws)
     go false g = numbers-last_held c ws
 
-pub held-numbers_lem : (c : Float) (q : List Event) (o : List Float) → numbers_of (those (is_kept true c) (attached q o)) ≡ numbers_of (held c (attached q o))
+pub held-numbers : (c : Float) (q : List Event) (o : List Float) → numbers_of (those (is_kept true c) (attached q o)) ≡ numbers_of (held c (attached q o))
 unfolding held is_kept
-held-numbers_lem c q o =
+held-numbers c q o =
     sym
     (by_numbers c (those (is_not_later c) (attached q o)) (those (is_later c) (attached q o)) (those_fair (is_later c) (attached q o) (attached_fair q o)))
 
@@ -105,9 +105,9 @@ module _ (q : List Event) (o : List Float) (fits : lengths_of q ≤ length o) (n
   pub consumed_room : gone + (lengths_of q - gone) ≤ length o
   consumed_room = omega (arith, lengths_split n q)
 
-  pub consumed-part_lem : (s : List Float) (used : ℕ) → used ≡ lengths_of q - gone → s ≡ moved o gone 0 used
+  pub consumed-part : (s : List Float) (used : ℕ) → used ≡ lengths_of q - gone → s ≡ moved o gone 0 used
       → take used s ++ replicate (length s - used) plus_zero ≡ packed_in (length o) (drop n (attached q o))
-  consumed-part_lem s used u e =
+  consumed-part s used u e =
       let r : gone + (lengths_of q - gone) ≤ length o = consumed_room in
       let d : length (drop gone o) ≡ length o - gone = length-drop gone o in
       let h : used ≤ length (drop gone o) = omega arith in
@@ -115,14 +115,14 @@ module _ (q : List Event) (o : List Float) (fits : lengths_of q ≤ length o) (n
       let f : take used s ≡ take used (drop gone o) =
       ap (take used) e ∙ ap (λ (k : ℕ). take k (moved o gone 0 used)) (sym (zero-add used)) ∙ take-paste o 0 (drop gone o) used (omega arith) h in
       let m : numbers_of (drop n (attached q o)) ≡ take used (drop gone o) =
-      sym (ap numbers_of (attached-drop_lem n q o)) ∙ numbers-attached_lem (drop n q) (drop gone o) ∙ ap (λ (k : ℕ). take k (drop gone o)) (sym (u ∙ left_is)) in
+      sym (ap numbers_of (attached-drop n q o)) ∙ numbers-attached (drop n q) (drop gone o) ∙ ap (λ (k : ℕ). take k (drop gone o)) (sym (u ∙ left_is)) in
       packs (length o) (drop n (attached q o)) s used (f ∙ sym m) (omega arith) l
 
   pub untouched_part : (used : ℕ) → used ≡ lengths_of q → n ≡ 0
       → take used o ++ replicate (length o - used) plus_zero ≡ packed_in (length o) (drop n (attached q o))
   untouched_part used u z =
       packs (length o) (drop n (attached q o)) o used
-      (ap (λ (k : ℕ). take k o) u ∙ sym (ap (λ (k : ℕ). numbers_of (drop k (attached q o))) z ∙ numbers-attached_lem q o))
+      (ap (λ (k : ℕ). take k o) u ∙ sym (ap (λ (k : ℕ). numbers_of (drop k (attached q o))) z ∙ numbers-attached q o))
       (omega arith) refl
 
   pub consumed_events : drop n q ≡ events_of (drop n (attached q o))
@@ -130,7 +130,7 @@ module _ (q : List Event) (o : List Float) (fits : lengths_of q ≤ length o) (n
 
   -- all of them are finished
   none_left : length q ≤ n → drop n (attached q o) ≡ []
-  none_left h = drop_of_length-le (attached q o) {i = n} (omega (arith, attached-length_lem q o))
+  none_left h = drop_of_length-le (attached q o) {i = n} (omega (arith, attached-length q o))
 
   pub emptied_events : length q ≤ n → [] ≡ events_of (drop n (attached q o))
   unfolding events_of
@@ -153,11 +153,11 @@ module _ {A : Type 0} (o xs : List A) (at used : ℕ) (h : at ≤ used) (fits : 
   enough : used - at ≤ length (drop at o)
   enough = simp length-drop (omega arith)
 
-  opened-length_lem : length opened ≡ length o
-  opened-length_lem = length-paste o (at + length xs) (drop at o) (used - at) (omega arith) enough
+  opened-length : length opened ≡ length o
+  opened-length = length-paste o (at + length xs) (drop at o) (used - at) (omega arith) enough
 
-  pub filled-length_lem : length filled ≡ length o
-  filled-length_lem = let l : length opened ≡ length o = opened-length_lem in length-paste opened at xs (length xs) (omega arith) (omega arith) ∙ l
+  pub filled-length : length filled ≡ length o
+  filled-length = let l : length opened ≡ length o = opened-length in length-paste opened at xs (length xs) (omega arith) (omega arith) ∙ l
 
   opened_front : take at opened ≡ take at o
   opened_front =
@@ -178,7 +178,7 @@ module _ {A : Type 0} (o xs : List A) (at used : ℕ) (h : at ≤ used) (fits : 
 
   pub filled_front : take (used + length xs) filled ≡ take at o ++ (xs ++ take (used - at) (drop at o))
   filled_front =
-      let l : length opened ≡ length o = opened-length_lem in
+      let l : length opened ≡ length o = opened-length in
       let s : used + length xs ≡ at + length xs + (used - at) = omega arith in
       ap (λ (k : ℕ). take k filled) s
       ∙ take-add (at + length xs) (used - at) filled
@@ -202,25 +202,25 @@ module _ (start duration : Float) (xs : List Float) (q : List Event) (o : List F
   unfolding arrived filed_under
   inserted_events = sym (events_inserted new (attached q o) ∙ ap (arrived new.event) (events_attached q o))
 
-  inserted-numbers_lem : (used at : ℕ) → used ≡ lengths_of q → at ≡ lengths_of (take place q)
+  inserted-numbers : (used at : ℕ) → used ≡ lengths_of q → at ≡ lengths_of (take place q)
       → numbers_of (inserted new (attached q o)) ≡ take at o ++ (xs ++ take (used - at) (drop at o))
-  inserted-numbers_lem used at u a =
+  inserted-numbers used at u a =
       let d : lengths_of (drop place q) ≡ used - at = omega (arith, lengths_split place q) in
       ap numbers_of inserted_is
-      ∙ numbers-put_lem place new (attached q o)
+      ∙ numbers-put place new (attached q o)
       ∙ ap₂ (λ (l r : List Float). l ++ (xs ++ r))
-      (sym (ap numbers_of (attached-take_lem place q o)) ∙ numbers-attached_lem (take place q) o ∙ ap (λ (k : ℕ). take k o) (sym a))
-      (sym (ap numbers_of (attached-drop_lem place q o)) ∙ numbers-attached_lem (drop place q) (drop (lengths_of (take place q)) o) ∙ ap₂ (λ (k j : ℕ). take k (drop j o)) d (sym a))
+      (sym (ap numbers_of (attached-take place q o)) ∙ numbers-attached (take place q) o ∙ ap (λ (k : ℕ). take k o) (sym a))
+      (sym (ap numbers_of (attached-drop place q o)) ∙ numbers-attached (drop place q) (drop (lengths_of (take place q)) o) ∙ ap₂ (λ (k j : ℕ). take k (drop j o)) d (sym a))
 
-  pub inserted-part_lem : lengths_of q + length xs ≤ length o → (used at : ℕ) → used ≡ lengths_of q → at ≡ lengths_of (take place q)
+  pub inserted-part : lengths_of q + length xs ≤ length o → (used at : ℕ) → used ≡ lengths_of q → at ≡ lengths_of (take place q)
       → (s : List Float) → s ≡ paste (moved o at (at + length xs) (used - at)) at xs (length xs)
       → take (used + length xs) s ++ replicate (length s - (used + length xs)) plus_zero ≡ packed_in (length o) (inserted new (attached q o))
-  inserted-part_lem fits used at u a s e =
+  inserted-part fits used at u a s e =
       let h : at ≤ used = omega (arith, lengths_split place q) in
       let f : used + length xs ≤ length o = omega arith in
-      let l : length s ≡ length o = ap length e ∙ filled-length_lem o xs at used h f in
+      let l : length s ≡ length o = ap length e ∙ filled-length o xs at used h f in
       packs (length o) (inserted new (attached q o)) s (used + length xs)
-      (ap (take (used + length xs)) e ∙ filled_front o xs at used h f ∙ sym (inserted-numbers_lem used at u a))
+      (ap (take (used + length xs)) e ∙ filled_front o xs at used h f ∙ sym (inserted-numbers used at u a))
       (omega arith) l
 
 -- ---- a head that has become another event, with the numbers that it had
@@ -231,5 +231,5 @@ unfolding events_of numbers_of
 leaves_replaced q r before after w x ws h e f =
     record {
       queue = f ∙ ap (λ (es : List Event). made (set es 0 x.event)) (waits_of q (events_of (w ∷ ws)) h.queue);
-      part = h.part ∙ packed-same_lem (length before) (w ∷ ws) (x ∷ ws) (sym (ap (λ (xs : List Float). xs ++ numbers_of ws) e));
+      part = h.part ∙ packed-same (length before) (w ∷ ws) (x ∷ ws) (sym (ap (λ (xs : List Float). xs ++ numbers_of ws) e));
     }

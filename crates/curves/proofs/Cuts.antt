@@ -10,7 +10,7 @@ use lib.Ieee.{Float}
 use Rattle.rules.specs.declared.Event.{Event}
 use Rattle.rules.specs.Numbers.{plus_zero}
 use Rattle.rules.specs.Queue.{Waiting, length_of, lengths_of, numbers_of, attached, those, is_before, is_later, is_not_later}
-use Rattle.laws.proofs.Store.{numbers-append_lem, attached-append_lem}
+use Rattle.laws.proofs.Store.{numbers-append, attached-append}
 use Rattle.timeline.specs.declared.AudioParamEvent.{AudioParamEvent}
 use Rattle.timeline.specs.declared.AudioParamEventTimeline.{AudioParamEventTimeline}
 use Rattle.timeline.specs.Timeline.{slot_of, waiting, Neat, is_kept, stays}
@@ -19,10 +19,10 @@ use Rattle.timeline.proofs.Laws.{nothing, count, slot_holds, one_more, offset_mo
 use Rattle.curves.specs.Curves.{moved, packed_in}
 
 -- the test reads the event alone
-kept-alone_lem : (equal : Bool) (c : Float) (w : Waiting) → is_kept equal c w ≡ stays equal c w.event
+kept-alone : (equal : Bool) (c : Float) (w : Waiting) → is_kept equal c w ≡ stays equal c w.event
 unfolding is_kept is_before is_later is_not_later
-kept-alone_lem true c w = refl
-kept-alone_lem false c w = refl
+kept-alone true c w = refl
+kept-alone false c w = refl
 
 -- an event as read from a store, with the numbers of those before it passed over
 abbrev read_at : ℕ → Event → List Float → Waiting
@@ -30,7 +30,7 @@ read_at offset e o = record { event = e; numbers = take (length_of e) (drop offs
 
 attached_snoc : (es : List Event) (e : Event) (o : List Float) → attached (es ++ (e ∷ [])) o ≡ attached es o ++ (read_at (lengths_of es) e o ∷ [])
 unfolding attached
-attached_snoc es e o = attached-append_lem es (e ∷ []) o
+attached_snoc es e o = attached-append es (e ∷ []) o
 
 -- what a cut leaves of the numbers of these events
 abbrev pub Cut : Bool → Float → List Event → List Float → List Float
@@ -41,8 +41,8 @@ cut_snoc : (equal : Bool) (c : Float) (es : List Event) (e : Event) (o : List Fl
 cut_snoc equal c es e o =
     ap (λ (ws : List Waiting). numbers_of (those (is_kept equal c) ws)) (attached_snoc es e o)
     ∙ ap numbers_of (those_snoc (is_kept equal c) (attached es o) (read_at (lengths_of es) e o))
-    ∙ numbers-append_lem (those (is_kept equal c) (attached es o)) (cond (is_kept equal c (read_at (lengths_of es) e o)) (read_at (lengths_of es) e o ∷ []) [])
-    ∙ ap (λ (l : List Float). Cut equal c es o ++ l) (one (is_kept equal c (read_at (lengths_of es) e o)) (kept-alone_lem equal c (read_at (lengths_of es) e o)))
+    ∙ numbers-append (those (is_kept equal c) (attached es o)) (cond (is_kept equal c (read_at (lengths_of es) e o)) (read_at (lengths_of es) e o ∷ []) [])
+    ∙ ap (λ (l : List Float). Cut equal c es o ++ l) (one (is_kept equal c (read_at (lengths_of es) e o)) (kept-alone equal c (read_at (lengths_of es) e o)))
   where
     one : (b : Bool) → b ≡ stays equal c e → numbers_of (cond b (read_at (lengths_of es) e o ∷ []) []) ≡ cond (stays equal c e) (take (length_of e) (drop (lengths_of es) o)) []
     one true f = rw (← f) (unfold numbers_of in append-nil (take (length_of e) (drop (lengths_of es) o)))

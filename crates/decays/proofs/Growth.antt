@@ -19,7 +19,7 @@ use Rattle.rules.specs.Samples.{power, factor_of}
 use Rattle.rounding_laws.proofs.Decode.{normal_value}
 use Rattle.rounding_laws.proofs.Fuse.{rescale}
 use Rattle.phases.proofs.Less.{neg_sub, pos_sub, sub_same, sub_value}
-use Rattle.samples.proofs.Powers.{part-turn_lem}
+use Rattle.samples.proofs.Powers.{part-turn}
 use Rattle.phases.specs.Patterns.{Lifted}
 use Rattle.phases.proofs.Quick.{factor_lifted}
 use Rattle.rounding_laws.specs.Cut.{plain_cut}
@@ -40,13 +40,13 @@ power_at h l u f = go (ltb h (2 ^ 33)) refl
         let p = 2 ^ 33 - suc h in
         let i : parts - 1 - p % parts ≡ h % parts = omega arith in
         let j : suc (p / parts + 30) ≡ 543 - suc (h / parts) = omega arith in
-        rw (neg_sub h (2 ^ 33) k, lt-leb (300 * parts) (suc p) (omega arith), i, part-turn_lem (negsuc (p / parts)) (h % parts) f, j)
+        rw (neg_sub h (2 ^ 33) k, lt-leb (300 * parts) (suc p) (omega arith), i, part-turn (negsuc (p / parts)) (h % parts) f, j)
         (ap (fin false (falling (parts - h % parts))) (sym (neg_sub (h / parts) 543 (omega arith))))
     go false e =
         let k = ltb-false h (2 ^ 33) e in
         let p = h - 2 ^ 33 in
         let i : p % parts ≡ h % parts = omega arith in
-        rw (pos_sub h (2 ^ 33) k, lt-leb (256 * parts) p (omega arith), i, part-turn_lem (pos (p / parts)) (h % parts) f)
+        rw (pos_sub h (2 ^ 33) k, lt-leb (256 * parts) p (omega arith), i, part-turn (pos (p / parts)) (h % parts) f)
         (ap (fin false (falling (parts - h % parts))) (sub_same (p / parts) 31 (h / parts) 543 (omega arith)))
 
 -- ---- n * 2 ^ (k - 543) as an f64

@@ -90,9 +90,9 @@ module _ (a : ℕ) where
           le_trans (from_most cs (2 ^ 32 * c / 2 ^ 32) (rest c cs h)) l
       go false e more = more (λ z. n (clear a (length cs) e ∙ z))
 
-table-length_lem : length table ≡ 24
+table-length : length table ≡ 24
 unfolding table table_from
-table-length_lem = refl
+table-length = refl
 
 table_least : least table (2 ^ 32) ≡ 2147483710
 unfolding least table table_from root root_from
@@ -108,9 +108,9 @@ pub falling_high : (a : ℕ) → falling a ≤ 2 ^ 32
 unfolding falling
 falling_high a = from_most a table (2 ^ 32) table_small
 
-pub falling-set_lem : (a : ℕ) → a < parts → (a ≡ 0 → ⊥) → falling a ≤ 4294967117
+pub falling-set : (a : ℕ) → a < parts → (a ≡ 0 → ⊥) → falling a ≤ 4294967117
 unfolding falling
-falling-set_lem a h n = from_set a table table_small (rw table-length_lem (λ z. n (sym (mod-eq_of_lt h) ∙ z)))
+falling-set a h n = from_set a table table_small (rw table-length (λ z. n (sym (mod-eq_of_lt h) ∙ z)))
 
 pub falling_zero : falling 0 ≡ 2 ^ 32
 unfolding falling falling_from table table_from root root_from

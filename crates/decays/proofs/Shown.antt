@@ -9,7 +9,7 @@ use lib.Ieee.Scale.{finite}
 use Rattle.rules.specs.Kernels.{parts, falling}
 use Rattle.rules.specs.Samples.{factor_of}
 use Rattle.decays.specs.Cell.{Cell, Lifts, Grown}
-use Rattle.decays.proofs.Range.{falling_low, falling-set_lem}
+use Rattle.decays.proofs.Range.{falling_low, falling-set}
 use Rattle.decays.proofs.Growth.{over, by_estimate, by_itself, small_nan}
 
 module _ (b : ℕ) (lo : 1082820 * 2 ^ 42 ≤ b) (hi : b < 1082940 * 2 ^ 42) where
@@ -66,7 +66,7 @@ module _ (b : ℕ) (lo : 1082820 * 2 ^ 42 ≤ b) (hi : b < 1082940 * 2 ^ 42) whe
     not_whole z = n (omega arith)
 
     below : falling missing ≤ 4294967117
-    below = falling-set_lem missing (omega arith) not_whole
+    below = falling-set missing (omega arith) not_whole
 
     pub shown_grown : (x : Float) (e : ℕ) → Lifts x b → falling missing ≤ e → e ≤ falling missing + 20 → Grown x (factor_bits e)
     shown_grown x e t f g =

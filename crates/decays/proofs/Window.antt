@@ -20,7 +20,7 @@ use Rattle.rounding_laws.specs.Cut.{even_cut}
 use Rattle.rounding_laws.proofs.Cut.{plain_law, even_sum_law, even_nan, nan_below}
 use Rattle.rounding_laws.proofs.Powers.{or_less}
 use Rattle.decays.specs.Told.{Told, Steps, Shows, shown, steps_in}
-use Rattle.decays.proofs.Range.{falling_low, falling_high, falling-set_lem, falling_zero}
+use Rattle.decays.proofs.Range.{falling_low, falling_high, falling-set, falling_zero}
 
 -- a multiple rounds to itself
 closest_exact : (n m : ℕ) → 0 < m → closest (n * m) m ≡ n
@@ -178,7 +178,7 @@ module _ (b : ℕ) (s : Steps b) where
     where
       go : (a : ℕ) → a < parts → 4294967276 ≤ falling a → falling a ≡ 2 ^ 32
       go zero l g = falling_zero
-      go (suc a) l g = absurd (omega (arith, falling-set_lem (suc a) l (λ z. omega arith)))
+      go (suc a) l g = absurd (omega (arith, falling-set (suc a) l (λ z. omega arith)))
 
   pub shows_near : (e : ℕ) → falling (p % parts) ≤ e → e ≤ falling (p % parts) + 20 → e ≤ 2 ^ 32 → (e + 107) % 256 ≤ 234 → Shows b (e + 107)
   shows_near e l h m c = ⊎_elim whole below (or_less (2 ^ 32) e)

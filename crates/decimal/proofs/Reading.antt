@@ -69,9 +69,9 @@ module _ (b most : ℕ) (one : 1 ≤ b) (low : most < 2 ^ 64) where
       by_digits true = rw (lt-leb (value_from b v cs) most (lt_of_lt_of_le h (grows b one v cs)))
       by_digits false = refl
 
-  pub all-counted_lem : (v : ℕ) → v ≤ most → up_to most (number_from b v []) ≡ some v
+  pub all-counted : (v : ℕ) → v ≤ most → up_to most (number_from b v []) ≡ some v
   unfolding are_digits value_from
-  all-counted_lem v h = limited v [] ∙ rw (le-leb v most h)
+  all-counted v h = limited v [] ∙ rw (le-leb v most h)
 
   module _ (v : ℕ) (xs ys : List ℕ) where
     both : up_to most (number_from b v (xs ++ ys)) ≡ cond ((are_digits b xs && are_digits b ys) && leb (value_from b (value_from b v xs) ys) most) (some (value_from b (value_from b v xs) ys)) none
@@ -247,8 +247,8 @@ unfolding decimal_in behind_sign
 decimal_by w minus len sign =
     ap (unsigned_in minus) (part_to_end w len) ∙ ap (λ (k : ℕ). unsigned_in minus (drop k w)) sign.1 ∙ ap (λ (b : Bool). unsigned_in b (drop (sign_length w) w)) sign.0
 
-pub scaled-same_lem : (minus : Bool) {p q : ℕ} {o r : Option ℕ} {t u : Tens} → p ≡ q → o ≡ r → t ≡ u → scaled minus p o t ≡ scaled minus q r u
-scaled-same_lem minus e f g = λ w. scaled minus (e w) (f w) (g w)
+pub scaled-same : (minus : Bool) {p q : ℕ} {o r : Option ℕ} {t u : Tens} → p ≡ q → o ≡ r → t ≡ u → scaled minus p o t ≡ scaled minus q r u
+scaled-same minus e f g = λ w. scaled minus (e w) (f w) (g w)
 
 -- ---- a float of a format
 
@@ -271,7 +271,7 @@ module _ (f : Format) where
   plain_number [] n m = absurd (n refl)
   plain_number (c ∷ cs) n m = rw (ne_eqb c 120 m)
 
-pub held-double_lem : (o : Option Float) → held binary64 o ≡ o
+pub held-double : (o : Option Float) → held binary64 o ≡ o
 unfolding held
-held-double_lem none = refl
-held-double_lem (some x) = refl
+held-double none = refl
+held-double (some x) = refl

@@ -137,9 +137,9 @@ module _ (a b c d : ℕ) (B : 0 < b) (D : 0 < d) (e : a * d ≡ c * b) where
       by_test true h = sym (eq-eqb c 0 (zero_too a b c d B D e (eqb-true a 0 h)))
       by_test false h = sym (ne_eqb c 0 (λ z. eqb-false a 0 h (zero_too c d a b D B (sym e) z)))
 
-  pub shown-same_lem : (minus : Bool) → shown_as minus a b ≡ shown_as minus c d
+  pub shown-same : (minus : Bool) → shown_as minus a b ≡ shown_as minus c d
   unfolding shown_as
-  shown-same_lem minus =
+  shown-same minus =
       let n = alike a b c d B D e in
       λ w. cond (same_below w && (same_zero w || ltb 0 (n w))) (Printed.Decimal minus (n w / 10 ^ 6) (n w % 10 ^ 6)) Printed.Bits
 
@@ -172,8 +172,8 @@ module _ (minus : Bool) (m : ℕ) (most : m < 2 ^ 53) where
       least (inl g) = g
       least (inr z) = absurd (omega arith)
 
-  pub whole-shown_lem : (j : ℕ) → 0 < m → 1074 ≤ j → j ≤ 1085 → Printed.Decimal minus (m * 2 ^ (j - 1074) % 2 ^ 64) 0 ≡ shown_as minus (m * 2 ^ j) (2 ^ 1074)
-  whole-shown_lem j p h g =
+  pub whole-shown : (j : ℕ) → 0 < m → 1074 ≤ j → j ≤ 1085 → Printed.Decimal minus (m * 2 ^ (j - 1074) % 2 ^ 64) 0 ≡ shown_as minus (m * 2 ^ j) (2 ^ 1074)
+  whole-shown j p h g =
       let k = j - 1074 in
       let w = m * 2 ^ k in
       let small : w < 2 ^ 64 = lt_of_lt_of_le (shl_lt 53 k most) (pow_mono {i = 53 + k} {j = 64} (omega arith)) in
@@ -184,11 +184,11 @@ module _ (minus : Bool) (m : ℕ) (most : m < 2 ^ 53) where
       let rest : 0 ≡ w * 1000000 % 1000000 = omega arith in
       (λ i. Printed.Decimal minus (whole i) (rest i))
       ∙ decimal minus w 1 (w * 1000000) (sym (ap (λ (x : ℕ). closest x 1) (sym (mul-one (w * 1000000))) ∙ closest_whole (w * 1000000) 1 (omega arith))) (omega arith) (omega arith)
-      ∙ shown-same_lem w 1 (m * 2 ^ j) (2 ^ 1074) (omega arith) (pow_pos 1074) back minus
+      ∙ shown-same w 1 (m * 2 ^ j) (2 ^ 1074) (omega arith) (pow_pos 1074) back minus
 
 pub parted_shown : (minus : Bool) (m j : ℕ) → j < 1074 → shown_as minus m (2 ^ (1074 - j)) ≡ shown_as minus (m * 2 ^ j) (2 ^ 1074)
 parted_shown minus m j h =
-    shown-same_lem m (2 ^ (1074 - j)) (m * 2 ^ j) (2 ^ 1074) (pow_pos (1074 - j)) (pow_pos 1074)
+    shown-same m (2 ^ (1074 - j)) (m * 2 ^ j) (2 ^ 1074) (pow_pos (1074 - j)) (pow_pos 1074)
     (ap (λ (x : ℕ). m * x) (ap (λ (i : ℕ). 2 ^ i) (sym (add-sub_of_le (le_of_lt h))) ∙ pow-add 2 j (1074 - j)) ∙ sym (mul_assoc m (2 ^ j) (2 ^ (1074 - j)))) minus
 
 -- ---- a float by its value
@@ -197,7 +197,7 @@ pub value_shown : (x : Float) (s : Bool) (a c : ℕ) → 0 < c → HasValue x s 
 unfolding shown
 value_shown nan s a c C v = absurd v
 value_shown (inf t) s a c C v = absurd v
-value_shown (fin t m e) s a c C v = ap (λ (b : Bool). shown_as b a c) (sym v.0) ∙ shown-same_lem a c (m * up e) (down e) C (down_pos e) (sym v.1) t
+value_shown (fin t m e) s a c C v = ap (λ (b : Bool). shown_as b a c) (sym v.0) ∙ shown-same a c (m * up e) (down e) C (down_pos e) (sym v.1) t
 
 pub infinite_shown : (x : Float) → ne x x ≡ false → finite x ≡ false → Printed.Infinite (lt x (fin false 0 (pos 0))) ≡ shown x
 unfolding shown lt ne eq

@@ -12,8 +12,8 @@ use Rattle.decimal.specs.contracts.write.Printed as Kinds
 use Rattle.decimal.specs.declared.write.Printed.TheVariants as Printed
 use Rattle.decimal.specs.Shown.{shown, sign_text, places_text, shown_text, text_of, plain_text}
 
-pub put-nothing_lem : (l : List ℕ) (at : ℕ) → Put l at [] l at
-put-nothing_lem l at = record { bytes = sym (put_none l at); place = sym (add-zero at) }
+pub put-nothing : (l : List ℕ) (at : ℕ) → Put l at [] l at
+put-nothing l at = record { bytes = sym (put_none l at); place = sym (add-zero at) }
 
 pub put_from : {l m xs l' : List ℕ} {at next : ℕ} → l ≡ m → Put l at xs l' next → Put m at xs l' next
 put_from {l} {m} {xs} {l'} {at} {next} e p = subst (λ (o : List ℕ). Put o at xs l' next) e p
@@ -68,13 +68,13 @@ length_places (suc k) n = by_test (length_places k (n / 10)) (eqb (n % 10) 0)
     by_test rest true = omega arith
     by_test rest false = omega (arith, length_digits 10 (suc k) n)
 
-length-shown_lem : (p : Printed) → length (shown_text p) ≤ 28
+length-shown : (p : Printed) → length (shown_text p) ≤ 28
 unfolding shown_text
-length-shown_lem Printed.NotANumber = omega arith
-length-shown_lem (Printed.Infinite s) = omega (arith, length-append (sign_text s) (105 ∷ 110 ∷ 102 ∷ []), length_sign s)
-length-shown_lem (Printed.Decimal s whole n) =
+length-shown Printed.NotANumber = omega arith
+length-shown (Printed.Infinite s) = omega (arith, length-append (sign_text s) (105 ∷ 110 ∷ 102 ∷ []), length_sign s)
+length-shown (Printed.Decimal s whole n) =
     omega (arith, length-append (sign_text s) (decimal_of whole ++ places_text 6 n), length-append (decimal_of whole) (places_text 6 n), length_sign s, length_decimal whole, length_places 6 n)
-length-shown_lem Printed.Bits = omega arith
+length-shown Printed.Bits = omega arith
 
 -- what a caller leaves room for
 pub length_plain : (f : Format) (x : Float) → length (plain_text f x) ≤ 28
@@ -86,7 +86,7 @@ length_plain f x = by_kind (shown x)
     bits binary64 = omega (arith, length_float binary64 x)
 
     by_kind : (p : Printed) → length (text_of f x p) ≤ 28
-    by_kind Printed.NotANumber = length-shown_lem Printed.NotANumber
-    by_kind (Printed.Infinite s) = length-shown_lem (Printed.Infinite s)
-    by_kind (Printed.Decimal s whole n) = length-shown_lem (Printed.Decimal s whole n)
+    by_kind Printed.NotANumber = length-shown Printed.NotANumber
+    by_kind (Printed.Infinite s) = length-shown (Printed.Infinite s)
+    by_kind (Printed.Decimal s whole n) = length-shown (Printed.Decimal s whole n)
     by_kind Printed.Bits = bits f

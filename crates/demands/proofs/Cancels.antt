@@ -24,9 +24,9 @@ held_is x y okx oky e =
 
 module _ (h : Held) (ok : Ok h) where
   -- calls that leave one state by the rules leave one struct and one store
-  left-same_lem : {cs ds : List Command} {rs us : List Done} → scheduled (state_of h) cs ≡ scheduled (state_of h) ds
+  left-same : {cs ds : List Command} {rs us : List Done} → scheduled (state_of h) cs ≡ scheduled (state_of h) ds
       → Results left_by_done MeetsCall h cs rs → Results left_by_done MeetsCall h ds us → last_left left_by_done h rs ≡ last_left left_by_done h us
-  left-same_lem same first second =
+  left-same same first second =
       let x = code_schedules ok first in
       let y = code_schedules ok second in
       held_is _ _ x.1 y.1 (x.0 ∙ same ∙ sym y.0)
@@ -37,11 +37,11 @@ module _ (h : Held) (ok : Ok h) where
   -- a burst, and one cancel at the earliest of its accepted times
   pub burst_of_code : (ts : List Float) {rs us : List Done} → Results left_by_done MeetsCall h (burst ts) rs
       → Results left_by_done MeetsCall h (one_cancel (accepted_times (state_of h) ts)) us → last_left left_by_done h rs ≡ last_left left_by_done h us
-  burst_of_code ts = left-same_lem (one.many ts)
+  burst_of_code ts = left-same (one.many ts)
 
   pub burst_again_of_code : (ts : List Float) {rs us : List Done} → Results left_by_done MeetsCall h (burst ts ++ burst ts) rs
       → Results left_by_done MeetsCall h (burst ts) us → last_left left_by_done h rs ≡ last_left left_by_done h us
-  burst_again_of_code ts = left-same_lem (one.again ts)
+  burst_again_of_code ts = left-same (one.again ts)
 
   -- each of a burst is answered, or refused, as it would be if it came first
   pub burst_heard_of_code : (ts : List Float) {rs : List Done} → Results left_by_done MeetsCall h (burst ts) rs
@@ -57,4 +57,4 @@ module _ (h : Held) (ok : Ok h) where
       let says : (c : Float) (d : Done) → MeetsCall h (cancel c) d → d.outcome.verdict ≡ (asked (state_of h) (cancel c)).verdict =
       λ c d m. ap (λ (x : Called). x.verdict) (call_settled h (cancel c) d ok m).0 in
       let two : TwoAreOne (state_of h) a b = one.two a b (sym (says a ra first) ∙ answered) (sym (says b sb third) ∙ answered') in
-      (left-same_lem two.forth (more first (more second none)) (more single none), left-same_lem two.back (more third (more fourth none)) (more single none))
+      (left-same two.forth (more first (more second none)) (more single none), left-same two.back (more third (more fourth none)) (more single none))

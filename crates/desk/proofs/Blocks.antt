@@ -22,7 +22,7 @@ use Rattle.answers.proofs.Lists.{list_length}
 use Rattle.param.specs.declared.Processed.{Processed}
 use Rattle.param.specs.Param.{param_of}
 use Rattle.param.specs.Processed.{Processes}
-use Rattle.param.proofs.Blocks.{verdict_is, length-kept_lem}
+use Rattle.param.proofs.Blocks.{verdict_is, length-kept}
 use Rattle.param.proofs.Calls.{struct_back}
 use Rattle.costs.specs.declared.Totals.{Totals}
 use Rattle.costs.specs.Costs.{waiting_in, plus, block_cost}
@@ -62,7 +62,7 @@ module _ (time period : Float) (count : ℕ) (input output : List Float) (d : De
   pub block_fits : r.verdict ≡ Verdict.Answered → (count ≤ 1024) × (count ≤ length output')
   block_fits h =
       let g = given (param_of d.param) (take d.lent s) asks (sym (verdict_is a) ∙ h) in
-      (le_trans g.few (ceiling_most d.param.edition), rw (length-kept_lem a h) g.room)
+      (le_trans g.few (ceiling_most d.param.edition), rw (length-kept a h) g.room)
 
   -- what is seen of it is what it costs
   counted : after_block d r ≡ kept (plus d.totals (block_cost (answered (param_of d.param) (take d.lent s) asks)))

@@ -20,7 +20,7 @@ use Rattle.costs.specs.declared.Totals.{Totals}
 use Rattle.costs.specs.Costs.{Asked, command, block, left, left_by_all, waiting_in, cost_of, plus, totals, Sums}
 use Rattle.costs.proofs.Costs.{one_more_left, one_more_costs, session_sums}
 use Rattle.tally.specs.Tally.{largest, capped, kept}
-use Rattle.tally.proofs.Kept.{kept-plus_lem, kept_sums}
+use Rattle.tally.proofs.Kept.{kept-plus, kept_sums}
 use Rattle.rules.specs.Numbers.{store_length}
 use Rattle.card.specs.declared.CardVerdict.{CardVerdict}
 use Rattle.card.specs.declared.CardVerdict.TheVariants as CardVerdict
@@ -28,7 +28,7 @@ use Rattle.card.specs.Card.{Reader, read, Loaded, loaded, loaded_as, bad_store}
 use Rattle.desk.specs.Desk.{Table, unread, making, asked, lending, poking, playing, marks, stating, saving, loaded_turn, loading_by, loading, answer_of, said_turn, table_of, unmade_desk}
 use Rattle.param.proofs.Calls.{struct_back}
 use Rattle.desk.proofs.Turns.{no_range}
-use Rattle.desk.proofs.Events.{Scheduled, read-scheduled_lem}
+use Rattle.desk.proofs.Events.{Scheduled, read-scheduled}
 
 -- a table with a parameter that was made so and has had these calls
 pub record Counts (t : Table) : Type 0 where
@@ -54,7 +54,7 @@ module _ (t u : Table) (k : Counts t) where
         totals =
             c
             ∙ ap (λ (x : Totals). kept (plus x (cost_of t.param a))) k.totals
-            ∙ kept-plus_lem (totals first k.calls) (cost_of t.param a)
+            ∙ kept-plus (totals first k.calls) (cost_of t.param a)
             ∙ ap (λ (q : Param). kept (plus (totals first k.calls) (cost_of q a))) k.param
             ∙ ap kept (sym (one_more_costs first k.calls a));
       }
@@ -120,7 +120,7 @@ said_counts (Call.Lend n) numbers file t k = same t _ k refl refl
 said_counts (Call.Poke i v) numbers file t k = same t _ k refl refl
 said_counts Call.State numbers file t k = k
 said_counts Call.Save numbers file t k = k
-said_counts (Call.Load part n rate edition) numbers file t k = loading_counts (read rate edition (take n file)) t k (read-scheduled_lem rate edition (take n file))
+said_counts (Call.Load part n rate edition) numbers file t k = loading_counts (read rate edition (take n file)) t k (read-scheduled rate edition (take n file))
 
 pub line_counts : (o : Option Said) (t : Table) → Counts t → Counts (said_turn o t).table
 unfolding said_turn unread

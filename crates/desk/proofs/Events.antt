@@ -15,7 +15,7 @@ use Rattle.rules.specs.declared.Verdict.TheVariants as Verdict
 use Rattle.rules.specs.Refusals.{lowest, making_rows}
 use Rattle.rules.specs.Block.{Param, made, step, linear, exponential, target, curve, Called, called}
 use Rattle.laws.specs.Sound.{Sound}
-use Rattle.laws.proofs.Kept.{made-fresh_lem, made_sound, called_sound}
+use Rattle.laws.proofs.Kept.{made-fresh, made_sound, called_sound}
 use Rattle.costs.specs.declared.Totals.{Totals}
 use Rattle.costs.specs.Costs.{Asked, command, left, left_by_all, waiting_in, once_answered, storing, command_cost, cost_of, plus, totals}
 use Rattle.costs.specs.Seen.{command_seen}
@@ -41,7 +41,7 @@ pub record Scheduled (p : Param) : Type 0 where
 just_made : (b : Bounds) (r : AutomationRate) (n : ℕ) {p : Param} → made b r n ≡ p → Scheduled p
 unfolding left_by_all totals
 just_made b r n {p} e =
-    let none : waiting_in p ≡ 0 = ap waiting_in (sym e ∙ made-fresh_lem b r n) in
+    let none : waiting_in p ≡ 0 = ap waiting_in (sym e ∙ made-fresh b r n) in
     record { bounds = b; rate = r; edition = n; calls = []; param = sym e; totals = rw none; sound = subst Sound e (made_sound b r n) }
 
 -- ---- one event more
@@ -124,9 +124,9 @@ module _ (bs : List ℕ) (r : Reader) (k : Scheduled r.param) where
       go true = range_scheduled (lowest (making_rows (bounds_in bs) r.edition))
       go false = event_scheduled
 
-  field-scheduled_lem : Scheduled (field_turn bs r).param
+  field-scheduled : Scheduled (field_turn bs r).param
   unfolding field_turn
-  field-scheduled_lem = go (not (is_tag (tag_of bs))) (is_wrong bs) (is_misplaced r.ranged bs) (not (is_whole bs))
+  field-scheduled = go (not (is_tag (tag_of bs))) (is_wrong bs) (is_misplaced r.ranged bs) (not (is_whole bs))
     where
       go : (a b c d : Bool)
           → Scheduled
@@ -139,10 +139,10 @@ module _ (bs : List ℕ) (r : Reader) (k : Scheduled r.param) where
       go false false false true = k
       go false false false false = contents_scheduled
 
-taken-scheduled_lem : (n : ℕ) (bs : List ℕ) (r : Reader) → Scheduled r.param → Scheduled (taken n bs r).reader.param
+taken-scheduled : (n : ℕ) (bs : List ℕ) (r : Reader) → Scheduled r.param → Scheduled (taken n bs r).reader.param
 unfolding taken
-taken-scheduled_lem zero bs r k = k
-taken-scheduled_lem (suc n) bs r k = go (is_accepted r.verdict && is_whole bs) (taken-scheduled_lem n (drop (field_length bs) bs) (field_turn bs r) (field-scheduled_lem bs r k))
+taken-scheduled zero bs r k = k
+taken-scheduled (suc n) bs r k = go (is_accepted r.verdict && is_whole bs) (taken-scheduled n (drop (field_length bs) bs) (field_turn bs r) (field-scheduled bs r k))
   where
     go : (b : Bool) → Scheduled (taken n (drop (field_length bs) bs) (field_turn bs r)).reader.param
         → Scheduled (cond b (taken n (drop (field_length bs) bs) (field_turn bs r)) (stopped bs r)).reader.param
@@ -156,11 +156,11 @@ end_scheduled [] r k = go r.ranged
     go : (b : Bool) → Scheduled (cond b r (refused_by Fault.Misplaced r)).param
     go true = k
     go false = k
-end_scheduled (b ∷ bs) r k = field-scheduled_lem (b ∷ bs) r k
+end_scheduled (b ∷ bs) r k = field-scheduled (b ∷ bs) r k
 
-pub read-scheduled_lem : (rate : AutomationRate) (n : ℕ) (file : List ℕ) → Scheduled (read rate n file).param
+pub read-scheduled : (rate : AutomationRate) (n : ℕ) (file : List ℕ) → Scheduled (read rate n file).param
 unfolding read fed at_end is_accepted
-read-scheduled_lem rate n file = go (fed (begun rate n) file) (taken-scheduled_lem (length file) file _ (just_made _ Rate.A 1 no_range))
+read-scheduled rate n file = go (fed (begun rate n) file) (taken-scheduled (length file) file _ (just_made _ Rate.A 1 no_range))
   where
     ends : (s : Reading) (b : Bool) → Scheduled s.reader.param → Scheduled (cond b (end_turn s.rest s.reader) s.reader).param
     ends s true k = end_scheduled s.rest s.reader k

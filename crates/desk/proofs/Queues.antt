@@ -71,19 +71,19 @@ module _ (q : List Event) (i : ℕ) where
 -- ---- a turn of the loop over them
 
 module _ (q : List Event) (i : ℕ) where
-  next-drop_lem : drop 1 (drop i q) ≡ drop (i + 1) q
-  next-drop_lem = drop-drop 1 i q
+  next-drop : drop 1 (drop i q) ≡ drop (i + 1) q
+  next-drop = drop-drop 1 i q
 
   next_lengths : lengths_of (take i q) + lengths_of (take 1 (drop i q)) ≡ lengths_of (take (i + 1) q)
   next_lengths = sym (ap lengths_of (take-add i 1 q) ∙ lengths_append (take i q) (take 1 (drop i q)))
 
   pub next_text : (s : List Float) → queue_text (drop i q) (drop (lengths_of (take i q)) s) ≡ waiting_at q i s ++ queue_text (drop (i + 1) q) (drop (lengths_of (take (i + 1) q)) s)
   unfolding waiting_at
-  next_text s = text_split (drop i q) (drop (lengths_of (take i q)) s) ∙ rw (next-drop_lem, drop-drop, next_lengths)
+  next_text s = text_split (drop i q) (drop (lengths_of (take i q)) s) ∙ rw (next-drop, drop-drop, next_lengths)
 
   pub next_width : i < length q → 78 * (length q - i) + 9 * lengths_of (drop i q) ≡ width_at q i + (78 * (length q - (i + 1)) + 9 * lengths_of (drop (i + 1) q))
   unfolding width_at
-  next_width h = omega (arith, lengths_split 1 (drop i q), ap lengths_of next-drop_lem)
+  next_width h = omega (arith, lengths_split 1 (drop i q), ap lengths_of next-drop)
 
 -- no event is left
 pub last_text_lem : (q : List Event) (i : ℕ) (s : List Float) → length q ≤ i → queue_text (drop i q) s ≡ []

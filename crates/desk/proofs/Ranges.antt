@@ -270,5 +270,5 @@ turn_of_lem call numbers file none fit heard = ap (λ (c : Call). answer_of c nu
 turn_of_lem call numbers file (some s) fit heard =
     ap (λ (c : Call). answer_of c numbers file) heard.0 ∙ same_turn s.1 numbers s.2 file heard.1 heard.2 s.0 fit.1 fit.2
 
-pub heard-turn_lem : (line : List ℕ) (call : Call) (numbers : List Float) (file : List ℕ) → Heard (call_of line) call numbers file → answer_of call numbers file ≡ said_turn (call_of line)
-heard-turn_lem line call numbers file h = turn_of_lem call numbers file (call_of line) (in_line line) h
+pub heard-turn : (line : List ℕ) (call : Call) (numbers : List Float) (file : List ℕ) → Heard (call_of line) call numbers file → answer_of call numbers file ≡ said_turn (call_of line)
+heard-turn line call numbers file h = turn_of_lem call numbers file (call_of line) (in_line line) h

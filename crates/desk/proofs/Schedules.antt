@@ -32,7 +32,7 @@ use Rattle.card.specs.declared.Judged.{Judged}
 use Rattle.card.specs.Card as card
 use Rattle.card.specs.Card.{fault_number, is_accepted, has_head, is_whole, Reader, Reading, begun, fed, taken, at_end, loaded_as, file_of, judged, written_to, saved_as, Saved}
 use Rattle.card.proofs.Fields.{and_false}
-use Rattle.card.proofs.Parts.{fed-append_lem}
+use Rattle.card.proofs.Parts.{fed-append}
 use Rattle.card.proofs.Bound.{written_bound}
 use Rattle.card_reader.specs.declared.CardReader.{CardReader}
 use Rattle.card_reader.specs.declared.Fed.{Fed}
@@ -113,7 +113,7 @@ part_reads {rate} {n} {r} {numbers} {after} {window} {left} f file from to h few
     let end : from + (to - from) ≡ to = omega arith in
     let both : take from file ++ part ≡ take to file = sym (take-add from (to - from) file) ∙ ap (λ (m : ℕ). take m file) end in
     record {
-      reading = one.1.reading ∙ ap (λ (s : Reading). fed s part) k.reading ∙ fed-append_lem (begun rate n) (take from file) part ∙ ap (fed (begun rate n)) both;
+      reading = one.1.reading ∙ ap (λ (s : Reading). fed s part) k.reading ∙ fed-append (begun rate n) (take from file) part ∙ ap (fed (begun rate n)) both;
       sound = one.1.sound;
       fits = one.1.fits;
     }

@@ -110,10 +110,10 @@ module _ (c : Command) (d : Desk) (s : List Float) (l : List ℕ) (at : ℕ) (o 
 
 -- ---- making
 
-pub made-spoken_lem : (b : Bounds) (rate : AutomationRate) (n : ℕ) (o : Outcome) (s s' : List Float) (l : List ℕ) (at : ℕ) (t : Answered) (l' : List ℕ) → length s ≡ 8192
+pub made-spoken : (b : Bounds) (rate : AutomationRate) (n : ℕ) (o : Outcome) (s s' : List Float) (l : List ℕ) (at : ℕ) (t : Answered) (l' : List ℕ) → length s ≡ 8192
     → s' ≡ replicate (length s) plus_zero → Makes b rate n o → Told o 4096 nothing l at t l' → (d : Desk) → Spoken 41999 (making b rate n) d s l at t s' l'
 unfolding making
-made-spoken_lem b rate n o s s' l at t l' long zeroed a told d =
+made-spoken b rate n o s s' l at t l' long zeroed a told d =
     record {
       param = ap (λ (x : Desk). x.param) told.0 ∙ a.param;
       lent = ap (λ (x : Desk). x.lent) told.0;

@@ -186,13 +186,13 @@ module _ (N a : ℕ) where
           (le_trans l (digit_under N r c (2 ^ length cs) h.0))
       go false e more = rw (digits_clear a (length cs) (bit_clear (a / 2 ^ length cs) e)) (more r)
 
-  all-over_lem : (cs : List ℕ) (r e : ℕ) → r ≤ B → Rows N cs → (r + e) ^ N ≤ (falling_from cs a r + (e + 4 * length cs)) ^ N * 2 ^ (a % 2 ^ length cs)
+  all-over : (cs : List ℕ) (r e : ℕ) → r ≤ B → Rows N cs → (r + e) ^ N ≤ (falling_from cs a r + (e + 4 * length cs)) ^ N * 2 ^ (a % 2 ^ length cs)
   unfolding falling_from
-  all-over_lem [] r e l h =
+  all-over [] r e l h =
       let z : a % 1 ≡ 0 = omega arith in
       let k : e + 4 * 0 ≡ e = omega arith in
       rw (z, k) (omega arith)
-  all-over_lem (c ∷ cs) r e l h = go (eqb (a / 2 ^ length cs % 2) 1) refl (λ s e k. all-over_lem cs s e k h.3)
+  all-over (c ∷ cs) r e l h = go (eqb (a / 2 ^ length cs % 2) 1) refl (λ s e k. all-over cs s e k h.3)
     where
       n : ℕ
       n = length cs
@@ -231,7 +231,7 @@ module _ (N a : ℕ) where
           let q : ℕ = 2 ^ (2 ^ length cs) in
           let k : 4 * suc (length cs) ≡ 4 + 4 * length cs = omega arith in
           let z : r + 0 ≡ r = omega arith in
-          let m : (s + 4) ^ N * q ≤ (x + (4 + 4 * length cs)) ^ N * p * q = mul-le-mul_right q (all-over_lem cs s 4 (shrinks N r c (2 ^ length cs) 0 l h.2) h.3) in
+          let m : (s + 4) ^ N * q ≤ (x + (4 + 4 * length cs)) ^ N * p * q = mul-le-mul_right q (all-over cs s 4 (shrinks N r c (2 ^ length cs) 0 l h.2) h.3) in
           let d : (r + 0) ^ N < (s + (0 + 4)) ^ N * q = digit_strict N r c (2 ^ length cs) 0 l h.2 nz h.1 in
           let d' : r ^ N < (s + 4) ^ N * q = rw z at d in
           rw
@@ -241,7 +241,7 @@ module _ (N a : ℕ) where
           let x : ℕ = falling_from cs a r in
           let p : ℕ = 2 ^ (a % 2 ^ length cs) in
           let z : r + 0 ≡ r = omega arith in
-          let o : (r + 0) ^ N ≤ (x + (0 + 4 * length cs)) ^ N * p = all-over_lem cs r 0 l h.3 in
+          let o : (r + 0) ^ N ≤ (x + (0 + 4 * length cs)) ^ N * p = all-over cs r 0 l h.3 in
           let k : x + (0 + 4 * length cs) < x + 4 * suc (length cs) = omega arith in
           let t : (x + (0 + 4 * length cs)) ^ N * p < (x + 4 * suc (length cs)) ^ N * p = mul-lt-mul_of_pos_right (pow-lt-pow_left k nz) (pow_pos (a % 2 ^ length cs)) in
           let o' : r ^ N ≤ (x + (0 + 4 * length cs)) ^ N * p = rw z at o in
@@ -249,9 +249,9 @@ module _ (N a : ℕ) where
 
 -- ---- the document's words
 
-table-length_lem : length table ≡ 24
+table-length : length table ≡ 24
 unfolding table table_from
-table-length_lem = refl
+table-length = refl
 
 strict : (N a : ℕ) (cs : List ℕ) → 0 < length cs → N ≢ 0 → (r : ℕ) → r ≤ B → Rows N cs → r ^ N < (falling_from cs a r + 4 * length cs) ^ N * 2 ^ (a % 2 ^ length cs)
 strict N a [] p nz r l h = absurd (omega arith)
@@ -259,24 +259,24 @@ strict N a (c ∷ cs) p nz r l h = over_strict N a c cs r nz l h
 
 module _ (N a : ℕ) (is : N ≡ 2 ^ 24) (small : a < N) where
   weight : 2 ^ length table ≡ N
-  weight = rw table-length_lem (sym is)
+  weight = rw table-length (sym is)
 
   whole_a : a % 2 ^ length table ≡ a
   whole_a = rw weight (mod-eq_of_lt small)
 
-  table-rows_lem : Rows N table
-  table-rows_lem =
+  table-rows : Rows N table
+  table-rows =
       rows N (2 ^ 31) (2 ^ 31) table table_chained
       (unfold Under in rw weight (le_of_eq (first_row N)))
       (unfold Over in rw weight (le_of_eq (sym (first_row N))))
 
-  pub falling-between_lem : (falling a ^ N * 2 ^ a ≤ 2 ^ (32 * N)) × (2 ^ (32 * N) < (falling a + 96) ^ N * 2 ^ a)
+  pub falling-between : (falling a ^ N * 2 ^ a ≤ 2 ^ (32 * N)) × (2 ^ (32 * N) < (falling a + 96) ^ N * 2 ^ a)
   unfolding falling
-  falling-between_lem =
-      let u : falling_from table a B ^ N * 2 ^ (a % 2 ^ length table) ≤ B ^ N = all_under N a table B table-rows_lem in
+  falling-between =
+      let u : falling_from table a B ^ N * 2 ^ (a % 2 ^ length table) ≤ B ^ N = all_under N a table B table-rows in
       let o : B ^ N < (falling_from table a B + 4 * length table) ^ N * 2 ^ (a % 2 ^ length table) =
-      strict N a table (rw table-length_lem (omega arith)) (omega arith) B (omega arith) table-rows_lem in
-      (rw (whole_a, ← pow_pow 2 32 N) at u, rw (whole_a, ← pow_pow 2 32 N, table-length_lem) at o)
+      strict N a table (rw table-length (omega arith)) (omega arith) B (omega arith) table-rows in
+      (rw (whole_a, ← pow_pow 2 32 N) at u, rw (whole_a, ← pow_pow 2 32 N, table-length) at o)
 
   -- so r is from about 2^31 to 2^32
   most : falling a ≤ B
@@ -287,7 +287,7 @@ module _ (N a : ℕ) (is : N ≡ 2 ^ 24) (small : a < N) where
       go false e =
           let l : B ^ N < falling a ^ N = pow-lt-pow_left (leb-false (falling a) B e) (omega arith) in
           let p : falling a ^ N * 1 ≤ falling a ^ N * 2 ^ a = mul-le-mul_left (falling a ^ N) (pow_pos a) in
-          absurd (omega (arith, falling-between_lem.0, pow_pow 2 32 N))
+          absurd (omega (arith, falling-between.0, pow_pow 2 32 N))
 
   least : B < (falling a + 96) * 2
   least = go (leb ((falling a + 96) * 2) B) refl
@@ -296,7 +296,7 @@ module _ (N a : ℕ) (is : N ≡ 2 ^ 24) (small : a < N) where
       go true e =
           let l : ((falling a + 96) * 2) ^ N ≤ B ^ N = pow-le-pow_left (leb-true ((falling a + 96) * 2) B e) N in
           let p : (falling a + 96) ^ N * 2 ^ a ≤ (falling a + 96) ^ N * 2 ^ N = mul-le-mul_left ((falling a + 96) ^ N) (pow_mono {i = a} {j = N} (omega arith)) in
-          absurd (omega (arith, falling-between_lem.1, pow_pow 2 32 N, mul_pow (falling a + 96) 2 N))
+          absurd (omega (arith, falling-between.1, pow_pow 2 32 N, mul_pow (falling a + 96) 2 N))
       go false e = leb-false ((falling a + 96) * 2) B e
 
 pub falling_range : (a : ℕ) → a < parts → (0 < falling a) × (falling a ≤ 2 ^ 32)

@@ -142,17 +142,17 @@ module _ (k N m : ℕ) (is : N ≡ 2 ^ k) (few : 2 * N ≤ K) (l : K ≤ m) (h :
       let u : 2 ^ r * K ^ N ≤ 2 ^ (0 * N) * m ^ N = rw (← is) at (reads k m 0 l h).under in
       rw (pow-add 2 r (31 * N), pow_pow 2 31 N) (le_trans u (le_of_eq none))
 
-  log-over_lem : m ^ N < 2 ^ (r + 2 + 31 * N)
-  log-over_lem =
+  log-over : m ^ N < 2 ^ (r + 2 + 31 * N)
+  log-over =
       let o : 2 ^ (0 * N) * m ^ N < 2 ^ (r + 1) * (K + 1) ^ N = rw (← is) at (reads k m 0 l h).over in
       let t : 2 ^ (r + 1) * (K + 1) ^ N ≤ 2 ^ (r + 1) * (2 * K ^ N) = mul-le-mul_left (2 ^ (r + 1)) (twice N few) in
       let e : r + 2 + 31 * N ≡ r + 1 + (1 + 31 * N) = omega arith in
       rw (e, pow-add 2 (r + 1) (1 + 31 * N), pow-add 2 1 (31 * N), pow_pow 2 31 N) (omega (arith, none))
 
 module _ (N m : ℕ) (is : N ≡ 2 ^ 24) (l : 2 ^ 31 ≤ m) (h : m < 2 ^ 32) where
-  pub log-between_lem : (2 ^ (log m + 31 * N) ≤ m ^ N) × (m ^ N < 2 ^ (log m + 2 + 31 * N))
+  pub log-between : (2 ^ (log m + 31 * N) ≤ m ^ N) × (m ^ N < 2 ^ (log m + 2 + 31 * N))
   unfolding log
-  log-between_lem = (log_under 24 N m is (omega arith) l h, log-over_lem 24 N m is (omega arith) l h)
+  log-between = (log_under 24 N m is (omega arith) l h, log-over 24 N m is (omega arith) l h)
 
   -- so a is below N
   few_digits : log m < N
@@ -162,7 +162,7 @@ module _ (N m : ℕ) (is : N ≡ 2 ^ 24) (l : 2 ^ 31 ≤ m) (h : m < 2 ^ 32) whe
       go true e =
           let p : 2 ^ (32 * N) ≤ 2 ^ (log m + 31 * N) = pow_mono {i = 32 * N} {j = log m + 31 * N} (omega (arith, leb-true N (log m) e)) in
           let q : m ^ N < (2 ^ 32) ^ N = pow-lt-pow_left h (omega arith) in
-          absurd (omega (arith, log-between_lem.0, pow_pow 2 32 N))
+          absurd (omega (arith, log-between.0, pow_pow 2 32 N))
       go false e = leb-false N (log m) e
 
 pub log_below : (m : ℕ) → 2 ^ 31 ≤ m → m < 2 ^ 32 → log m < parts

@@ -24,11 +24,11 @@ use Rattle.rules.specs.Block.{Param, Command, called, called_as, scheduled_as, m
 use Rattle.laws.specs.Sound.{Sound}
 use Rattle.laws.specs.Fits.{AllFit}
 use Rattle.laws.proofs.Rows.{Played, block_answered}
-use Rattle.laws.proofs.Store.{attached-length_lem, attached_fits, numbers-length_lem, packed_back, packed-length_lem, rendered_fits}
+use Rattle.laws.proofs.Store.{attached-length, attached_fits, numbers-length, packed_back, packed-length, rendered_fits}
 use Rattle.laws.proofs.Counts.{rendered_counts, rendered_steps}
 use Rattle.laws.proofs.Kept.{made_sound, called_sound, answered_sound}
 use Rattle.laws.proofs.Places.{samples_count}
-use Rattle.laws.proofs.Within.{AllWithin, all-within_lem, mixed-length_lem}
+use Rattle.laws.proofs.Within.{AllWithin, all-within, mixed-length}
 
 -- ---- refused
 
@@ -69,11 +69,11 @@ unlent (Verdict.Refused r) p store e = refl
 
 -- ---- an answered block
 
-pub inputs-length_lem : (r : AutomationRate) (count : ℕ) (xs : List Float) → fits_count xs count ≡ true → length (inputs r count xs) ≡ count
+pub inputs-length : (r : AutomationRate) (count : ℕ) (xs : List Float) → fits_count xs count ≡ true → length (inputs r count xs) ≡ count
 unfolding inputs spread fits_count
-inputs-length_lem r count [] h = length-replicate count plus_zero
-inputs-length_lem Rate.A count (x ∷ xs) h = eqb-true (length (x ∷ xs)) count h
-inputs-length_lem Rate.K count (x ∷ xs) h = length-replicate count (first_of (x ∷ xs))
+inputs-length r count [] h = length-replicate count plus_zero
+inputs-length Rate.A count (x ∷ xs) h = eqb-true (length (x ∷ xs)) count h
+inputs-length Rate.K count (x ∷ xs) h = length-replicate count (first_of (x ∷ xs))
 
 module _ (p : Param) (store : List Float) (c : Call) (fine : verdict_of p store c ≡ Verdict.Answered) where
   -- what it was given
@@ -94,13 +94,13 @@ module _ (p : Param) (store : List Float) (c : Call) (fine : verdict_of p store 
   abbrev samples : List Float
   samples = mixed_all p.bounds (inputs p.rate c.count c.input) (spread p.rate c.count done.walk.values)
 
-  spread-length_lem : length (spread p.rate c.count done.walk.values) ≡ c.count
+  spread-length : length (spread p.rate c.count done.walk.values) ≡ c.count
   unfolding infos_of
-  spread-length_lem = samples_count (infos_of p.rate c) p.intrinsic p.last ws
+  spread-length = samples_count (infos_of p.rate c) p.intrinsic p.last ws
 
   samples_length : length samples ≡ c.count
   samples_length =
-      mixed-length_lem p.bounds _ _ (inputs-length_lem p.rate c.count c.input given.input_fits ∙ sym spread-length_lem) ∙ spread-length_lem
+      mixed-length p.bounds _ _ (inputs-length p.rate c.count c.input given.input_fits ∙ sym spread-length) ∙ spread-length
 
   output_is : (answered p store c).output ≡ samples ++ drop c.count c.output
   unfolding answer_of output_of infos_of
@@ -109,7 +109,7 @@ module _ (p : Param) (store : List Float) (c : Call) (fine : verdict_of p store 
   -- each of the count samples
   pub samples_within : Sound p → AllWithin p.bounds (take c.count (answered p store c).output)
   samples_within s =
-      rw (output_is, take_at samples (drop c.count c.output) c.count samples_length) (all-within_lem p.bounds s.bounded _ _)
+      rw (output_is, take_at samples (drop c.count c.output) c.count samples_length) (all-within p.bounds s.bounded _ _)
 
   -- behind them the output is as it came
   pub output_rest : drop c.count (answered p store c).output ≡ drop c.count c.output
@@ -128,7 +128,7 @@ module _ (p : Param) (store : List Float) (c : Call) (fine : verdict_of p store 
   steps_few : length p.queue ≤ most_events → (answered p store c).steps ≤ 2 * most_events + 1
   unfolding answer_of
   steps_few h =
-      let n : length ws ≡ length p.queue = attached-length_lem p.queue store in
+      let n : length ws ≡ length p.queue = attached-length p.queue store in
       rw answer_is (omega (arith, rendered_steps (infos_of p.rate c) p.intrinsic p.last ws))
 
   -- ---- what the next call reads
@@ -153,8 +153,8 @@ module _ (p : Param) (store : List Float) (c : Call) (fine : verdict_of p store 
   unfolding answer_of
   block_store s =
       let r : lengths_of (events_of done.queue) ≤ store_length = rw (ap (λ (a : Answer). a.param.queue) answer_is) at (answered_sound p store s c).waiting.room in
-      let n : length (numbers_of done.queue) ≡ lengths_of (events_of done.queue) = numbers-length_lem done.queue (done_fit s) in
-      rw answer_is (packed-length_lem done.queue (omega arith))
+      let n : length (numbers_of done.queue) ≡ lengths_of (events_of done.queue) = numbers-length done.queue (done_fit s) in
+      rw answer_is (packed-length done.queue (omega arith))
 
 pub at_most_129 : (p : Param) (store : List Float) (c : Call) → Sound p → (answered p store c).steps ≤ 129
 unfolding answered answered_as

@@ -22,9 +22,9 @@ use Rattle.laws.proofs.Results.{from_zero_number, taken_number}
 -- ---- a test of every event
 
 module _ (test : Event → Bool) where
-  pub all-parts_lem : (e : Event) (q : List Event) → all test (e ∷ q) ≡ true → (test e ≡ true) × (all test q ≡ true)
+  pub all-parts : (e : Event) (q : List Event) → all test (e ∷ q) ≡ true → (test e ≡ true) × (all test q ≡ true)
   unfolding all
-  all-parts_lem e q h = both (test e) (all test q) h
+  all-parts e q h = both (test e) (all test q) h
 
   pub all_more : (e : Event) (q : List Event) → test e ≡ true → all test q ≡ true → all test (e ∷ q) ≡ true
   unfolding all
@@ -32,22 +32,22 @@ module _ (test : Event → Bool) where
 
   pub all_append : (p q : List Event) → all test p ≡ true → all test q ≡ true → all test (p ++ q) ≡ true
   all_append [] q h k = k
-  all_append (e ∷ p) q h k = let a = all-parts_lem e p h in all_more e (p ++ q) a.0 (all_append p q a.1 k)
+  all_append (e ∷ p) q h k = let a = all-parts e p h in all_more e (p ++ q) a.0 (all_append p q a.1 k)
 
   pub all_take : (n : ℕ) (q : List Event) → all test q ≡ true → all test (take n q) ≡ true
   unfolding all
   all_take zero q h = refl
   all_take (suc n) [] h = refl
-  all_take (suc n) (e ∷ q) h = let a = all-parts_lem e q h in and a.0 (all_take n q a.1)
+  all_take (suc n) (e ∷ q) h = let a = all-parts e q h in and a.0 (all_take n q a.1)
 
   pub all_drop : (n : ℕ) (q : List Event) → all test q ≡ true → all test (drop n q) ≡ true
   all_drop zero q h = h
   all_drop (suc n) [] h = h
-  all_drop (suc n) (e ∷ q) h = all_drop n q (all-parts_lem e q h).1
+  all_drop (suc n) (e ∷ q) h = all_drop n q (all-parts e q h).1
 
-  pub all-put_lem : (n : ℕ) (e : Event) (q : List Event) → test e ≡ true → all test q ≡ true → all test (put_at n e q) ≡ true
+  pub all-put : (n : ℕ) (e : Event) (q : List Event) → test e ≡ true → all test q ≡ true → all test (put_at n e q) ≡ true
   unfolding put_at
-  all-put_lem n e q h k = all_append (take n q) (e ∷ drop n q) (all_take n q k) (all_more e (drop n q) h (all_drop n q k))
+  all-put n e q h k = all_append (take n q) (e ∷ drop n q) (all_take n q k) (all_more e (drop n q) h (all_drop n q k))
 
   -- one event more, as a loop over an array makes the test
   pub all_last : (q : List Event) (e : Event) → all test (q ++ (e ∷ [])) ≡ (all test q && test e)

@@ -11,7 +11,7 @@ use Rattle.rules.specs.declared.BlockInfos.{BlockInfos}
 use Rattle.rules.specs.Queue.{Waiting, head_of}
 use Rattle.rules.specs.Walk.{Walk, Walked, Turn, stop, on, turn, next, ended, fill, with_values, with_intrinsic, with_last, with_turned, consumed, walked, counted}
 use Rattle.rules.specs.Block.{rests_for, rendered, rendered_as, walk_from, values_before}
-use Rattle.laws.proofs.Walks.{Any, any-timed_lem, all_any, head_timed, Turns, stops, goes, Stops, Carries, turn_carries, walk_carries}
+use Rattle.laws.proofs.Walks.{Any, any-timed, all_any, head_timed, Turns, stops, goes, Stops, Carries, turn_carries, walk_carries}
 
 module _ (f : BlockInfos) where
   -- ---- steps
@@ -84,7 +84,7 @@ module _ (f : BlockInfos) where
   walk_shrinks [] w = (omega arith, omega arith)
   walk_shrinks (x ∷ xs) w =
       next_shrinks w x xs (λ v. walked f v xs) (walk_shrinks xs) (turn f w x (head_of xs))
-      (turn_carries f Any _ _ _ _ tt (counts_carry w.finished w.turned) x (head_of xs) w (any-timed_lem x.event) (head_timed Any xs (all_any xs)) (refl, omega arith))
+      (turn_carries f Any _ _ _ _ tt (counts_carry w.finished w.turned) x (head_of xs) w (any-timed x.event) (head_timed Any xs (all_any xs)) (refl, omega arith))
 
 -- ---- a block
 
@@ -138,4 +138,4 @@ pub head_counts : (f : BlockInfos) (w v : Walk) (x : Waiting) (xs : List Waiting
 head_counts f w v x xs e =
     gone_of
     (rw e at
-    (turn_carries f Any _ _ _ _ tt (most_carry f w.steps w.finished w.turned) x (head_of xs) w (any-timed_lem x.event) (head_timed Any xs (all_any xs)) (omega arith)))
+    (turn_carries f Any _ _ _ _ tt (most_carry f w.steps w.finished w.turned) x (head_of xs) w (any-timed x.event) (head_timed Any xs (all_any xs)) (omega arith)))

@@ -65,9 +65,9 @@ lengths_split n q = sym (lengths_append (take n q) (drop n q)) ∙ ap lengths_of
 
 -- ---- arrival
 
-pub put-length_lem : {A : Type 0} (n : ℕ) (x : A) (xs : List A) → length (put_at n x xs) ≡ suc (length xs)
+pub put-length : {A : Type 0} (n : ℕ) (x : A) (xs : List A) → length (put_at n x xs) ≡ suc (length xs)
 unfolding put_at
-put-length_lem n x xs = let e : length (take n xs ++ drop n xs) ≡ length xs = ap length (take-append-drop n xs) in simp length-append (omega (arith, simp length-append at e))
+put-length n x xs = let e : length (take n xs ++ drop n xs) ≡ length xs = ap length (take-append-drop n xs) in simp length-append (omega (arith, simp length-append at e))
 
 pub put_lengths : (n : ℕ) (e : Event) (q : List Event) → lengths_of (put_at n e q) ≡ length_of e + lengths_of q
 unfolding put_at lengths_of
@@ -174,15 +174,15 @@ events_alones (e ∷ q) = ap (λ (l : List Event). e ∷ l) (events_alones q)
 abbrev bare : List Waiting → List Waiting
 bare ws = alones (events_of ws)
 
-bare-append_lem : (xs ys : List Waiting) → bare (xs ++ ys) ≡ bare xs ++ bare ys
+bare-append : (xs ys : List Waiting) → bare (xs ++ ys) ≡ bare xs ++ bare ys
 unfolding events_of
-bare-append_lem [] ys = refl
-bare-append_lem (x ∷ xs) ys = ap (λ (l : List Waiting). alone x.event ∷ l) (bare-append_lem xs ys)
+bare-append [] ys = refl
+bare-append (x ∷ xs) ys = ap (λ (l : List Waiting). alone x.event ∷ l) (bare-append xs ys)
 
-bare-those_lem : (test : Event → Bool) (ws : List Waiting) → those (λ w. test w.event) (bare ws) ≡ bare (those (λ w. test w.event) ws)
+bare-those : (test : Event → Bool) (ws : List Waiting) → those (λ w. test w.event) (bare ws) ≡ bare (those (λ w. test w.event) ws)
 unfolding those events_of
-bare-those_lem test [] = refl
-bare-those_lem test (w ∷ ws) = go (test w.event) _ (those (λ w. test w.event) ws) (bare-those_lem test ws)
+bare-those test [] = refl
+bare-those test (w ∷ ws) = go (test w.event) _ (those (λ w. test w.event) ws) (bare-those test ws)
   where
     go : (b : Bool) (l m : List Waiting) → l ≡ bare m → cond b (alone w.event ∷ l) l ≡ bare (cond b (w ∷ m) m)
     go true l m h = ap (λ (l : List Waiting). alone w.event ∷ l) h
@@ -206,12 +206,12 @@ module _ (c : Float) where
     where
       go : (b : Bool) → cond b (bare early ++ (alone (held_event c x.event) ∷ [])) (last_held c (bare early))
           ≡ bare (cond b (early ++ (held_at c x ∷ [])) (last_held c early))
-      go true = unfold held_at events_of in sym (bare-append_lem early (held_at c x ∷ []))
+      go true = unfold held_at events_of in sym (bare-append early (held_at c x ∷ []))
       go false = bare_last early
 
   pub events_held : (ws : List Waiting) → events_of (held c ws) ≡ events_of (held c (alones (events_of ws)))
   unfolding held is_not_later is_later
   events_held ws =
-      let e : those (is_not_later c) (bare ws) ≡ bare (those (is_not_later c) ws) = bare-those_lem (λ e. not (Ieee.lt c (filed_under e))) ws in
-      let l : those (is_later c) (bare ws) ≡ bare (those (is_later c) ws) = bare-those_lem (λ e. Ieee.lt c (filed_under e)) ws in
+      let e : those (is_not_later c) (bare ws) ≡ bare (those (is_not_later c) ws) = bare-those (λ e. not (Ieee.lt c (filed_under e))) ws in
+      let l : those (is_later c) (bare ws) ≡ bare (those (is_later c) ws) = bare-those (λ e. Ieee.lt c (filed_under e)) ws in
       sym (ap events_of (ap₂ (held_by c) e l ∙ bare-held_by (those (is_not_later c) ws) (those (is_later c) ws)) ∙ events_alones (events_of (held c ws)))

@@ -22,7 +22,7 @@ use Rattle.laws.specs.Search.{place_of, is_later_than, first_later}
 use Rattle.laws.specs.Held.{AsBefore, none, same, in_place, moved, goes, StillInOrder}
 use Rattle.laws.proofs.Tests.{never, both}
 use Rattle.laws.proofs.Order.{le_le, le_not_lt, lt_le_lt}
-use Rattle.laws.proofs.Clear.{all-parts_lem, all_drop, curve_parts}
+use Rattle.laws.proofs.Clear.{all-parts, all_drop, curve_parts}
 use Rattle.laws.proofs.Reach.{covered}
 use Rattle.laws.proofs.Events.{events_length, events_take, events_attached, runs_no_ramp, held_filed, held_by_ramp, held_ramp_filed}
 use Rattle.laws.proofs.Ordered.{AllFrom, order_parts, order_from, AllPass, those_pass, early_late, held_is, events_last_held}
@@ -169,7 +169,7 @@ inside_a_curve_it_is_held p store c s answered before e behind split h = go _ _ 
     clear : is_clear e ≡ true
     clear =
         let all : are_clear (before ++ (e ∷ behind)) ≡ true = rw split at s.waiting.clear in
-        (all-parts_lem is_clear e behind (rw (drop-append_seam before (e ∷ behind)) at (all_drop is_clear (length before) (before ++ (e ∷ behind)) all))).0
+        (all-parts is_clear e behind (rw (drop-append_seam before (e ∷ behind)) at (all_drop is_clear (length before) (before ++ (e ∷ behind)) all))).0
 
     stays : events_of (held (taken_time c) ws) ≡ before ++ (held_event (taken_time c) e ∷ [])
     stays =

@@ -29,13 +29,13 @@ use Rattle.laws.specs.Sound.{is_from_zero, is_taken, is_taken_if_any, is_held_by
 use Rattle.laws.specs.Apart.{is_apart, are_apart}
 use Rattle.laws.proofs.Tests.{and}
 use Rattle.laws.proofs.Order.{le_not_lt}
-use Rattle.laws.proofs.Results.{fused_from_zero, fused_from, wide_from_zero, taken-parts_lem, taken_number, time_taken, above_zero}
-use Rattle.laws.proofs.Clear.{all-put_lem, finite_due, all_due, CurveParts, curve_whole}
+use Rattle.laws.proofs.Results.{fused_from_zero, fused_from, wide_from_zero, taken-parts, taken_number, time_taken, above_zero}
+use Rattle.laws.proofs.Clear.{all-put, finite_due, all_due, CurveParts, curve_whole}
 use Rattle.laws.proofs.Reach.{none_in, free}
 use Rattle.laws.proofs.Rows.{Scheduled, Curved, value_answered, exponential_answered, target_answered, curve_answered, cancel_answered, block_answered}
 use Rattle.laws.proofs.Events.{events_attached, events_inserted}
 use Rattle.laws.proofs.Queues.{empty_sound, arrived_sound, cancelled_sound, cancelled_due, held_sound, held_due}
-use Rattle.laws.proofs.Apart.{arrived-apart_lem, cancelled-apart_lem, held-apart_lem}
+use Rattle.laws.proofs.Apart.{arrived-apart, cancelled-apart, held-apart}
 use Rattle.laws.proofs.Walks.{later, rendered_leaves}
 use Rattle.laws.proofs.Leaves.{rest_sound, rendered_last}
 
@@ -67,9 +67,9 @@ unfolding made_as
 made_as-fresh Verdict.Answered b r e = refl
 made_as-fresh (Verdict.Refused why) b r e = refl
 
-pub made-fresh_lem : (b : Bounds) (r : AutomationRate) (n : ℕ) → let p = made b r n in p ≡ fresh p.bounds p.rate p.edition
+pub made-fresh : (b : Bounds) (r : AutomationRate) (n : ℕ) → let p = made b r n in p ≡ fresh p.bounds p.rate p.edition
 unfolding made
-made-fresh_lem b r n = made_as-fresh (lowest (making_rows b n)) b r (edition_of n)
+made-fresh b r n = made_as-fresh (lowest (making_rows b n)) b r (edition_of n)
 
 no_range : are_bounds (record { min = plus_zero; default = plus_zero; max = plus_zero }) ≡ true
 unfolding are_bounds all_finite is_finite Ieee.le Ieee.lt Ieee.eq
@@ -88,7 +88,7 @@ made_as_bounds b r e rows false h = no_range
 pub made_sound : (b : Bounds) (r : AutomationRate) (n : ℕ) → Sound (made b r n)
 unfolding made making_rows is_last_clear are_block_times all
 made_sound b r n =
-    subst Sound (sym (made-fresh_lem b r n)) (record { waiting = empty_sound; due = refl; bounded = made_as_bounds b r (edition_of n) _ (are_bounds b) refl; last = refl; block = refl })
+    subst Sound (sym (made-fresh b r n)) (record { waiting = empty_sound; due = refl; bounded = made_as_bounds b r (edition_of n) _ (are_bounds b) refl; last = refl; block = refl })
 
 -- ---- scheduling and cancelling
 
@@ -105,8 +105,8 @@ record Fit (e : Event) (q : List Event) : Type 0 where
   room : lengths_of q + length_of e ≤ store_length
 
 -- a time that was let in
-scheduled-taken_lem : (q : List Event) (t : Float) → Scheduled q t → is_taken (taken_time t) ≡ true
-scheduled-taken_lem q t g = time_taken t g.time g.from_zero
+scheduled-taken : (q : List Event) (t : Float) → Scheduled q t → is_taken (taken_time t) ≡ true
+scheduled-taken q t g = time_taken t g.time g.from_zero
 
 module _ (p : Param) (store : List Float) (s : Sound p) where
   abbrev played : Bool
@@ -130,8 +130,8 @@ module _ (p : Param) (store : List Float) (s : Sound p) where
   arrived_fit e g =
       record {
         queue = arrived_sound e p.queue g.clear g.free g.few g.room s.waiting;
-        due = unfold arrived in all-put_lem (is_due played) _ e p.queue (finite_due played e g.time) s.due;
-        apart = arrived-apart_lem e p.queue g.free;
+        due = unfold arrived in all-put (is_due played) _ e p.queue (finite_due played e g.time) s.due;
+        apart = arrived-apart e p.queue g.free;
       }
 
   scheduled_keeps : (v : Verdict) (e : Event) → (v ≡ Verdict.Answered → Fit e p.queue) → Keeps (scheduled_as v p store e).param
@@ -167,7 +167,7 @@ module _ (p : Param) (store : List Float) (s : Sound p) where
       let r : lengths_of p.queue ≤ store_length = s.waiting.room in
       record {
         clear = c;
-        time = rw is (taken-parts_lem (taken_time t) (scheduled-taken_lem p.queue t g)).0;
+        time = rw is (taken-parts (taken_time t) (scheduled-taken p.queue t g)).0;
         free = free e p.queue (rw is g.outside) (none_in e o p.queue);
         few = g.few;
         room = omega arith;
@@ -175,12 +175,12 @@ module _ (p : Param) (store : List Float) (s : Sound p) where
 
   step_fit : (v t : Float) → is_finite v ≡ true → Scheduled p.queue t → Fit (Event.Step v (taken_time t)) p.queue
   unfolding length_of is_clear filed_under covers
-  step_fit v t n g = plain_fit (Event.Step v (taken_time t)) t (and n (taken-parts_lem (taken_time t) (scheduled-taken_lem p.queue t g)).1) refl (λ u. refl) refl g
+  step_fit v t n g = plain_fit (Event.Step v (taken_time t)) t (and n (taken-parts (taken_time t) (scheduled-taken p.queue t g)).1) refl (λ u. refl) refl g
 
   -- a ramp that is not held
   span_fit : (t : Float) → Scheduled p.queue t → is_span (taken_time t) MaybeTime.Missing ≡ true
   unfolding is_span is_taken_if_any is_held_by
-  span_fit t g = and (scheduled-taken_lem p.queue t g) refl
+  span_fit t g = and (scheduled-taken p.queue t g) refl
 
   linear_fit : (v t : Float) → is_finite v ≡ true → Scheduled p.queue t → Fit (Event.Linear v (taken_time t) MaybeTime.Missing) p.queue
   unfolding length_of is_clear filed_under hold_or covers
@@ -196,7 +196,7 @@ module _ (p : Param) (store : List Float) (s : Sound p) where
       → Fit (Event.Target v (taken_time t) c MaybeTime.Missing) p.queue
   unfolding length_of is_clear is_taken_if_any filed_under covers
   running_fit v t c n k g =
-      plain_fit (Event.Target v (taken_time t) c MaybeTime.Missing) t (and n (and (scheduled-taken_lem p.queue t g) (and k refl))) refl (λ u. refl) refl g
+      plain_fit (Event.Target v (taken_time t) c MaybeTime.Missing) t (and n (and (scheduled-taken p.queue t g) (and k refl))) refl (λ u. refl) refl g
 
   target_fit : (v t c : Float) → is_finite v ≡ true → is_finite c ≡ true → is_negative c ≡ false → Scheduled p.queue t
       → Fit (target_event v (taken_time t) c) p.queue
@@ -210,12 +210,12 @@ module _ (p : Param) (store : List Float) (s : Sound p) where
   curve_fit : (t d : Float) (xs : List Float) → Curved p.queue store t d xs → Fit (Event.Curve (taken_time t) d (length xs) MaybeTime.Missing) p.queue
   unfolding is_taken_if_any is_held_from is_held_by is_period filed_under length_of covers any_inside is_filed_inside
   curve_fit t d xs g =
-      let n : is_taken (taken_time t) ≡ true = scheduled-taken_lem p.queue t g.scheduled in
+      let n : is_taken (taken_time t) ≡ true = scheduled-taken p.queue t g.scheduled in
       let c : CurveParts (taken_time t) d (length xs) MaybeTime.Missing =
       record { start = n; duration = and g.duration g.positive; hold = refl; from = refl; by = refl; enough = le-leb 2 (length xs) g.enough } in
       record {
         clear = curve_whole (taken_time t) d (length xs) MaybeTime.Missing c;
-        time = (taken-parts_lem (taken_time t) n).0;
+        time = (taken-parts (taken_time t) n).0;
         free = free (Event.Curve (taken_time t) d (length xs) MaybeTime.Missing) p.queue g.scheduled.outside g.crossed;
         few = g.scheduled.few;
         room = g.room;
@@ -240,7 +240,7 @@ module _ (p : Param) (store : List Float) (s : Sound p) where
       record {
         queue = cancelled_sound (taken_time c) waits waits_sound;
         due = cancelled_due played (taken_time c) waits waits_sound.ordered waits_due;
-        apart = λ a. cancelled-apart_lem (taken_time c) waits waits_sound.ordered (waits_apart a);
+        apart = λ a. cancelled-apart (taken_time c) waits waits_sound.ordered (waits_apart a);
       })
   called_keeps (hold c) =
       called_as_keeps _ _ _
@@ -250,15 +250,15 @@ module _ (p : Param) (store : List Float) (s : Sound p) where
       record {
         queue = held_sound (taken_time c) k waits waits_sound;
         due = held_due (taken_time c) k played waits waits_sound waits_due;
-        apart = λ a. held-apart_lem (taken_time c) k waits waits_sound (waits_apart a);
+        apart = λ a. held-apart (taken_time c) k waits waits_sound (waits_apart a);
       })
 
   pub called_sound : (c : Command) → Sound (called p store c).param
   called_sound c = (called_keeps c).sound
 
   -- where none lies inside a curve, none does after a call that is no block
-  pub called-apart_lem : (c : Command) → are_apart p.queue ≡ true → are_apart (called p store c).param.queue ≡ true
-  called-apart_lem c a = (called_keeps c).apart a
+  pub called-apart : (c : Command) → are_apart p.queue ≡ true → are_apart (called p store c).param.queue ≡ true
+  called-apart c a = (called_keeps c).apart a
 
   -- ---- a block
 

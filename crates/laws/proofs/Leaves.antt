@@ -22,8 +22,8 @@ use Rattle.rules.specs.Block.{target, rests_for, walk_from, values_before, rende
 use Rattle.laws.specs.Sound.{is_number, is_from_zero, is_taken_if_any, is_clear, are_clear, reach_of, goes_before, in_order, SoundQueue, is_last_clear}
 use Rattle.laws.proofs.Tests.{both, and}
 use Rattle.laws.proofs.Order.{not_lt}
-use Rattle.laws.proofs.Results.{add_number, from_zero_number, taken-parts_lem, taken_number}
-use Rattle.laws.proofs.Clear.{all-parts_lem, all_more, span_taken, exponential_parts, target_parts, curve_parts, clear_number}
+use Rattle.laws.proofs.Results.{add_number, from_zero_number, taken-parts, taken_number}
+use Rattle.laws.proofs.Clear.{all-parts, all_more, span_taken, exponential_parts, target_parts, curve_parts, clear_number}
 use Rattle.laws.proofs.Reach.{end_number}
 use Rattle.laws.proofs.Ordered.{order_parts}
 use Rattle.laws.proofs.Queues.{suffix_sound}
@@ -40,7 +40,7 @@ step_sound e q v t n z g s =
     record {
       few = a;
       ordered = and g (order_parts e q s.ordered).1;
-      clear = all_more is_clear (Event.Step v t) q (and n z) (all-parts_lem is_clear e q s.clear).1;
+      clear = all_more is_clear (Event.Step v t) q (and n z) (all-parts is_clear e q s.clear).1;
       room = omega arith;
     }
 
@@ -61,7 +61,7 @@ no_end_by_next f t [] n c k = refl
 no_end_by_next f t (x ∷ xs) n c k = go (is_ramp x.event) (Ieee.lt (filed_under x.event) f.next) refl k
   where
     number : is_number (filed_under x.event) ≡ true
-    number = clear_number x.event (all-parts_lem is_clear x.event (events_of xs) c).0
+    number = clear_number x.event (all-parts is_clear x.event (events_of xs) c).0
 
     go : (r b : Bool) → Ieee.lt (filed_under x.event) f.next ≡ b
         → cond r (MaybeTime.At (later_of f.time t)) (cond b (MaybeTime.At (filed_under x.event)) MaybeTime.Missing) ≡ MaybeTime.Missing
@@ -74,14 +74,14 @@ no_end_by_next f t (x ∷ xs) n c k = go (is_ramp x.event) (Ieee.lt (filed_under
 turned_sound : (v t : Float) (h : MaybeTime) (q : List Event) → SoundQueue (Event.Exponential v t h ∷ q) → SoundQueue (Event.Step v (hold_or h t) ∷ q)
 unfolding reach_of filed_under
 turned_sound v t h q s =
-    let a = exponential_parts v t h (all-parts_lem is_clear (Event.Exponential v t h) q s.clear).0 in
+    let a = exponential_parts v t h (all-parts is_clear (Event.Exponential v t h) q s.clear).0 in
     step_sound
     (Event.Exponential v t h)
     q
     v
     (hold_or h t)
     a.0
-    (taken-parts_lem (hold_or h t) (span_taken t h a.2)).1
+    (taken-parts (hold_or h t) (span_taken t h a.2)).1
     (order_parts (Event.Exponential v t h) q s.ordered).0
     s
 
@@ -90,7 +90,7 @@ snapped_sound : (f : BlockInfos) (v t c : Float) (h : MaybeTime) (xs : List Wait
     → end_by_hold f h (end_by_next f t (head_of xs)) ≡ MaybeTime.Missing → SoundQueue (Event.Target v t c h ∷ events_of xs)
     → SoundQueue (Event.Step v f.next ∷ events_of xs)
 snapped_sound f v t c h xs z free s =
-    let a = all-parts_lem is_clear (Event.Target v t c h) (events_of xs) s.clear in
+    let a = all-parts is_clear (Event.Target v t c h) (events_of xs) s.clear in
     step_sound
     (Event.Target v t c h)
     (events_of xs)
@@ -140,10 +140,10 @@ clear_timed (Event.Target v t c k) h =
 clear_timed (Event.Curve s d n k) h =
     record { filed = clear_number (Event.Curve s d n k) h; ends = unfold curve_end in end_number s d n k (curve_parts s d n k h) }
 
-all-timed_lem : (ws : List Waiting) → are_clear (events_of ws) ≡ true → AllTimed Number ws
+all-timed : (ws : List Waiting) → are_clear (events_of ws) ≡ true → AllTimed Number ws
 unfolding events_of
-all-timed_lem [] h = tt
-all-timed_lem (w ∷ ws) h = let a = all-parts_lem is_clear w.event (events_of ws) h in (clear_timed w.event a.0, all-timed_lem ws a.1)
+all-timed [] h = tt
+all-timed (w ∷ ws) h = let a = all-parts is_clear w.event (events_of ws) h in (clear_timed w.event a.0, all-timed ws a.1)
 
 module _ (f : BlockInfos) (now : is_number f.time ≡ true) where
   start_clear : (v : Float) (l : LastEvent) → is_last_clear l ≡ true → is_number (last_or f v l).time ≡ true
@@ -181,7 +181,7 @@ module _ (f : BlockInfos) (now : is_number f.time ≡ true) where
       last_carry
       (λ w h. h)
       ws
-      (all-timed_lem ws c)
+      (all-timed ws c)
       (walk_from v l (values_before f.rate v) 0)
       h
       ).0

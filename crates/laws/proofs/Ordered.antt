@@ -16,7 +16,7 @@ use Rattle.laws.specs.Apart.{is_apart}
 use Rattle.laws.specs.Search.{place_of, is_later_than, first_later, first_going}
 use Rattle.laws.proofs.Tests.{clash, both, and}
 use Rattle.laws.proofs.Order.{le_le, lt_le, not_lt, le_not_lt, lt_not_le, le_lt, lt_le_lt}
-use Rattle.laws.proofs.Clear.{all-parts_lem, all_take, clear_number}
+use Rattle.laws.proofs.Clear.{all-parts, all_take, clear_number}
 use Rattle.laws.proofs.Reach.{filed_before, lasts_up_to, uncovered, apart_parts}
 use Rattle.laws.proofs.Events.{events_one, events_take, events_drop, events_append, events_get, events_those, place_events, alones, events_alones}
 
@@ -51,18 +51,18 @@ order_drop zero q o = o
 order_drop (suc n) [] o = o
 order_drop (suc n) (e ∷ q) o = order_drop n q (order_parts e q o).1
 
-pub before-take_lem : (t : Float) (n : ℕ) (q : List Event) → goes_before t q ≡ true → goes_before t (take n q) ≡ true
+pub before-take : (t : Float) (n : ℕ) (q : List Event) → goes_before t q ≡ true → goes_before t (take n q) ≡ true
 unfolding goes_before
-before-take_lem t zero q h = refl
-before-take_lem t (suc n) [] h = refl
-before-take_lem t (suc n) (e ∷ q) h = h
+before-take t zero q h = refl
+before-take t (suc n) [] h = refl
+before-take t (suc n) (e ∷ q) h = h
 
 pub order_take : (n : ℕ) (q : List Event) → in_order q ≡ true → in_order (take n q) ≡ true
 unfolding in_order
 order_take zero q o = refl
 order_take (suc n) [] o = refl
 order_take (suc n) (e ∷ q) o =
-    let a = order_parts e q o in and (before-take_lem (reach_of e) n q a.0) (order_take n q a.1)
+    let a = order_parts e q o in and (before-take (reach_of e) n q a.0) (order_take n q a.1)
 
 -- ---- arrival
 
@@ -78,7 +78,7 @@ pub behind_is_first_later : (t : Float) (q : List Event) → is_number t ≡ tru
 unfolding place_behind first_later place_of is_later_than has_not_later
 behind_is_first_later t [] n c o = refl
 behind_is_first_later t (e ∷ q) n c o =
-    let a = all-parts_lem is_clear e q c in
+    let a = all-parts is_clear e q c in
     let r = order_parts e q o in
     go
     (Ieee.lt t (filed_under e))
@@ -98,11 +98,11 @@ unfolding put_at
 arrives true k e d q = refl
 arrives false k e d q = refl
 
-before-put_lem : (t : Float) (k : ℕ) (e : Event) (q : List Event) → Ieee.le t (filed_under e) ≡ true → goes_before t q ≡ true → goes_before t (put_at k e q) ≡ true
+before-put : (t : Float) (k : ℕ) (e : Event) (q : List Event) → Ieee.le t (filed_under e) ≡ true → goes_before t q ≡ true → goes_before t (put_at k e q) ≡ true
 unfolding put_at goes_before
-before-put_lem t zero e q h g = h
-before-put_lem t (suc k) e [] h g = h
-before-put_lem t (suc k) e (d ∷ q) h g = g
+before-put t zero e q h g = h
+before-put t (suc k) e [] h g = h
+before-put t (suc k) e (d ∷ q) h g = g
 
 -- what has no event's time inside and lies inside none, goes between two of them
 put_order : (e : Event) (q : List Event) → is_clear e ≡ true → all (is_apart e) q ≡ true → are_clear q ≡ true → in_order q ≡ true
@@ -110,8 +110,8 @@ put_order : (e : Event) (q : List Event) → is_clear e ≡ true → all (is_apa
 unfolding first_later place_of is_later_than in_order goes_before
 put_order e [] k f c o = unfold put_at in refl
 put_order e (d ∷ q) k f c o =
-    let a = all-parts_lem is_clear d q c in
-    let g = all-parts_lem (is_apart e) d q f in
+    let a = all-parts is_clear d q c in
+    let g = all-parts (is_apart e) d q f in
     let r = order_parts d q o in
     rw (arrives (Ieee.lt (filed_under e) (filed_under d)) (place_of (is_later_than (filed_under e)) q) e d q)
     (go (Ieee.lt (filed_under e) (filed_under d)) refl a.0 (apart_parts e d g.0) r (put_order e q k g.1 a.1 r.1))
@@ -125,7 +125,7 @@ put_order e (d ∷ q) k f c o =
     go true l m g r i = and (uncovered (filed_under d) e (clear_number d m) k g.1 (lt_le (filed_under e) (filed_under d) l)) (and r.0 r.1)
     go false l m g r i =
         let up : Ieee.le (filed_under d) (filed_under e) ≡ true = not_lt (filed_under e) (filed_under d) (clear_number e k) (clear_number d m) l in
-        and (before-put_lem (reach_of d) n e q (uncovered (filed_under e) d (clear_number e k) m g.0 up) r.0) i
+        and (before-put (reach_of d) n e q (uncovered (filed_under e) d (clear_number e k) m g.0 up) r.0) i
 
 pub arrived_order : (e : Event) (q : List Event) → is_clear e ≡ true → all (is_apart e) q ≡ true → are_clear q ≡ true → in_order q ≡ true → in_order (arrived e q) ≡ true
 unfolding arrived
@@ -137,14 +137,14 @@ abbrev pub AllUpTo : Float → List Event → Type 0
 AllUpTo t [] = Unit {0}
 AllUpTo t (e ∷ es) = (Ieee.le (filed_under e) t ≡ true) × AllUpTo t es
 
-behind-all_lem : (t : Float) (q : List Event) → AllUpTo t q → place_behind t q ≡ length q
+behind-all : (t : Float) (q : List Event) → AllUpTo t q → place_behind t q ≡ length q
 unfolding place_behind has_not_later
-behind-all_lem t [] h = refl
-behind-all_lem t (e ∷ q) h = rw (h.0, behind-all_lem t q h.1)
+behind-all t [] h = refl
+behind-all t (e ∷ q) h = rw (h.0, behind-all t q h.1)
 
 pub arrives_last : (e : Event) (q : List Event) → AllUpTo (filed_under e) q → arrived e q ≡ q ++ (e ∷ [])
 unfolding arrived put_at
-arrives_last e q h = rw (behind-all_lem (filed_under e) q h, take-length q, drop_of_length-le q {i = length q} (omega arith))
+arrives_last e q h = rw (behind-all (filed_under e) q h, take-length q, drop_of_length-le q {i = length q} (omega arith))
 
 -- ---- the place behind, looked for from the back: the last event decides, or is as if not there
 
@@ -193,10 +193,10 @@ those_pass test (x ∷ xs) = go (test x) refl (those_pass test xs)
     go true e h = (e, h)
     go false e h = h
 
-pub those-all_lem : {A : Type 0} (test : A → Bool) (xs : List A) → AllPass test xs → those test xs ≡ xs
+pub those-all : {A : Type 0} (test : A → Bool) (xs : List A) → AllPass test xs → those test xs ≡ xs
 unfolding those
-those-all_lem test [] h = refl
-those-all_lem test (x ∷ xs) h = rw (h.0, those-all_lem test xs h.1)
+those-all test [] h = refl
+those-all test (x ∷ xs) h = rw (h.0, those-all test xs h.1)
 
 pub cut_rest : {A : Type 0} (test : A → Bool) (xs : List A) → Cut test xs → those test xs ≡ drop (place_of test xs) xs
 unfolding those place_of
@@ -204,7 +204,7 @@ cut_rest test [] h = refl
 cut_rest test (x ∷ xs) h = go (test x) refl (cut_rest test xs h.1)
   where
     go : (b : Bool) → test x ≡ b → those test xs ≡ drop (place_of test xs) xs → cond b (x ∷ those test xs) (those test xs) ≡ drop (cond b 0 (suc (place_of test xs))) (x ∷ xs)
-    go true e k = ap (λ l. x ∷ l) (those-all_lem test xs (h.0 e))
+    go true e k = ap (λ l. x ∷ l) (those-all test xs (h.0 e))
     go false e k = k
 
 module _ {A : Type 0} (keep test : A → Bool) (opposite : (x : A) → keep x ≡ not (test x)) where
@@ -256,7 +256,7 @@ all-up_to : (c : Float) (ws : List Waiting) → is_number c ≡ true → are_cle
 unfolding events_of is_not_later is_later
 all-up_to c [] n k h = tt
 all-up_to c (w ∷ ws) n k h =
-    let a = all-parts_lem is_clear w.event (events_of ws) k in
+    let a = all-parts is_clear w.event (events_of ws) k in
     (not_lt c (filed_under w.event) n (clear_number w.event a.0) (not-true (Ieee.lt c (filed_under w.event)) h.0), all-up_to c ws n a.1 h.1)
 
 module _ (c : Float) (ws : List Waiting) (o : in_order (events_of ws) ≡ true) where

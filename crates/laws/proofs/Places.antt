@@ -61,17 +61,17 @@ fill_a f n sample xs h = ap (λ (r : AutomationRate). filled_at r f n sample xs)
 pub fill_alike : (f : BlockInfos) (n : ℕ) (v : Float) (xs : List Float) → f.rate ≡ Rate.A → filled f n (λ s. v) xs ≡ xs ++ replicate (n - length xs) v
 fill_alike f n v xs h = fill_a f n (λ s. v) xs h ∙ ap (λ (l : List Float). xs ++ l) (run_alike v f.dt (n - length xs) (time_at f (length xs)))
 
-pub flushed-length_lem : (xs : List Float) → length (flushed xs) ≡ length xs
+pub flushed-length : (xs : List Float) → length (flushed xs) ≡ length xs
 unfolding flushed
-flushed-length_lem [] = refl
-flushed-length_lem (x ∷ xs) = ap suc (flushed-length_lem xs)
+flushed-length [] = refl
+flushed-length (x ∷ xs) = ap suc (flushed-length xs)
 
 pub flushed_for-length : (target : Float) (xs : List Float) → length (flushed_for target xs) ≡ length xs
 unfolding flushed_for
 flushed_for-length target xs = go (is_zero target)
   where
     go : (b : Bool) → length (cond b (flushed xs) xs) ≡ length xs
-    go true = flushed-length_lem xs
+    go true = flushed-length xs
     go false = refl
 
 -- ---- how many places are filled: at A-rate at most the count while the walk goes on, and all at its end; at K-rate the block's one value
@@ -90,11 +90,11 @@ unfolding filled_at
 filled_few Rate.A f n sample xs h l = simp (length-append, run_length) (omega arith)
 filled_few Rate.K f n sample xs h l = l
 
-filled-all_lem : (r : AutomationRate) (f : BlockInfos) (sample : Float → Float) (xs : List Float) → FilledSoFar r f.count (length xs)
+filled-all : (r : AutomationRate) (f : BlockInfos) (sample : Float → Float) (xs : List Float) → FilledSoFar r f.count (length xs)
     → FilledAll r f.count (length (filled_at r f f.count sample xs))
 unfolding filled_at
-filled-all_lem Rate.A f sample xs l = simp (length-append, run_length) (omega arith)
-filled-all_lem Rate.K f sample xs l = l
+filled-all Rate.A f sample xs l = simp (length-append, run_length) (omega arith)
+filled-all Rate.K f sample xs l = l
 
 module _ (f : BlockInfos) where
   abbrev SoFar : Walk → Type 0
@@ -125,14 +125,14 @@ module _ (f : BlockInfos) where
       → FilledAll f.rate f.count (length (walked f w ws).walk.values)
   unfolding fill filled with_values
   walk_fills ws w l =
-      walk_keeps f SoFar All kept_so_far (λ w l. filled-all_lem f.rate f (λ s. w.intrinsic) w.values l) ws w l
+      walk_keeps f SoFar All kept_so_far (λ w l. filled-all f.rate f (λ s. w.intrinsic) w.values l) ws w l
 
   -- ---- a block's samples
 
-  spread-all_lem : (r : AutomationRate) (count : ℕ) (xs : List Float) → FilledAll r count (length xs) → length (spread r count xs) ≡ count
+  spread-all : (r : AutomationRate) (count : ℕ) (xs : List Float) → FilledAll r count (length xs) → length (spread r count xs) ≡ count
   unfolding spread
-  spread-all_lem Rate.A count xs h = h
-  spread-all_lem Rate.K count xs h = length-replicate count (first_of xs)
+  spread-all Rate.A count xs h = h
+  spread-all Rate.K count xs h = length-replicate count (first_of xs)
 
   alike : (r : AutomationRate) (count : ℕ) (v : Float) → length (spread r count (replicate count v)) ≡ count
   unfolding spread
@@ -147,4 +147,4 @@ module _ (f : BlockInfos) where
       go true = unfold rendered_as in alike f.rate f.count v
       go false =
           unfold rendered_as in
-          spread-all_lem f.rate f.count _ (walk_fills ws (walk_from v l (values_before f.rate v) 0) (before_few f.rate v))
+          spread-all f.rate f.count _ (walk_fills ws (walk_from v l (values_before f.rate v) 0) (before_few f.rate v))

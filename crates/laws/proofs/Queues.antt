@@ -19,10 +19,10 @@ use Rattle.laws.specs.Sound.{is_taken, is_taken_if_any, is_held_by, is_held_from
 use Rattle.laws.specs.Apart.{is_apart}
 use Rattle.laws.specs.Search.{is_later_than, first_going}
 use Rattle.laws.proofs.Tests.{never, both, and}
-use Rattle.laws.proofs.Results.{taken-parts_lem, taken_number}
+use Rattle.laws.proofs.Results.{taken-parts, taken_number}
 use Rattle.laws.proofs.Order.{le_le, lt_le, not_lt, later_first, later_second, later_up_to}
-use Rattle.laws.proofs.Events.{events_one, events_append, events_take, lengths_append, lengths_split, put-length_lem, put_lengths, runs_no_ramp, held_filed, held_ramp_filed, held-is_ramp, held_size}
-use Rattle.laws.proofs.Clear.{all-parts_lem, all_more, all_last, all_take, all_drop, all-put_lem, finite_due, Span, span_whole, span_before, linear_parts, exponential_parts, target_parts, curve_parts, curve_whole, clear_number}
+use Rattle.laws.proofs.Events.{events_one, events_append, events_take, lengths_append, lengths_split, put-length, put_lengths, runs_no_ramp, held_filed, held_ramp_filed, held-is_ramp, held_size}
+use Rattle.laws.proofs.Clear.{all-parts, all_more, all_last, all_take, all_drop, all-put, finite_due, Span, span_whole, span_before, linear_parts, exponential_parts, target_parts, curve_parts, curve_whole, clear_number}
 use Rattle.laws.proofs.Reach.{end_number, ramp_covers, none_in, free}
 use Rattle.laws.proofs.Ordered.{order_parts, order_take, order_drop, behind_is_first_later, arrived_order, events_cut, AllUpTo, arrives_last, early_up_to, AllPass, those_pass, cancelled_is, early_late}
 
@@ -58,20 +58,20 @@ pub arrived_sound : (e : Event) (q : List Event) → is_clear e ≡ true → all
 unfolding arrived
 arrived_sound e q c f l r s =
     let k : ℕ = place_behind (filed_under e) q in
-    let n : length (put_at k e q) ≡ suc (length q) = put-length_lem k e q in
+    let n : length (put_at k e q) ≡ suc (length q) = put-length k e q in
     let m : lengths_of (put_at k e q) ≡ length_of e + lengths_of q = put_lengths k e q in
     record {
       few = omega arith;
       ordered = unfold arrived in arrived_order e q c f s.clear s.ordered;
-      clear = all-put_lem is_clear k e q c s.clear;
+      clear = all-put is_clear k e q c s.clear;
       room = omega arith;
     }
 
 -- it goes behind all of equal or smaller time, and before all later ones
-pub arrived-behind_lem : (e : Event) (q : List Event) → is_clear e ≡ true → SoundQueue q
+pub arrived-behind : (e : Event) (q : List Event) → is_clear e ≡ true → SoundQueue q
     → arrived e q ≡ those (λ d. not (is_later_than (filed_under e) d)) q ++ (e ∷ those (is_later_than (filed_under e)) q)
 unfolding arrived put_at
-arrived-behind_lem e q c s =
+arrived-behind e q c s =
     let t : Float = filed_under e in
     let cut = events_cut t q s.ordered in
     rw (behind_is_first_later t q (clear_number e c) s.clear s.ordered, cut.0, cut.1)
@@ -108,19 +108,19 @@ unfolding goes_before
 likes_before t p q none h = h
 likes_before t p q (more l ls) h = rw l.filed h
 
-before-sooner_lem : (e d : Event) (q : List Event) → ((t : Float) → Ieee.le (reach_of e) t ≡ true → Ieee.le (reach_of d) t ≡ true) → goes_before (reach_of e) q ≡ true
+before-sooner : (e d : Event) (q : List Event) → ((t : Float) → Ieee.le (reach_of e) t ≡ true → Ieee.le (reach_of d) t ≡ true) → goes_before (reach_of e) q ≡ true
     → goes_before (reach_of d) q ≡ true
 unfolding goes_before
-before-sooner_lem e d [] h k = refl
-before-sooner_lem e d (x ∷ q) h k = h (filed_under x) k
+before-sooner e d [] h k = refl
+before-sooner e d (x ∷ q) h k = h (filed_under x) k
 
 likes_order : (p q : List Event) → Likes p q → are_clear p ≡ true → in_order p ≡ true → in_order q ≡ true
 unfolding in_order
 likes_order p q none c h = h
 likes_order p q (more {e = e} {d = d} {p = p'} {q = q'} l ls) c h =
     let a = order_parts e p' h in
-    let k = all-parts_lem is_clear e p' c in
-    and (likes_before _ p' q' ls (before-sooner_lem e d p' (l.reach k.0) a.0)) (likes_order p' q' ls k.1 a.1)
+    let k = all-parts is_clear e p' c in
+    and (likes_before _ p' q' ls (before-sooner e d p' (l.reach k.0) a.0)) (likes_order p' q' ls k.1 a.1)
 
 same_due : (played : Bool) (e d : Event) → filed_under d ≡ filed_under e → is_due played e ≡ true → is_due played d ≡ true
 unfolding is_due
@@ -130,7 +130,7 @@ same_due played e d f h = rw f h
 likes_all : (test : Event → Bool) → ((e d : Event) → Like e d → test e ≡ true → test d ≡ true) → (p q : List Event) → Likes p q → all test p ≡ true → all test q ≡ true
 likes_all test step p q none h = h
 likes_all test step p q (more {e = e} {d = d} {p = p'} {q = q'} l ls) h =
-    let a = all-parts_lem test e p' h in all_more test d q' (step e d l a.0) (likes_all test step p' q' ls a.1)
+    let a = all-parts test e p' h in all_more test d q' (step e d l a.0) (likes_all test step p' q' ls a.1)
 
 likes_length : (p q : List Event) → Likes p q → length q ≡ length p
 likes_length p q none = refl
@@ -151,19 +151,19 @@ likes_sound p q l s =
     }
 
 module _ (c : Float) (taken : is_taken c ≡ true) where
-  sooner-taken_lem : (h : MaybeTime) → is_taken_if_any h ≡ true → is_taken_if_any (sooner h c) ≡ true
+  sooner-taken : (h : MaybeTime) → is_taken_if_any h ≡ true → is_taken_if_any (sooner h c) ≡ true
   unfolding sooner is_taken_if_any
-  sooner-taken_lem MaybeTime.Missing k = taken
-  sooner-taken_lem (MaybeTime.At t) k = go (Ieee.lt t c)
+  sooner-taken MaybeTime.Missing k = taken
+  sooner-taken (MaybeTime.At t) k = go (Ieee.lt t c)
     where
       go : (b : Bool) → is_taken_if_any (cond b (MaybeTime.At t) (MaybeTime.At c)) ≡ true
       go true = unfold is_taken_if_any in k
       go false = unfold is_taken_if_any in taken
 
-  sooner-held_lem : (t : Float) (h : MaybeTime) → Ieee.le c t ≡ true → is_held_by t h ≡ true → is_held_by t (sooner h c) ≡ true
+  sooner-held : (t : Float) (h : MaybeTime) → Ieee.le c t ≡ true → is_held_by t h ≡ true → is_held_by t (sooner h c) ≡ true
   unfolding sooner is_held_by
-  sooner-held_lem t MaybeTime.Missing l k = l
-  sooner-held_lem t (MaybeTime.At s) l k = go (Ieee.lt s c)
+  sooner-held t MaybeTime.Missing l k = l
+  sooner-held t (MaybeTime.At s) l k = go (Ieee.lt s c)
     where
       go : (b : Bool) → is_held_by t (cond b (MaybeTime.At s) (MaybeTime.At c)) ≡ true
       go true = unfold is_held_by in k
@@ -172,7 +172,7 @@ module _ (c : Float) (taken : is_taken c ≡ true) where
   sooner_span : (t : Float) (h : MaybeTime) → Ieee.le c (hold_or h t) ≡ true → Span t h → is_span t (sooner h c) ≡ true
   sooner_span t h l s =
       let before : Ieee.le c t ≡ true = le_le c (hold_or h t) t l (span_before t h s) in
-      span_whole t (sooner h c) record { time = s.time; hold = sooner-taken_lem h s.hold; before = sooner-held_lem t h before s.before }
+      span_whole t (sooner h c) record { time = s.time; hold = sooner-taken h s.hold; before = sooner-held t h before s.before }
 
   -- a ramp that is held where it is filed under a later time is held before its own
   ramp_clear : (e : Event) → is_ramp e ≡ true → Ieee.le c (filed_under e) ≡ true → is_clear e ≡ true → is_clear (held_event c e) ≡ true
@@ -200,16 +200,16 @@ module _ (c : Float) (taken : is_taken c ≡ true) where
   running_clear (Event.Exponential v t h) r l k = never r
   running_clear (Event.Target v t m h) r l k =
       let a = target_parts v t m h k in
-      unfold is_clear in and a.value (and a.time (and a.constant (sooner-taken_lem h a.hold)))
+      unfold is_clear in and a.value (and a.time (and a.constant (sooner-taken h a.hold)))
   running_clear (Event.Curve s d n h) r l k =
       let a = curve_parts s d n h k in
       curve_whole s d n (sooner h c)
       record {
         start = a.start;
         duration = a.duration;
-        hold = sooner-taken_lem h a.hold;
+        hold = sooner-taken h a.hold;
         from = sooner_from s h l a.from;
-        by = sooner-held_lem (Ieee.add binary64 s d) h (lt_le c (Ieee.add binary64 s d) r) a.by;
+        by = sooner-held (Ieee.add binary64 s d) h (lt_le c (Ieee.add binary64 s d) r) a.by;
         enough = a.enough;
       }
 
@@ -323,7 +323,7 @@ module _ (c : Float) (taken : is_taken c ≡ true) where
     unfolding arrived
     moves_due q e l r o h =
         let k = both (are_due played q) (is_due played e) (rw (all_last (is_due played) q e) at h) in
-        all-put_lem (is_due played) _ (held_event c e) q (finite_due played (held_event c e) (rw (held_ramp_filed c e r l) (taken-parts_lem c taken).0)) k.0
+        all-put (is_due played) _ (held_event c e) q (finite_due played (held_event c e) (rw (held_ramp_filed c e r l) (taken-parts c taken).0)) k.0
 
     pub held_due : (ws : List Waiting) → SoundQueue (events_of ws) → are_due played (events_of ws) ≡ true → are_due played (events_of (held c ws)) ≡ true
     held_due ws s d =

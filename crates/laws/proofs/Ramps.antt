@@ -29,8 +29,8 @@ use Rattle.rules.specs.Block.{Param, Call, infos_of, rests_for, walk_from, value
 use Rattle.laws.specs.Sound.{is_clear, are_clear, Sound}
 use Rattle.laws.proofs.Tests.{never, told}
 use Rattle.laws.proofs.Order.{down_pos, finite_number, number_le, le_not_lt}
-use Rattle.laws.proofs.Results.{taken-parts_lem}
-use Rattle.laws.proofs.Clear.{all-parts_lem, linear_parts, exponential_parts}
+use Rattle.laws.proofs.Results.{taken-parts}
+use Rattle.laws.proofs.Clear.{all-parts, linear_parts, exponential_parts}
 use Rattle.laws.proofs.Walks.{Turns, stops, goes, by_cond, Whatever}
 use Rattle.laws.proofs.Answers.{answer_is}
 
@@ -119,11 +119,11 @@ module _ (p : Param) (sound : Sound p) (u v t : Float) (e : Event) (rest : List 
   clear : is_clear e ≡ true
   clear =
       let all : are_clear (Event.Step u t ∷ e ∷ rest) ≡ true = rw waits at sound.waiting.clear in
-      (all-parts_lem is_clear e rest (all-parts_lem is_clear (Event.Step u t) (e ∷ rest) all).1).0
+      (all-parts is_clear e rest (all-parts is_clear (Event.Step u t) (e ∷ rest) all).1).0
 
   parts : (e : Event) → Ramp (record { time = t; value = u }) v t e → is_clear e ≡ true → (is_finite v ≡ true) × (is_finite t ≡ true)
-  parts e linear h = let a = linear_parts v t MaybeTime.Missing h in (a.0, (taken-parts_lem t a.1.time).0)
-  parts e (exponential r) h = let a = exponential_parts v t MaybeTime.Missing h in (a.0, (taken-parts_lem t a.2.time).0)
+  parts e linear h = let a = linear_parts v t MaybeTime.Missing h in (a.0, (taken-parts t a.1.time).0)
+  parts e (exponential r) h = let a = exponential_parts v t MaybeTime.Missing h in (a.0, (taken-parts t a.2.time).0)
 
   -- the intrinsic value is the ramp's end value, which is a number
   pub ramp_of_no_length : (store : List Float) (c : Call) → verdict_of p store c ≡ Verdict.Answered → (infos_of p.rate c).next ≡ t

@@ -17,7 +17,7 @@ use Rattle.laws.specs.Sound.{is_number, is_taken_if_any, is_clear, reach_of, all
 use Rattle.laws.specs.Apart.{is_apart}
 use Rattle.laws.proofs.Tests.{never, clash, both, and, neither}
 use Rattle.laws.proofs.Order.{le_left, le_right, le_le, lt_le, not_lt, le_lt, le_not_lt, later_number, later_true, later_false, later_first, later_second}
-use Rattle.laws.proofs.Results.{add_number, taken-parts_lem, taken_number}
+use Rattle.laws.proofs.Results.{add_number, taken-parts, taken_number}
 use Rattle.laws.proofs.Clear.{all_more, CurveParts, curve_parts, clear_number}
 
 -- ---- a reach is in the order, at or behind the filed time
@@ -25,7 +25,7 @@ use Rattle.laws.proofs.Clear.{all_more, CurveParts, curve_parts, clear_number}
 -- start + duration, or the hold time
 pub end_number : (s d : Float) (n : ℕ) (h : MaybeTime) → CurveParts s d n h → is_number (curve_end s d h) ≡ true
 unfolding curve_end hold_or is_period is_taken_if_any
-end_number s d n MaybeTime.Missing p = add_number binary64 s d (taken-parts_lem s p.start).0 (both (is_finite d) (is_positive d) p.duration).0
+end_number s d n MaybeTime.Missing p = add_number binary64 s d (taken-parts s p.start).0 (both (is_finite d) (is_positive d) p.duration).0
 end_number s d n (MaybeTime.At c) p = taken_number c p.hold
 
 pub reach_number : (e : Event) → is_clear e ≡ true → is_number (reach_of e) ≡ true
@@ -128,12 +128,12 @@ unfolding is_apart
 apart_parts e d h =
     let a = both (not (covers (filed_under e) d)) (not (covers (filed_under d) e)) h in (not-true _ a.0, not-true _ a.1)
 
-pub apart-whole_lem : (e d : Event) → covers (filed_under e) d ≡ false → covers (filed_under d) e ≡ false → is_apart e d ≡ true
+pub apart-whole : (e d : Event) → covers (filed_under e) d ≡ false → covers (filed_under d) e ≡ false → is_apart e d ≡ true
 unfolding is_apart
-apart-whole_lem e d h k = rw (h, k)
+apart-whole e d h k = rw (h, k)
 
 pub apart_sym : (e d : Event) → is_apart e d ≡ true → is_apart d e ≡ true
-apart_sym e d h = let a = apart_parts e d h in apart-whole_lem d e a.1 a.0
+apart_sym e d h = let a = apart_parts e d h in apart-whole d e a.1 a.0
 
 -- an event of which nothing waiting has the time inside, and which has no waiting one's
 pub free : (e : Event) (q : List Event) → any_covers (filed_under e) q ≡ false → any (λ d. covers (filed_under d) e) q ≡ false → all (is_apart e) q ≡ true
@@ -142,4 +142,4 @@ free e [] h k = refl
 free e (d ∷ q) h k =
     let a = neither (covers (filed_under e) d) _ h in
     let b = neither (covers (filed_under d) e) _ k in
-    all_more (is_apart e) d q (apart-whole_lem e d a.0 b.0) (free e q a.1 b.1)
+    all_more (is_apart e) d q (apart-whole e d a.0 b.0) (free e q a.1 b.1)

@@ -189,12 +189,12 @@ from_zero_number nan h = never h
 from_zero_number (inf s) h = refl
 from_zero_number (fin s m e) h = refl
 
-pub taken-parts_lem : (t : Float) → is_taken t ≡ true → (is_finite t ≡ true) × (is_from_zero t ≡ true)
+pub taken-parts : (t : Float) → is_taken t ≡ true → (is_finite t ≡ true) × (is_from_zero t ≡ true)
 unfolding is_taken
-taken-parts_lem t h = both (is_finite t) (is_from_zero t) h
+taken-parts t h = both (is_finite t) (is_from_zero t) h
 
 pub taken_number : (t : Float) → is_taken t ≡ true → is_number t ≡ true
-taken_number t h = from_zero_number t (taken-parts_lem t h).1
+taken_number t h = from_zero_number t (taken-parts t h).1
 
 -- "a time of −0 .. is taken as 0"
 not_negative : (m : ℕ) (e : ℤ) → is_negative (fin true m e) ≡ false → is_zero (fin true m e) ≡ true

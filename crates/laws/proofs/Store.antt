@@ -26,16 +26,16 @@ use Rattle.laws.proofs.Walks.{Left, same, stepped, turned, snapped, Rest, none, 
 
 -- ---- the numbers of a list
 
-pub numbers-append_lem : (xs ys : List Waiting) → numbers_of (xs ++ ys) ≡ numbers_of xs ++ numbers_of ys
+pub numbers-append : (xs ys : List Waiting) → numbers_of (xs ++ ys) ≡ numbers_of xs ++ numbers_of ys
 unfolding numbers_of
-numbers-append_lem [] ys = refl
-numbers-append_lem (x ∷ xs) ys = rw (numbers-append_lem xs ys) (sym (append_assoc x.numbers (numbers_of xs) (numbers_of ys)))
+numbers-append [] ys = refl
+numbers-append (x ∷ xs) ys = rw (numbers-append xs ys) (sym (append_assoc x.numbers (numbers_of xs) (numbers_of ys)))
 
 -- events that wait with all their numbers
-pub numbers-length_lem : (ws : List Waiting) → AllFit ws → length (numbers_of ws) ≡ lengths_of (events_of ws)
+pub numbers-length : (ws : List Waiting) → AllFit ws → length (numbers_of ws) ≡ lengths_of (events_of ws)
 unfolding numbers_of lengths_of events_of
-numbers-length_lem [] h = refl
-numbers-length_lem (w ∷ ws) h = let n : length (numbers_of ws) ≡ lengths_of (events_of ws) = numbers-length_lem ws h.1 in simp length-append (omega (arith, h.0))
+numbers-length [] h = refl
+numbers-length (w ∷ ws) h = let n : length (numbers_of ws) ≡ lengths_of (events_of ws) = numbers-length ws h.1 in simp length-append (omega (arith, h.0))
 
 pub fit_append : (xs ys : List Waiting) → AllFit xs → AllFit ys → AllFit (xs ++ ys)
 fit_append [] ys f g = g
@@ -54,50 +54,50 @@ fit_drop (suc n) (w ∷ ws) f = fit_drop n ws f.1
 -- the numbers of a part
 module _ (n : ℕ) (ws : List Waiting) (f : AllFit ws) where
   two_parts : numbers_of ws ≡ numbers_of (take n ws) ++ numbers_of (drop n ws)
-  two_parts = sym (ap numbers_of (take-append-drop n ws)) ∙ numbers-append_lem (take n ws) (drop n ws)
+  two_parts = sym (ap numbers_of (take-append-drop n ws)) ∙ numbers-append (take n ws) (drop n ws)
 
   part_length : length (numbers_of (take n ws)) ≡ lengths_of (take n (events_of ws))
-  part_length = numbers-length_lem (take n ws) (fit_take n ws f) ∙ ap lengths_of (events_take n ws)
+  part_length = numbers-length (take n ws) (fit_take n ws f) ∙ ap lengths_of (events_take n ws)
 
-  pub numbers-take_lem : numbers_of (take n ws) ≡ take (lengths_of (take n (events_of ws))) (numbers_of ws)
-  numbers-take_lem = rw two_parts (sym (take_at (numbers_of (take n ws)) (numbers_of (drop n ws)) (lengths_of (take n (events_of ws))) part_length))
+  pub numbers-take : numbers_of (take n ws) ≡ take (lengths_of (take n (events_of ws))) (numbers_of ws)
+  numbers-take = rw two_parts (sym (take_at (numbers_of (take n ws)) (numbers_of (drop n ws)) (lengths_of (take n (events_of ws))) part_length))
 
-  pub numbers-drop_lem : numbers_of (drop n ws) ≡ drop (lengths_of (take n (events_of ws))) (numbers_of ws)
-  numbers-drop_lem = rw two_parts (sym (drop_at (numbers_of (take n ws)) (numbers_of (drop n ws)) (lengths_of (take n (events_of ws))) part_length))
+  pub numbers-drop : numbers_of (drop n ws) ≡ drop (lengths_of (take n (events_of ws))) (numbers_of ws)
+  numbers-drop = rw two_parts (sym (drop_at (numbers_of (take n ws)) (numbers_of (drop n ws)) (lengths_of (take n (events_of ws))) part_length))
 
 -- ---- reading
 
-pub attached-length_lem : (q : List Event) (store : List Float) → length (attached q store) ≡ length q
+pub attached-length : (q : List Event) (store : List Float) → length (attached q store) ≡ length q
 unfolding attached
-attached-length_lem [] store = refl
-attached-length_lem (e ∷ q) store = ap suc (attached-length_lem q (drop (length_of e) store))
+attached-length [] store = refl
+attached-length (e ∷ q) store = ap suc (attached-length q (drop (length_of e) store))
 
-pub attached-append_lem : (p q : List Event) (store : List Float) → attached (p ++ q) store ≡ attached p store ++ attached q (drop (lengths_of p) store)
+pub attached-append : (p q : List Event) (store : List Float) → attached (p ++ q) store ≡ attached p store ++ attached q (drop (lengths_of p) store)
 unfolding attached lengths_of
-attached-append_lem [] q store = refl
-attached-append_lem (e ∷ p) q store = rw (attached-append_lem p q (drop (length_of e) store), drop-drop (lengths_of p) (length_of e) store)
+attached-append [] q store = refl
+attached-append (e ∷ p) q store = rw (attached-append p q (drop (length_of e) store), drop-drop (lengths_of p) (length_of e) store)
 
-pub attached-take_lem : (n : ℕ) (q : List Event) (store : List Float) → attached (take n q) store ≡ take n (attached q store)
+pub attached-take : (n : ℕ) (q : List Event) (store : List Float) → attached (take n q) store ≡ take n (attached q store)
 unfolding attached
-attached-take_lem zero q store = refl
-attached-take_lem (suc n) [] store = refl
-attached-take_lem (suc n) (e ∷ q) store =
+attached-take zero q store = refl
+attached-take (suc n) [] store = refl
+attached-take (suc n) (e ∷ q) store =
     ap
     (λ (l : List Waiting). record { event = e; numbers = take (length_of e) store } ∷ l)
-    (attached-take_lem n q (drop (length_of e) store))
+    (attached-take n q (drop (length_of e) store))
 
 -- an event's numbers begin behind those of the events before it
-pub attached-drop_lem : (n : ℕ) (q : List Event) (store : List Float) → attached (drop n q) (drop (lengths_of (take n q)) store) ≡ drop n (attached q store)
+pub attached-drop : (n : ℕ) (q : List Event) (store : List Float) → attached (drop n q) (drop (lengths_of (take n q)) store) ≡ drop n (attached q store)
 unfolding attached lengths_of
-attached-drop_lem zero q store = refl
-attached-drop_lem (suc n) [] store = refl
-attached-drop_lem (suc n) (e ∷ q) store = rw (← drop-drop (lengths_of (take n q)) (length_of e) store) (attached-drop_lem n q (drop (length_of e) store))
+attached-drop zero q store = refl
+attached-drop (suc n) [] store = refl
+attached-drop (suc n) (e ∷ q) store = rw (← drop-drop (lengths_of (take n q)) (length_of e) store) (attached-drop n q (drop (length_of e) store))
 
 -- the numbers read are the first of the store
-pub numbers-attached_lem : (q : List Event) (store : List Float) → numbers_of (attached q store) ≡ take (lengths_of q) store
+pub numbers-attached : (q : List Event) (store : List Float) → numbers_of (attached q store) ≡ take (lengths_of q) store
 unfolding numbers_of attached lengths_of
-numbers-attached_lem [] store = refl
-numbers-attached_lem (e ∷ q) store = rw (numbers-attached_lem q (drop (length_of e) store), take-add (length_of e) (lengths_of q) store)
+numbers-attached [] store = refl
+numbers-attached (e ∷ q) store = rw (numbers-attached q (drop (length_of e) store), take-add (length_of e) (lengths_of q) store)
 
 -- and every waiting event has its own, where the store is long enough
 pub attached_fits : (q : List Event) (store : List Float) → lengths_of q ≤ length store → AllFit (attached q store)
@@ -106,8 +106,8 @@ attached_fits [] store h = tt
 attached_fits (e ∷ q) store h =
     (length-take-le (length_of e) store (omega arith), attached_fits q (drop (length_of e) store) (rw length-drop (omega arith)))
 
-pub attached-numbers_lem : (q : List Event) (store : List Float) → lengths_of q ≤ length store → length (numbers_of (attached q store)) ≡ lengths_of q
-attached-numbers_lem q store h = rw (numbers-attached_lem q store) (length-take-le (lengths_of q) store h)
+pub attached-numbers : (q : List Event) (store : List Float) → lengths_of q ≤ length store → length (numbers_of (attached q store)) ≡ lengths_of q
+attached-numbers q store h = rw (numbers-attached q store) (length-take-le (lengths_of q) store h)
 
 -- ---- packed, and read back
 
@@ -124,31 +124,31 @@ pub packed_back : (ws : List Waiting) → AllFit ws → attached (events_of ws) 
 unfolding packed
 packed_back ws h = read_back ws h (replicate (store_length - length (numbers_of ws)) plus_zero)
 
-pub packed-length_lem : (ws : List Waiting) → length (numbers_of ws) ≤ store_length → length (packed ws) ≡ store_length
+pub packed-length : (ws : List Waiting) → length (numbers_of ws) ≤ store_length → length (packed ws) ≡ store_length
 unfolding packed
-packed-length_lem ws h = simp (length-append, length-replicate) (omega arith)
+packed-length ws h = simp (length-append, length-replicate) (omega arith)
 
 -- a part of the queue, packed: the store's first numbers, then zeros
-pub packed-attached_lem : (q : List Event) (store : List Float) → lengths_of q ≤ length store
+pub packed-attached : (q : List Event) (store : List Float) → lengths_of q ≤ length store
     → packed (attached q store) ≡ take (lengths_of q) store ++ replicate (store_length - lengths_of q) plus_zero
 unfolding packed
-packed-attached_lem q store h = rw (attached-numbers_lem q store h, numbers-attached_lem q store)
+packed-attached q store h = rw (attached-numbers q store h, numbers-attached q store)
 
 -- ---- an event that has no numbers
 
-pub attached-put_lem : (n : ℕ) (e : Event) (q : List Event) (store : List Float) → length_of e ≡ 0 → attached (put_at n e q) store ≡ put_at n (alone e) (attached q store)
+pub attached-put : (n : ℕ) (e : Event) (q : List Event) (store : List Float) → length_of e ≡ 0 → attached (put_at n e q) store ≡ put_at n (alone e) (attached q store)
 unfolding put_at
-attached-put_lem n e q store z =
-    rw (attached-append_lem (take n q) (e ∷ drop n q) store, attached-take_lem n q store, ← attached-drop_lem n q store)
+attached-put n e q store z =
+    rw (attached-append (take n q) (e ∷ drop n q) store, attached-take n q store, ← attached-drop n q store)
     (ap (λ (l : List Waiting). take n (attached q store) ++ l) (front (drop (lengths_of (take n q)) store)))
   where
     front : (s : List Float) → attached (e ∷ drop n q) s ≡ alone e ∷ attached (drop n q) s
     front s = unfold attached in rw z
 
 -- no other event's numbers move, so the store stays as it is
-pub attached-arrived_lem : (e : Event) (q : List Event) (store : List Float) → length_of e ≡ 0 → attached (arrived e q) store ≡ inserted (alone e) (attached q store)
+pub attached-arrived : (e : Event) (q : List Event) (store : List Float) → length_of e ≡ 0 → attached (arrived e q) store ≡ inserted (alone e) (attached q store)
 unfolding arrived inserted
-attached-arrived_lem e q store z = rw (events_attached q store) (attached-put_lem (place_behind (filed_under e) q) e q store z)
+attached-arrived e q store z = rw (events_attached q store) (attached-put (place_behind (filed_under e) q) e q store z)
 
 -- ---- what the calls leave has its numbers
 
@@ -235,17 +235,17 @@ module _ (c : Float) where
     where
       go : (b : Bool) → holds_ramp c early x ≡ b → numbers_of (cond b (early ++ (held_at c x ∷ [])) (last_held c early)) ≡ numbers_of early
       go true r =
-          numbers-append_lem early (held_at c x ∷ [])
+          numbers-append early (held_at c x ∷ [])
           ∙ unfold numbers_of held_at in (rw (ramp_numbers x f.0 (held_by_ramp c early x r)) (append-nil (numbers_of early)))
       go false r = numbers-last_held early
 
-  pub numbers-held_lem : (ws : List Waiting) → AllFit ws → in_order (events_of ws) ≡ true → numbers_of (held c ws) ≡ numbers_of (take (first_later c (events_of ws)) ws)
-  numbers-held_lem ws f o =
+  pub numbers-held : (ws : List Waiting) → AllFit ws → in_order (events_of ws) ≡ true → numbers_of (held c ws) ≡ numbers_of (take (first_later c (events_of ws)) ws)
+  numbers-held ws f o =
       rw (held_is c ws o) (numbers-held_by (take (first_later c (events_of ws)) ws) (drop (first_later c (events_of ws)) ws) (fit_drop (first_later c (events_of ws)) ws f))
 
-pub numbers-put_lem : (n : ℕ) (w : Waiting) (ws : List Waiting) → numbers_of (put_at n w ws) ≡ numbers_of (take n ws) ++ (w.numbers ++ numbers_of (drop n ws))
+pub numbers-put : (n : ℕ) (w : Waiting) (ws : List Waiting) → numbers_of (put_at n w ws) ≡ numbers_of (take n ws) ++ (w.numbers ++ numbers_of (drop n ws))
 unfolding put_at
-numbers-put_lem n w ws = numbers-append_lem (take n ws) (w ∷ drop n ws) ∙ ap (λ (l : List Float). numbers_of (take n ws) ++ l) first
+numbers-put n w ws = numbers-append (take n ws) (w ∷ drop n ws) ∙ ap (λ (l : List Float). numbers_of (take n ws) ++ l) first
   where
     first : numbers_of (w ∷ drop n ws) ≡ w.numbers ++ numbers_of (drop n ws)
     first = unfold numbers_of in refl
@@ -259,19 +259,19 @@ left_fits f x y n (stepped is) h = refl
 left_fits f x y n (turned is) h = refl
 left_fits f x y n (snapped is free) h = refl
 
-pub left-numbers_lem : (f : BlockInfos) (x y : Waiting) (n : Head) → Left f x n y → Fits x → y.numbers ≡ x.numbers
+pub left-numbers : (f : BlockInfos) (x y : Waiting) (n : Head) → Left f x n y → Fits x → y.numbers ≡ x.numbers
 unfolding length_of
-left-numbers_lem f x y n same h = refl
-left-numbers_lem f x y n (stepped is) h = sym (no_numbers x.numbers (h ∙ ap length_of is))
-left-numbers_lem f x y n (turned is) h = sym (no_numbers x.numbers (h ∙ ap length_of is))
-left-numbers_lem f x y n (snapped is free) h = sym (no_numbers x.numbers (h ∙ ap length_of is))
+left-numbers f x y n same h = refl
+left-numbers f x y n (stepped is) h = sym (no_numbers x.numbers (h ∙ ap length_of is))
+left-numbers f x y n (turned is) h = sym (no_numbers x.numbers (h ∙ ap length_of is))
+left-numbers f x y n (snapped is free) h = sym (no_numbers x.numbers (h ∙ ap length_of is))
 
 -- the numbers left are those of the last events
 pub rest_numbers : (f : BlockInfos) (ws ys : List Waiting) → Rest f ws ys → AllFit ws → numbers_of ys ≡ numbers_of (drop (length ws - length ys) ws)
 rest_numbers f ws ys none h = refl
 rest_numbers f ws ys (here {x = x} {y = y} {xs = xs} l) h =
     let z : suc (length xs) - suc (length xs) ≡ 0 = omega arith in
-    rw z (unfold numbers_of in ap (λ (ns : List Float). ns ++ numbers_of xs) (left-numbers_lem f x y (head_of xs) l h.0))
+    rw z (unfold numbers_of in ap (λ (ns : List Float). ns ++ numbers_of xs) (left-numbers f x y (head_of xs) l h.0))
 rest_numbers f ws ys (later {xs = xs} {ys = zs} r) h =
     let z : suc (length xs) - length zs ≡ suc (length xs - length zs) = omega (arith, rest_length f xs zs r) in
     rw z (rest_numbers f xs zs r h.1)

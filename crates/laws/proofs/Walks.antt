@@ -223,16 +223,16 @@ any : (e : MaybeTime) → IfAny Any e
 any MaybeTime.Missing = tt
 any (MaybeTime.At t) = tt
 
-pub any-timed_lem : (e : Event) → Timed Any e
-any-timed_lem (Event.Step v t) = record { filed = tt; ends = tt }
-any-timed_lem (Event.Linear v t h) = record { filed = tt; ends = tt }
-any-timed_lem (Event.Exponential v t h) = record { filed = tt; ends = tt }
-any-timed_lem (Event.Target v t c h) = record { filed = tt; ends = any h }
-any-timed_lem (Event.Curve s d n h) = record { filed = tt; ends = tt }
+pub any-timed : (e : Event) → Timed Any e
+any-timed (Event.Step v t) = record { filed = tt; ends = tt }
+any-timed (Event.Linear v t h) = record { filed = tt; ends = tt }
+any-timed (Event.Exponential v t h) = record { filed = tt; ends = tt }
+any-timed (Event.Target v t c h) = record { filed = tt; ends = any h }
+any-timed (Event.Curve s d n h) = record { filed = tt; ends = tt }
 
 pub all_any : (ws : List Waiting) → AllTimed Any ws
 all_any [] = tt
-all_any (w ∷ ws) = (any-timed_lem w.event, all_any ws)
+all_any (w ∷ ws) = (any-timed w.event, all_any ws)
 
 -- a fact of a walk that each of a body's doings keeps
 pub record Kept (f : BlockInfos) (P : Walk → Type 0) : Type 1 where
@@ -300,7 +300,7 @@ any_head (Head.Event e) = tt
 
 pub stop_leaves : (f : BlockInfos) (w v : Walk) (x y : Waiting) (n : Head) → turn f w x n ≡ stop v y → Left f x n y
 stop_leaves f w v x y n e =
-    (stopped_of (rw e at (turn_carries f Any Whatever Whatever Whatever Whatever tt (whatever f) x n w (any-timed_lem x.event) (any_head n) tt))).1
+    (stopped_of (rw e at (turn_carries f Any Whatever Whatever Whatever Whatever tt (whatever f) x n w (any-timed x.event) (any_head n) tt))).1
 
 pub walk_leaves : (f : BlockInfos) (ws : List Waiting) (w : Walk) → Rest f ws (walked f w ws).queue
 walk_leaves f ws w = (walk_carries f Any Whatever Whatever Whatever Whatever tt (whatever f) (λ w h. tt) ws (all_any ws) w tt).1
@@ -323,8 +323,8 @@ rest_length f ws ys (later {xs = xs} {ys = zs} r) = omega (arith, rest_length f 
 pub walk_length : (f : BlockInfos) (ws : List Waiting) (w : Walk) → length (walked f w ws).queue ≤ length ws
 walk_length f ws w = rest_length f ws (walked f w ws).queue (walk_leaves f ws w)
 
-pub rendered-length_lem : (f : BlockInfos) (v : Float) (l : LastEvent) (ws : List Waiting) → length (rendered f v l ws).queue ≤ length ws
-rendered-length_lem f v l ws = rest_length f ws (rendered f v l ws).queue (rendered_leaves f v l ws)
+pub rendered-length : (f : BlockInfos) (v : Float) (l : LastEvent) (ws : List Waiting) → length (rendered f v l ws).queue ≤ length ws
+rendered-length f v l ws = rest_length f ws (rendered f v l ws).queue (rendered_leaves f v l ws)
 
 -- behind the head that stayed all wait as before
 pub rest_tail : (f : BlockInfos) (ws ys : List Waiting) → Rest f ws ys → drop 1 ys ≡ drop (suc (length ws - length ys)) ws

@@ -39,36 +39,36 @@ module _ (b : Bounds) (good : are_bounds b ≡ true) where
   span : Ieee.le b.min b.max ≡ true
   span = le_le b.min b.default b.max default_within.above default_within.under
 
-  clamped-within_lem : (x : Float) → is_number x ≡ true → Within b (clamped b x)
+  clamped-within : (x : Float) → is_number x ≡ true → Within b (clamped b x)
   unfolding clamped
-  clamped-within_lem x p = go (Ieee.lt x b.min) (Ieee.lt b.max x) refl refl
+  clamped-within x p = go (Ieee.lt x b.min) (Ieee.lt b.max x) refl refl
     where
       go : (l h : Bool) → Ieee.lt x b.min ≡ l → Ieee.lt b.max x ≡ h → Within b (cond l b.min (cond h b.max x))
       go true h e f = record { above = number_le b.min low; under = span }
       go false true e f = record { above = span; under = number_le b.max high }
       go false false e f = record { above = not_lt x b.min p low e; under = not_lt b.max x high p f }
 
-  pub settled-within_lem : (x : Float) → Within b (settled b x)
+  pub settled-within : (x : Float) → Within b (settled b x)
   unfolding settled
-  settled-within_lem x = go (Ieee.is_nan x) refl
+  settled-within x = go (Ieee.is_nan x) refl
     where
       go : (n : Bool) → Ieee.is_nan x ≡ n → Within b (cond n b.default (clamped b x))
       go true e = default_within
-      go false e = clamped-within_lem x (unfold is_number in rw e)
+      go false e = clamped-within x (unfold is_number in rw e)
 
   -- the current value, too
-  pub mixed-within_lem : (input value : Float) → Within b (mixed b input value)
+  pub mixed-within : (input value : Float) → Within b (mixed b input value)
   unfolding mixed
-  mixed-within_lem input value = settled-within_lem (Ieee.add Ieee.binary32 input value)
+  mixed-within input value = settled-within (Ieee.add Ieee.binary32 input value)
 
-  pub all-within_lem : (is vs : List Float) → AllWithin b (mixed_all b is vs)
+  pub all-within : (is vs : List Float) → AllWithin b (mixed_all b is vs)
   unfolding mixed_all
-  all-within_lem [] vs = tt
-  all-within_lem (i ∷ is) [] = tt
-  all-within_lem (i ∷ is) (v ∷ vs) = (mixed-within_lem i v, all-within_lem is vs)
+  all-within [] vs = tt
+  all-within (i ∷ is) [] = tt
+  all-within (i ∷ is) (v ∷ vs) = (mixed-within i v, all-within is vs)
 
-pub mixed-length_lem : (b : Bounds) (is vs : List Float) → length is ≡ length vs → length (mixed_all b is vs) ≡ length vs
+pub mixed-length : (b : Bounds) (is vs : List Float) → length is ≡ length vs → length (mixed_all b is vs) ≡ length vs
 unfolding mixed_all
-mixed-length_lem b [] vs h = h
-mixed-length_lem b (i ∷ is) [] h = refl
-mixed-length_lem b (i ∷ is) (v ∷ vs) h = ap suc (mixed-length_lem b is vs (omega arith))
+mixed-length b [] vs h = h
+mixed-length b (i ∷ is) [] h = refl
+mixed-length b (i ∷ is) (v ∷ vs) h = ap suc (mixed-length b is vs (omega arith))

@@ -15,7 +15,7 @@ use Rattle.lines.specs.declared.Next.TheVariants as Next
 use Rattle.lines.specs.declared.Taken.{Taken}
 use Rattle.bytes.specs.Bytes.{slice}
 use Rattle.text.proofs.Splitting.{index_le}
-use Rattle.text.proofs.Writing.{length-put_lem}
+use Rattle.text.proofs.Writing.{length-put}
 use Rattle.lines.specs.Lines.{Within, LineIn, line_end, next_of, last_of, is_long, left_of, moved_of}
 
 module _ (buf : List ℕ) (l : Lines) (end : ℕ) (e : end ≡ line_end buf l) where
@@ -97,4 +97,4 @@ left_in buf l w = by_long (is_long buf l)
   where
     by_long : (g : Bool) → Within (cond g buf (put buf 0 (unread buf l))) (cond g (record { from = 0; to = 0; long = true }) (record { from = 0; to = l.to - l.from; long = false }))
     by_long true = record { ordered = omega arith; inside = omega arith }
-    by_long false = record { ordered = omega arith; inside = omega (arith, w.inside, length-put_lem buf 0 (unread buf l) (room_for buf l w)) }
+    by_long false = record { ordered = omega arith; inside = omega (arith, w.inside, length-put buf 0 (unread buf l) (room_for buf l w)) }

@@ -41,6 +41,6 @@ module _ (buf : List ℕ) (l : Lines) (w : Within buf l) {t : Taken} (e : t ≡ 
   none_taken q = (next_in buf l w).4 (subst (λ (x : Taken). x.lines.from ≡ l.from) e q)
 
 -- what is left of the buffer, once there is room behind it
-pub left-within_lem : (buf : List ℕ) (l : Lines) {buf' : List ℕ} {r : Lines} → (r ≡ left_of buf l) × (buf' ≡ moved_of buf l) → Within buf l → Within buf' r
-left-within_lem buf l {buf'} {r} e w =
+pub left-within : (buf : List ℕ) (l : Lines) {buf' : List ℕ} {r : Lines} → (r ≡ left_of buf l) × (buf' ≡ moved_of buf l) → Within buf l → Within buf' r
+left-within buf l {buf'} {r} e w =
     subst (λ (x : List ℕ). Within x r) (sym e.1) (subst (λ (x : Lines). Within (moved_of buf l) x) (sym e.0) (left_in buf l w))

@@ -71,8 +71,8 @@ module _ {p : AudioParam} {store after : List Float} {c : Call} {r : Processed} 
     pub rest_kept : drop c.count output ≡ drop c.count c.output
     rest_kept = rw a.written (output_rest (param_of p) store c fine)
 
-    pub length-kept_lem : length output ≡ length c.output
-    length-kept_lem = rw a.written (output_length (param_of p) store c fine)
+    pub length-kept : length output ≡ length c.output
+    length-kept = rw a.written (output_length (param_of p) store c fine)
 
     -- 02, C-18: a ramp filed at the very time of the step before it, where that time is the block's end, leaves its end value, a number
     pub ramp_of_no_length : SoundParam p → (u v t : Float) (e : Event) (rest : List Event) → (param_of p).queue ≡ Event.Step u t ∷ e ∷ rest

@@ -29,7 +29,7 @@ use Rattle.laws.proofs.Kept.{made_sound}
 use Rattle.timeline.specs.declared.AudioParamEvent.{AudioParamEvent}
 use Rattle.timeline.specs.declared.AudioParamEventTimeline.{AudioParamEventTimeline}
 use Rattle.timeline.specs.Timeline.{slot_of, waiting, made as queue_of}
-use Rattle.timeline.proofs.Laws.{nothing, Filled, filled_more, filled-made_lem}
+use Rattle.timeline.proofs.Laws.{nothing, Filled, filled_more, filled-made}
 use Rattle.param.specs.declared.AudioParam.{AudioParam}
 use Rattle.param.specs.declared.Outcome.{Outcome}
 use Rattle.param.specs.Param.{param_of, struct_of, nothing_made, unmade, parts_of, is_whole, Restores}
@@ -168,7 +168,7 @@ pub took_all : {es : List Event} {played : Bool} {used len : ℕ} {before : Floa
 took_all {es} {played} {i = i} {slots} t e h =
     let all : take i es ≡ es = take_all i es h in (
       sym (and (queue_passes es (rw all at t.sound)) (rw all at t.due)),
-      ap (λ (n : ℕ). record { slots = slots; len = n }) (sym e) ∙ filled-made_lem t.filled ∙ ap queue_of all,
+      ap (λ (n : ℕ). record { slots = slots; len = n }) (sym e) ∙ filled-made t.filled ∙ ap queue_of all,
     )
 
 -- the event in a slot is the next that waits

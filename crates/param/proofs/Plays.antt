@@ -34,7 +34,7 @@ use Rattle.timeline.specs.Heads.{waiting_as, with_head}
 use Rattle.timeline.proofs.Heads.{head_attached}
 use Rattle.timeline.proofs.Laws.{waits_of, neat_of, count}
 use Rattle.curves.specs.Curves.{packed_in, Leaves}
-use Rattle.curves.proofs.Calls.{packed-whole_lem, leaves_replaced}
+use Rattle.curves.proofs.Calls.{packed-whole, leaves_replaced}
 use Rattle.automation.specs.declared.Walked.{Walked}
 use Rattle.automation.specs.Walked.{Walks}
 use Rattle.block.specs.Asked.{Given as FilledFor, Fitting, written}
@@ -119,9 +119,9 @@ walk_given p f part w = rw (ap (λ (x : Rules.Walk). x.values) w.walk) (walk_fil
 pub values_stand : (n : ℕ) (c rest : List Float) → n ≤ length c → take (length (take n c)) (c ++ rest) ≡ take n c
 values_stand n c rest h = rw (length-take-le n c h) (take-append-le n c rest h)
 
-pub behind-same_lem : (b : Bounds) (f : BlockInfos) (input vs c output : List Float) → length c ≡ f.count → written b f input vs (c ++ drop f.count output) ≡ written b f input vs output
+pub behind-same : (b : Bounds) (f : BlockInfos) (input vs c output : List Float) → length c ≡ f.count → written b f input vs (c ++ drop f.count output) ≡ written b f input vs output
 unfolding written
-behind-same_lem b f input vs c output h = rw (drop_at c (drop f.count output) f.count h)
+behind-same b f input vs c output h = rw (drop_at c (drop f.count output) f.count h)
 
 -- ---- the block
 
@@ -194,4 +194,4 @@ module _ (p : AudioParam) (store : List Float) (c : Call) (s : SoundParam p) whe
           (ap (λ (x : Processed). x.current) is-given)
           (rw (← here) (ap (λ (x : Processed). x.one) is-given ∙ g'.one))
           (rw (← done, g'.samples))
-          (rw (← done) (leaves.part ∙ ap (packed_in (length store)) g'.queue ∙ packed-whole_lem store _ asked_for.lent))
+          (rw (← done) (leaves.part ∙ ap (packed_in (length store)) g'.queue ∙ packed-whole store _ asked_for.lent))

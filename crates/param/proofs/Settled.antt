@@ -66,18 +66,18 @@ module _ (p : Param) (store : List Float) {why : Refusal} where
   called_same Verdict.Answered ws i h = let z : ◌≡◌ {A = ℕ} 0 1 = cc in absurd (omega arith)
   called_same (Verdict.Refused r) ws i h = (refl, refl)
 
-  scheduled-same_lem : (v : Verdict) (e : Event) → (scheduled_as v p store e).verdict ≡ Verdict.Refused why → Same p store (scheduled_as v p store e)
+  scheduled-same : (v : Verdict) (e : Event) → (scheduled_as v p store e).verdict ≡ Verdict.Refused why → Same p store (scheduled_as v p store e)
   unfolding scheduled_as
-  scheduled-same_lem Verdict.Answered e h = let z : ◌≡◌ {A = ℕ} 0 1 = cc in absurd (omega arith)
-  scheduled-same_lem (Verdict.Refused r) e h = (refl, refl)
+  scheduled-same Verdict.Answered e h = let z : ◌≡◌ {A = ℕ} 0 1 = cc in absurd (omega arith)
+  scheduled-same (Verdict.Refused r) e h = (refl, refl)
 
   refused_called : (c : Command) → (called p store c).verdict ≡ Verdict.Refused why → Same p store (called p store c)
   unfolding called
-  refused_called (set v) h = scheduled-same_lem _ _ h
-  refused_called (step v t) h = scheduled-same_lem _ _ h
-  refused_called (linear v t) h = scheduled-same_lem _ _ h
-  refused_called (exponential v t) h = scheduled-same_lem _ _ h
-  refused_called (target v t c) h = scheduled-same_lem _ _ h
+  refused_called (set v) h = scheduled-same _ _ h
+  refused_called (step v t) h = scheduled-same _ _ h
+  refused_called (linear v t) h = scheduled-same _ _ h
+  refused_called (exponential v t) h = scheduled-same _ _ h
+  refused_called (target v t c) h = scheduled-same _ _ h
   refused_called (curve t d xs) h = called_same _ _ _ h
   refused_called (cancel c) h = called_same _ _ _ h
   refused_called (hold c) h = called_same _ _ _ h

@@ -22,9 +22,9 @@ use Rattle.rules.specs.Mix.{mixed, first_of as first_in, spread, inputs}
 use Rattle.rules.specs.Walk as rule
 use Rattle.rules.specs.Block.{Call, infos_of, rests_for, walk_from, values_before, rendered_as, rendered, says_one, verdict_of}
 use Rattle.laws.proofs.Places.{samples_count}
-use Rattle.laws.proofs.Within.{mixed-length_lem}
+use Rattle.laws.proofs.Within.{mixed-length}
 use Rattle.laws.proofs.Rows.{ceiling_most}
-use Rattle.laws.proofs.Answers.{inputs-length_lem}
+use Rattle.laws.proofs.Answers.{inputs-length}
 use Rattle.timeline.specs.Timeline.{first_of}
 use Rattle.timeline.specs.Heads.{with_head}
 use Rattle.timeline.proofs.Heads.{head_attached}
@@ -163,13 +163,13 @@ module _ (count place : ℕ) (h : place < count) where
 
 module _ (p : AudioParam) (f : BlockInfos) (input store : List Float) (fits : fits_count input f.count ≡ true) where
   inputs_many : length (inputs f.rate f.count input) ≡ f.count
-  inputs_many = inputs-length_lem f.rate f.count input fits
+  inputs_many = inputs-length f.rate f.count input fits
 
   values_many : length (spread f.rate f.count (block_of p f store).walk.values) ≡ f.count
   values_many = samples_count f (param_of p).intrinsic (param_of p).last (attached (param_of p).queue store)
 
   pub samples_many : length (samples_of p f input store) ≡ f.count
-  samples_many = mixed-length_lem (param_of p).bounds _ _ (inputs_many ∙ sym values_many) ∙ values_many
+  samples_many = mixed-length (param_of p).bounds _ _ (inputs_many ∙ sym values_many) ∙ values_many
 
   pub sample_is : (place : ℕ) → place < f.count → {r : Looked} → Looks p f store place r → {x : Float} → x ≡ get_or (inputs f.rate f.count input) place nan
       → mixed (param_of p).bounds x r.look.found ≡ get_or (samples_of p f input store) place plus_zero
@@ -177,9 +177,9 @@ module _ (p : AudioParam) (f : BlockInfos) (input store : List Float) (fits : fi
       rw (g.found ∙ value_at f.count place h f.rate (block_of p f store).walk.values values_many, e)
       (mixed_at (param_of p).bounds _ _ place (omega (arith, inputs_many)) (omega (arith, values_many)))
 
-  pub all-written_lem : (output : List Float) {out : List Float} → out ≡ over (samples_of p f input store) output
+  pub all-written : (output : List Float) {out : List Float} → out ≡ over (samples_of p f input store) output
       → out ≡ written (param_of p).bounds f input (block_of p f store).walk.values output
-  all-written_lem output o = writes (param_of p).bounds f input (block_of p f store).walk.values output o refl samples_many
+  all-written output o = writes (param_of p).bounds f input (block_of p f store).walk.values output o refl samples_many
 
 -- ---- what the block says and leaves
 

@@ -19,7 +19,7 @@ use Rattle.rules.specs.Walk.{stop, on, turn, turn_of, walked, ended, counted, fi
 use Rattle.laws.specs.Sound.{SoundQueue}
 use Rattle.laws.proofs.Counts.{head_counts}
 use Rattle.laws.proofs.Walks.{stop_leaves}
-use Rattle.laws.proofs.Store.{left-numbers_lem}
+use Rattle.laws.proofs.Store.{left-numbers}
 use Rattle.laws.proofs.Shapes.{walk_empty, walk_stops, walk_goes_on}
 use Rattle.timeline.specs.Timeline.{first_of}
 use Rattle.timeline.specs.Heads.{waiting_as, numbers_at, with_head}
@@ -28,7 +28,7 @@ use Rattle.plain.specs.declared.Look.{Look}
 use Rattle.plain.specs.declared.Turn.{Turn}
 use Rattle.plain.specs.declared.Turn.TheVariants as Turn
 use Rattle.plain.specs.Seen.{filled_of, seen, seen_turn, counted_as, ended_as, Finds}
-use Rattle.plain.proofs.Sees.{fill_passed, fill_other, fill-found_lem, counted_is}
+use Rattle.plain.proofs.Sees.{fill_passed, fill_other, fill-found, counted_is}
 
 -- ---- a turn that is seen to stop, or to go on
 
@@ -72,7 +72,7 @@ module _ (f : BlockInfos) (n : ℕ) (w : rule.Walk) (few : n < f.count) where
       go : (b c : Bool) → leb k n ≡ b → leb f.count k ≡ c → cond b w.intrinsic (get_or w.values n plus_zero) ≡ get_or done.values n plus_zero
       go true c h g =
           let m : k ≤ n = leb-true k n h in
-          value (fill-found_lem f f.count (λ t. w.intrinsic) w n (omega arith) (omega arith) m few)
+          value (fill-found f f.count (λ t. w.intrinsic) w n (omega arith) (omega arith) m few)
       go false true h g = unfold seen in value (fill_passed f f.count (λ t. w.intrinsic) w n (omega arith) (leb-true f.count k g))
       go false false h g = value (fill_other f f.count (λ t. w.intrinsic) w n (omega arith) (leb-false f.count k g) (rw h))
 
@@ -146,7 +146,7 @@ module _ (f : BlockInfos) (es : List Event) (store : List Float) (n : ℕ) (w₀
         head_stops few sound room {s} {left} stops =
             let d = stopped f n _ s left (sym stops ∙ turned) in
             let numbers : d.left.numbers ≡ numbers_at store offset e =
-            left-numbers_lem f head d.left (head_of rest) (stop_leaves f g.walk d.walk head d.left (head_of rest) d.is) (numbered es store at from is sound room).fits in
+            left-numbers f head d.left (head_of rest) (stop_leaves f g.walk d.walk head d.left (head_of rest) d.is) (numbered es store at from is sound room).fits in
             let became : waiting_as left (numbers_at store offset e) ≡ d.left =
             ap (λ (y : Event). waiting_as y (numbers_at store offset e)) d.head_is ∙ ap (waiting_as d.left.event) (sym numbers) in
             let all : walked f w₀ ws ≡ ended f d.walk (d.left ∷ rest) =

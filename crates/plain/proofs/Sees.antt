@@ -81,9 +81,9 @@ module _ (f : BlockInfos) (to : ℕ) (sample : Float → Float) (w : Walk) (n : 
     unfolding filled_of
     so_far = rw r
 
-    seen-filled_lem : {m : ℕ} {v : Float} → length after ≡ m → get_or after n plus_zero ≡ v → seen f n (fill f to sample w) ≡ with m v
+    seen-filled : {m : ℕ} {v : Float} → length after ≡ m → get_or after n plus_zero ≡ v → seen f n (fill f to sample w) ≡ with m v
     unfolding seen fill with_values filled_of
-    seen-filled_lem l g = rw (l, g, r)
+    seen-filled l g = rw (l, g, r)
 
     -- the place is none of those that are filled now
     not_among : (length before ≤ n → to ≤ n) → get_or after n plus_zero ≡ get_or before n plus_zero
@@ -101,7 +101,7 @@ module _ (f : BlockInfos) (to : ℕ) (sample : Float → Float) (w : Walk) (n : 
     unfolding seen
     passed h =
         let all : length after ≡ length before = many ∙ omega arith in
-        seen-filled_lem all (not_among (λ m. omega arith)) ∙ rw so_far
+        seen-filled all (not_among (λ m. omega arith)) ∙ rw so_far
 
   -- all are filled up to there
   pub fill_passed : to ≤ f.count → to ≤ k → seen f n (fill f to sample w) ≡ seen f n w
@@ -124,12 +124,12 @@ module _ (f : BlockInfos) (to : ℕ) (sample : Float → Float) (w : Walk) (n : 
     filled_to = many at_a ∙ omega (arith, so_far at_a)
 
     pub fill_other : (leb k n && ltb n to) ≡ false → seen f n (fill f to sample w) ≡ with to (get_or before n plus_zero)
-    fill_other o = seen-filled_lem at_a filled_to (not_among at_a (λ m. ltb-false n to (rw (le-leb k n (omega (arith, so_far at_a))) at o)))
+    fill_other o = seen-filled at_a filled_to (not_among at_a (λ m. ltb-false n to (rw (le-leb k n (omega (arith, so_far at_a))) at o)))
 
-    pub fill-found_lem : k ≤ n → n < to → seen f n (fill f to sample w) ≡ with to (sample (time_after f.dt (n - k) (time_at f k)))
-    fill-found_lem a b =
+    pub fill-found : k ≤ n → n < to → seen f n (fill f to sample w) ≡ with to (sample (time_after f.dt (n - k) (time_at f k)))
+    fill-found a b =
         rw (so_far at_a)
-        (seen-filled_lem at_a filled_to
+        (seen-filled at_a filled_to
         (ap (λ (l : List Float). get_or l n plus_zero) (is at_a) ∙ behind_at before (behind at_a) n (omega (arith, so_far at_a))
         ∙ run_at sample f.dt (to - length before) (time_at f (length before)) (n - length before) (omega (arith, so_far at_a))))
 
@@ -152,23 +152,23 @@ module _ (f : BlockInfos) (target : Float) (w : Walk) (n : ℕ) where
   found_as v =
       record { infos = f; place = n; found = v; filled = filled_of f.rate f.count (length w.values); intrinsic = w.intrinsic; last = w.last; steps = w.steps }
 
-  seen-flushed_lem : {v : Float} → get_or (flushed_for target w.values) n plus_zero ≡ v → seen f n flushes ≡ found_as v
+  seen-flushed : {v : Float} → get_or (flushed_for target w.values) n plus_zero ≡ v → seen f n flushes ≡ found_as v
   unfolding seen with_values
-  seen-flushed_lem e = rw (e, flushed_for-length target w.values)
+  seen-flushed e = rw (e, flushed_for-length target w.values)
 
   -- the target is 0, and the value subnormal
   pub flush_found : is_zero target ≡ true → is_subnormal value ≡ true → seen f n flushes ≡ found_as plus_zero
   unfolding flushed_for
-  flush_found z s = seen-flushed_lem (rw z (flushed_at w.values n ∙ rw s))
+  flush_found z s = seen-flushed (rw z (flushed_at w.values n ∙ rw s))
 
   -- one of both is not
   pub flush_none : is_zero target ≡ false → seen f n flushes ≡ seen f n w
   unfolding flushed_for seen
-  flush_none z = seen-flushed_lem (rw z)
+  flush_none z = seen-flushed (rw z)
 
   pub flush_other : is_zero target ≡ true → is_subnormal value ≡ false → seen f n flushes ≡ seen f n w
   unfolding flushed_for seen
-  flush_other z s = seen-flushed_lem (rw z (flushed_at w.values n ∙ rw s))
+  flush_other z s = seen-flushed (rw z (flushed_at w.values n ∙ rw s))
 
 -- ---- what a look has of a walk
 

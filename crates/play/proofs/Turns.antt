@@ -62,18 +62,18 @@ module _ (line : List ℕ) {d : Desk} {s : List Float} {l : List ℕ} {r : Answe
 -- ---- what is told
 
 module _ (n : ℕ) (clash : Clash) (answer : List ℕ) where
-  pub told-unread_lem : same_word answer (codes "unread") ≡ true → told n clash answer ≡ not_read n
+  pub told-unread : same_word answer (codes "unread") ≡ true → told n clash answer ≡ not_read n
   unfolding told
-  told-unread_lem e = rw e
+  told-unread e = rw e
 
   module _ (read : same_word answer (codes "unread") ≡ false) where
     pub told_clash : same_word answer (codes "refused 11") ≡ true → told n clash answer ≡ answer ++ clash_text clash
     unfolding told
     told_clash e = rw (read, e)
 
-    pub told-reply_lem : same_word answer (codes "refused 11") ≡ false → told n clash answer ≡ reply answer
+    pub told-reply : same_word answer (codes "refused 11") ≡ false → told n clash answer ≡ reply answer
     unfolding told
-    told-reply_lem e = rw (read, e)
+    told-reply e = rw (read, e)
 
 -- the call that was read runs into what its line runs into
 pub heard_clash : (q : List Event) (o : Option Said) (call : Call) (numbers : List Float) (file : List ℕ) → Heard o call numbers file → clash_of q call ≡ clash_in q o
@@ -101,9 +101,9 @@ module _ (n : ℕ) (line : List ℕ) where
   unfolding read_turn
   read_strict e = rw e
 
-pub spoken-same_lem : {most : ℕ} {turn this : Table → Turn} {d : Desk} {s : List Float} {l : List ℕ} {at : ℕ} {r : Answered} {s' : List Float} {l' : List ℕ}
+pub spoken-same : {most : ℕ} {turn this : Table → Turn} {d : Desk} {s : List Float} {l : List ℕ} {at : ℕ} {r : Answered} {s' : List Float} {l' : List ℕ}
     → turn ≡ this → Spoken most turn d s l at r s' l' → Spoken most this d s l at r s' l'
-spoken-same_lem {most} {turn} {this} {d} {s} {l} {at} {r} {s'} {l'} e v = subst (λ (f : Table → Turn). Spoken most f d s l at r s' l') e v
+spoken-same {most} {turn} {this} {d} {s} {l} {at} {r} {s'} {l'} e v = subst (λ (f : Table → Turn). Spoken most f d s l at r s' l') e v
 
 -- ---- room for it
 

@@ -48,14 +48,14 @@ record Agree (a b : List Waiting) (s t : State) (c : Call) : Type 0 where
   heard : apart (answer_to s c) ≡ apart (answer_to t c)
 
 -- what an answered block says rests, waiting events apart, on the head and on what the walk carried
-heard-same_lem : (p : Param) (c : Call) (ws vs : List Waiting) (l r : Walked) → head_of ws ≡ head_of vs → l.walk ≡ r.walk
+heard-same : (p : Param) (c : Call) (ws vs : List Waiting) (l r : Walked) → head_of ws ≡ head_of vs → l.walk ≡ r.walk
     → apart (answer_of p ws c l) ≡ apart (answer_of p vs c r)
 unfolding answer_of apart
-heard-same_lem p c ws vs l r h w = rw (h, w)
+heard-same p c ws vs l r h w = rw (h, w)
 
-bare-same_lem : (s t : State) (c : Call) → apart (answer_to s c) ≡ apart (answer_to t c) → bare (after s c) ≡ bare (after t c)
+bare-same : (s t : State) (c : Call) → apart (answer_to s c) ≡ apart (answer_to t c) → bare (after s c) ≡ bare (after t c)
 unfolding apart after
-bare-same_lem s t c e = ap (λ (x : Answer). x.param) e
+bare-same s t c e = ap (λ (x : Answer). x.param) e
 
 module _ (a b shared : List Waiting) (s t : State) (h : Beside a b shared s t) (c : Call) where
   answered_agree : verdict_of s.param s.store c ≡ Verdict.Answered → length a + enough ≤ length (after s c).param.queue → Agree a b s t c
@@ -71,12 +71,12 @@ module _ (a b shared : List Waiting) (s t : State) (h : Beside a b shared s t) (
       let k : Alike a b l r = both.0 in
       let x = answered_is s c e in
       let y = answered_is t c d in
-      let said : apart (answer_to s c) ≡ apart (answer_to t c) = rw (x, y, ← h.same, h.first, h.second) (heard-same_lem p c _ _ l r both.1 k.same) in
+      let said : apart (answer_to s c) ≡ apart (answer_to t c) = rw (x, y, ← h.same, h.first, h.second) (heard-same p c _ _ l r both.1 k.same) in
       record {
         shared = k.shared;
         left =
             record {
-              same = bare-same_lem s t c said;
+              same = bare-same s t c said;
               first = left ∙ k.first;
               second = right ∙ k.second;
               sound_first = after_sound s c h.sound_first;

@@ -20,7 +20,7 @@ use Rattle.laws.specs.Sound.{is_number, in_order, Sound}
 use Rattle.laws.specs.Search.{first_going, place_of}
 use Rattle.laws.proofs.Tests.{clash, never}
 use Rattle.laws.proofs.Order.{le_le, lt_le, not_lt, number_le, finite_number, lt_le_lt}
-use Rattle.laws.proofs.Ordered.{AllPass, those_pass, those-all_lem, cancelled_is}
+use Rattle.laws.proofs.Ordered.{AllPass, those_pass, those-all, cancelled_is}
 use Rattle.laws.proofs.Store.{fit_cancelled, packed_back}
 use Rattle.laws.proofs.Rows.{Cancelled, cancel_answered}
 use Rattle.laws.proofs.Cancelled.{cancel_verdict, cancelled_at, cancel_leaves}
@@ -100,7 +100,7 @@ module _ (c d : Float) (l : Ieee.le c d ≡ true) where
 
   earlier_first : (ws : List Waiting) → cancelled d (cancelled c ws) ≡ cancelled c ws
   unfolding cancelled
-  earlier_first ws = those-all_lem (is_before d) (cancelled c ws) (none_goes ws)
+  earlier_first ws = those-all (is_before d) (cancelled c ws) (none_goes ws)
 
   module _ (end : MaybeTime) (last : LastEvent) (v : Float) where
     value_first : (ws : List Waiting) → value_after_cancel d end (cancelled c ws) last v ≡ v
@@ -225,10 +225,10 @@ accepts s t h = go (asked s (cancel t)).verdict h
     go (Verdict.Refused r) k = never (unfold is_answered in k)
 
 -- the earliest is one of them
-earliest-accepted_lem : (s : State) (t : Float) (ts : List Float) → AllPass (accepts_at s) (t ∷ ts) → accepts_at s (earliest t ts) ≡ true
+earliest-accepted : (s : State) (t : Float) (ts : List Float) → AllPass (accepts_at s) (t ∷ ts) → accepts_at s (earliest t ts) ≡ true
 unfolding earliest earlier_of
-earliest-accepted_lem s t [] h = h.0
-earliest-accepted_lem s t (u ∷ ts) h = go (Ieee.lt (earliest u ts) t) (earliest-accepted_lem s u ts h.1)
+earliest-accepted s t [] h = h.0
+earliest-accepted s t (u ∷ ts) h = go (Ieee.lt (earliest u ts) t) (earliest-accepted s u ts h.1)
   where
     go : (x : Bool) → accepts_at s (earliest u ts) ≡ true → accepts_at s (cond x (earliest u ts) t) ≡ true
     go true k = k
@@ -240,7 +240,7 @@ one_more : (s : State) → Sound s.param → (t : Float) (ts : List Float) → A
 unfolding scheduled one_cancel earliest
 one_more s sound t [] h = refl
 one_more s sound t (u ∷ ts) h =
-    (two_are_one s sound t (earliest u ts) (accepts s t h.0) (accepts s (earliest u ts) (earliest-accepted_lem s u ts h.1))).forth
+    (two_are_one s sound t (earliest u ts) (accepts s t h.0) (accepts s (earliest u ts) (earliest-accepted s u ts h.1))).forth
 
 times_stay : (s : State) → Sound s.param → (a : Float) (ts : List Float) → accepted_times (after_call s (cancel a)) ts ≡ accepted_times s ts
 unfolding accepted_times
@@ -276,10 +276,10 @@ heard_in_turn (t ∷ ts) s sound =
 
 -- ---- once more
 
-scheduled-append_lem : (xs ys : List Command) (s : State) → scheduled s (xs ++ ys) ≡ scheduled (scheduled s xs) ys
+scheduled-append : (xs ys : List Command) (s : State) → scheduled s (xs ++ ys) ≡ scheduled (scheduled s xs) ys
 unfolding scheduled
-scheduled-append_lem [] ys s = refl
-scheduled-append_lem (x ∷ xs) ys s = scheduled-append_lem xs ys (after_call s x)
+scheduled-append [] ys s = refl
+scheduled-append (x ∷ xs) ys s = scheduled-append xs ys (after_call s x)
 
 burst_leaves : (ts : List Float) (s : State) → Sound s.param
     → Sound (scheduled s (burst ts)).param × ((us : List Float) → accepted_times (scheduled s (burst ts)) us ≡ accepted_times s us)
@@ -293,7 +293,7 @@ one_again : (s : State) → Sound s.param → (ts : List Float) → AllPass (acc
 unfolding scheduled one_cancel
 one_again s sound [] h = refl
 one_again s sound (t ∷ ts) h =
-    let a : Accepts s (earliest t ts) = accepts s (earliest t ts) (earliest-accepted_lem s t ts h) in
+    let a : Accepts s (earliest t ts) = accepts s (earliest t ts) (earliest-accepted s t ts h) in
     (in_order_lem s sound (earliest t ts) (earliest t ts) a a (number_le (earliest t ts) (time_number s (earliest t ts) a))).0
 
 burst_again : (s : State) → Sound s.param → (ts : List Float) → scheduled s (burst ts ++ burst ts) ≡ scheduled s (burst ts)
@@ -301,7 +301,7 @@ unfolding accepted_times
 burst_again s sound ts =
     let left = burst_leaves ts s sound in
     let one : scheduled s (burst ts) ≡ scheduled s (one_cancel (accepted_times s ts)) = many_are_one ts s sound in
-    scheduled-append_lem (burst ts) (burst ts) s
+    scheduled-append (burst ts) (burst ts) s
     ∙ many_are_one ts (scheduled s (burst ts)) left.0
     ∙ rw (left.1 ts, one) (one_again s sound (accepted_times s ts) (those_pass (accepts_at s) ts))
 

@@ -13,7 +13,7 @@ use Rattle.playing.specs.Demand.{two_wait, while_two_wait, still_shared, resumed
 use Rattle.playing.proofs.States.{bare, SoundState}
 use Rattle.playing.proofs.Blocks.{Beside, turned_round, Together, all_blocks}
 use Rattle.playing.proofs.Schedules.{Ready, begun_ready}
-use Rattle.playing.proofs.Resume.{Twins, tell_the_same, tidied_twin, own_holds, held_twin, once-answered_lem, played-behind_lem}
+use Rattle.playing.proofs.Resume.{Twins, tell_the_same, tidied_twin, own_holds, held_twin, once-answered, played-behind}
 
 -- the blocks while two wait are the first ones
 pub first_blocks : (n : ℕ) (s : State) (all : List Call) → while_two_wait n s all ++ drop (length (while_two_wait n s all)) all ≡ all
@@ -84,13 +84,13 @@ module _ (m : ℕ) (s t : State) (same : bare s ≡ bare t) (sound_first : Sound
         shared = rw n at (shared_is g.left) ∙ sym (rw k at (shared_is (turned_round g.left)));
         later = g.left.first ∙ ap (λ (l : List Waiting). l ++ drop m (waiting s)) (sym (rw n at (shared_is g.left)));
         state = state;
-        whole = λ some. sym (once-answered_lem cs t sound_second some) ∙ state;
+        whole = λ some. sym (once-answered cs t sound_second some) ∙ state;
         sound = sound.sound;
         holds = own_holds (resumed m s t cs) sound;
         rest =
             λ store holds.
             ap (λ (l : List Call). map told (drop (length cs) (played t l))) (sym (first_blocks (behind m s) s all))
-            ∙ ap (map told) (played-behind_lem t cs ds)
+            ∙ ap (map told) (played-behind t cs ds)
             ∙ sym (tell_the_same ds (waiting (after_all t cs)) (tidied (after_all t cs)) (after_all t cs) twin)
             ∙ ap (λ (u : State). map told (played u ds)) state
             ∙ tell_the_same ds (waiting (resumed m s t cs)) (resumed m s t cs) (with_store store (resumed m s t cs)) (held_twin (resumed m s t cs) store sound holds);

@@ -12,7 +12,7 @@ use Rattle.rules.specs.declared.Verdict.TheVariants as Verdict
 use Rattle.rules.specs.Numbers.{store_length}
 use Rattle.rules.specs.Queue.{Waiting, events_of, numbers_of, lengths_of, attached}
 use Rattle.rules.specs.Block.{Param, Call, Answer, with_queue, answered, answered_as, verdict_of}
-use Rattle.laws.proofs.Store.{numbers-length_lem, numbers-attached_lem, attached-numbers_lem, read_back, packed_back, packed-length_lem}
+use Rattle.laws.proofs.Store.{numbers-length, numbers-attached, attached-numbers, read_back, packed_back, packed-length}
 use Rattle.playing.specs.Play.{State, waiting, loaded, tidied, left_by, answer_to, after, after_all, played, store_told, told, is_answered, any_answered}
 use Rattle.playing.specs.Demand.{Holds, with_store}
 use Rattle.playing.proofs.States.{SoundState, waiting_fit, queue_is, answered_is, answered_tidy, refused_leaves, after_sound, by_verdict}
@@ -79,7 +79,7 @@ tidied_twin s h =
       same = refl;
       first = packed_back (waiting s) (waiting_fit s h);
       second = refl;
-      sound_first = record { sound = rw (queue_is s) h.sound; long = packed-length_lem (waiting s) (omega (arith, numbers-length_lem (waiting s) (waiting_fit s h))) };
+      sound_first = record { sound = rw (queue_is s) h.sound; long = packed-length (waiting s) (omega (arith, numbers-length (waiting s) (waiting_fit s h))) };
       sound_second = h;
     }
 
@@ -91,7 +91,7 @@ own_holds s h =
     let long : lengths_of s.param.queue ≤ length s.store = omega (arith, h.sound.waiting.room, h.long) in
     record {
       long = h.long;
-      first = ap (λ (n : ℕ). take n s.store) (attached-numbers_lem s.param.queue s.store long) ∙ sym (numbers-attached_lem s.param.queue s.store);
+      first = ap (λ (n : ℕ). take n s.store) (attached-numbers s.param.queue s.store long) ∙ sym (numbers-attached s.param.queue s.store);
     }
 
 pub held_twin : (s : State) (store : List Float) → SoundState s → Holds (waiting s) store → Twins (waiting s) s (with_store store s)
@@ -120,14 +120,14 @@ all_tidy [] s h tidy = tidy
 all_tidy (c ∷ cs) s h tidy = all_tidy cs (after s c) (after_sound s c h) (after_tidy s h c tidy)
 
 -- and it is so once a block was answered
-pub once-answered_lem : (cs : List Call) (s : State) → SoundState s → any_answered (played s cs) ≡ true → tidied (after_all s cs) ≡ after_all s cs
+pub once-answered : (cs : List Call) (s : State) → SoundState s → any_answered (played s cs) ≡ true → tidied (after_all s cs) ≡ after_all s cs
 unfolding after_all played any_answered answer_to answered answered_as is_answered
-once-answered_lem [] s h some = let z : ◌≡◌ {A = ℕ} 0 1 = cc in absurd (omega arith)
-once-answered_lem (c ∷ cs) s h some =
+once-answered [] s h some = let z : ◌≡◌ {A = ℕ} 0 1 = cc in absurd (omega arith)
+once-answered (c ∷ cs) s h some =
     by_verdict
     (verdict_of s.param s.store c)
     (λ e. all_tidy cs (after s c) (after_sound s c h) (answered_tidy s c e h))
-    (λ why e. once-answered_lem cs (after s c) (after_sound s c h) (rw e at some))
+    (λ why e. once-answered cs (after s c) (after_sound s c h) (rw e at some))
 
 -- ---- the answers to the first blocks, and to those behind them
 
@@ -136,7 +136,7 @@ unfolding played
 played_first s [] ds = refl
 played_first s (c ∷ cs) ds = ap (λ (l : List Answer). answer_to s c ∷ l) (played_first (after s c) cs ds)
 
-pub played-behind_lem : (s : State) (cs ds : List Call) → drop (length cs) (played s (cs ++ ds)) ≡ played (after_all s cs) ds
+pub played-behind : (s : State) (cs ds : List Call) → drop (length cs) (played s (cs ++ ds)) ≡ played (after_all s cs) ds
 unfolding played after_all
-played-behind_lem s [] ds = refl
-played-behind_lem s (c ∷ cs) ds = played-behind_lem (after s c) cs ds
+played-behind s [] ds = refl
+played-behind s (c ∷ cs) ds = played-behind (after s c) cs ds

@@ -22,8 +22,8 @@ use Rattle.rules.specs.Block.{Param, Called, Command, set, step, linear, exponen
 use Rattle.laws.specs.Fits.{AllFit}
 use Rattle.laws.specs.Sound.{Sound}
 use Rattle.laws.specs.Apart.{are_apart}
-use Rattle.laws.proofs.Store.{fit_inserted, fit_cancelled, fit_held, numbers-length_lem, packed-length_lem}
-use Rattle.laws.proofs.Kept.{made-fresh_lem, made_sound, called_sound, called-apart_lem}
+use Rattle.laws.proofs.Store.{fit_inserted, fit_cancelled, fit_held, numbers-length, packed-length}
+use Rattle.laws.proofs.Kept.{made-fresh, made_sound, called_sound, called-apart}
 use Rattle.playing.specs.Play.{State, waiting, begun, asked, left_by_call, after_call, scheduled, accepted_if, accepted, AllAccepted}
 use Rattle.playing.proofs.States.{bare, SoundState, waiting_fit}
 
@@ -69,7 +69,7 @@ module _ (s : State) where
   unfolding scheduled_as called_as
   call_long (plain Verdict.Answered e) h room = h.long
   call_long (plain (Verdict.Refused r) e) h room = h.long
-  call_long (lent Verdict.Answered ws i fit stays) h room = packed-length_lem ws (omega (arith, numbers-length_lem ws (fit h)))
+  call_long (lent Verdict.Answered ws i fit stays) h room = packed-length ws (omega (arith, numbers-length ws (fit h)))
   call_long (lent (Verdict.Refused r) ws i fit stays) h room = h.long
 
   -- a refused call changes nothing
@@ -116,29 +116,29 @@ unfolding begun
 begun_ready b r n store long cs =
     schedule_ready
     (with_queue [] (made b r n))
-    (ap (λ (p : Param). p.last) (made-fresh_lem b r n))
+    (ap (λ (p : Param). p.last) (made-fresh b r n))
     cs
     (begun b r n store)
     record { same = refl; sound = record { sound = made_sound b r n; long = long } }
 
 -- ---- before the first block no event lies inside a curve (02, C-14)
 
-apart-scheduled_lem : (cs : List Command) (s : State) → Sound s.param → are_apart s.param.queue ≡ true → are_apart (scheduled s cs).param.queue ≡ true
+apart-scheduled : (cs : List Command) (s : State) → Sound s.param → are_apart s.param.queue ≡ true → are_apart (scheduled s cs).param.queue ≡ true
 unfolding scheduled after_call asked
-apart-scheduled_lem [] s h a = a
-apart-scheduled_lem (c ∷ cs) s h a = unfold scheduled after_call asked in apart-scheduled_lem cs (after_call s c) (called_sound s.param s.store h c) (called-apart_lem s.param s.store h c a)
+apart-scheduled [] s h a = a
+apart-scheduled (c ∷ cs) s h a = unfold scheduled after_call asked in apart-scheduled cs (after_call s c) (called_sound s.param s.store h c) (called-apart s.param s.store h c a)
 
 pub nothing_inside : (b : Bounds) (r : AutomationRate) (n : ℕ) (store : List Float) (cs : List Command) → are_apart (scheduled (begun b r n store) cs).param.queue ≡ true
 unfolding begun
 nothing_inside b r n store cs =
-    apart-scheduled_lem cs (begun b r n store) (made_sound b r n) (ap (λ (p : Param). are_apart p.queue) (made-fresh_lem b r n) ∙ (unfold are_apart in refl))
+    apart-scheduled cs (begun b r n store) (made_sound b r n) (ap (λ (p : Param). are_apart p.queue) (made-fresh b r n) ∙ (unfold are_apart in refl))
 
 -- ---- a refused call changes nothing, so any calls are a schedule of those that are accepted
 
-pub accepted-alone_lem : (cs : List Command) (s : State) → AllAccepted s (accepted s cs) × (scheduled s (accepted s cs) ≡ scheduled s cs)
+pub accepted-alone : (cs : List Command) (s : State) → AllAccepted s (accepted s cs) × (scheduled s (accepted s cs) ≡ scheduled s cs)
 unfolding accepted scheduled
-accepted-alone_lem [] s = (tt, refl)
-accepted-alone_lem (c ∷ cs) s = go (asked s c).verdict refl (accepted-alone_lem cs (after_call s c))
+accepted-alone [] s = (tt, refl)
+accepted-alone (c ∷ cs) s = go (asked s c).verdict refl (accepted-alone cs (after_call s c))
   where
     more : List Command
     more = accepted (after_call s c) cs

@@ -12,7 +12,7 @@ use Rattle.rules.specs.declared.BlockInfos.{BlockInfos}
 use Rattle.rules.specs.Queue.{Waiting, head_of}
 use Rattle.rules.specs.Walk.{Walk, Walked, Turn, stop, on, turn, next, ended, walked}
 use Rattle.rules.specs.Block.{rests_for, rendered, rendered_as, walk_from, values_before}
-use Rattle.laws.proofs.Walks.{walk_length, rendered-length_lem}
+use Rattle.laws.proofs.Walks.{walk_length, rendered-length}
 use Rattle.playing.specs.Demand.{enough}
 
 -- ---- two outcomes that differ only in what waits behind the shared events
@@ -56,5 +56,5 @@ module _ (a b : List Waiting) (f : BlockInfos) where
         → Alike a b (rendered f v l (s ++ a)) (rendered f v l (s ++ b)) × (head_of (s ++ a) ≡ head_of (s ++ b))
     unfolding rendered head_of
     rendered_alike [] two =
-        let n : length (rendered f v l a).queue ≤ length a = rendered-length_lem f v l a in absurd (omega arith)
+        let n : length (rendered f v l a).queue ≤ length a = rendered-length f v l a in absurd (omega arith)
     rendered_alike (x ∷ s) two = (rendered_alike_as (rests_for f (Head.Event x.event)) (x ∷ s) two, refl)

@@ -73,7 +73,7 @@ pub record PlayedTheSame (m : ℕ) (s t : State) (all cs : List Call) : Type 0 w
 -- ---- two schedules
 
 -- "two complete schedules for one parameter, accepted before the first block, whose first m events in playing order agree, curves included; .. each store lent again
--- as the call before left it". A refused call changes nothing, so any calls are a schedule of those that are accepted (`accepted-alone_lem`): "both
+-- as the call before left it". A refused call changes nothing, so any calls are a schedule of those that are accepted (`accepted-alone`): "both
 -- schedules are now ones accepted under this rule" (02, C-14), since 11 is among the refusals. The stores first lent hold 4,096 numbers each, whatever these are.
 -- "Demand 3 compares two schedules under one edition" (02, C-19): n is its number.
 abbrev pub TwoSchedules : (ℕ → State → State → Type 0) → Type 0

@@ -12,12 +12,12 @@ use Rattle.rules.specs.Kernels.{falling_from}
 use Rattle.powers.specs.Estimates.{product_from, entries}
 
 -- ---- the digits before those of ys are those of a / 2 ^ length ys
-pub falling-append_lem : (xs ys : List ℕ) (a r : ℕ) → falling_from (xs ++ ys) a r ≡ falling_from ys a (falling_from xs (a / 2 ^ length ys) r)
+pub falling-append : (xs ys : List ℕ) (a r : ℕ) → falling_from (xs ++ ys) a r ≡ falling_from ys a (falling_from xs (a / 2 ^ length ys) r)
 unfolding falling_from
-falling-append_lem [] ys a r = refl
-falling-append_lem (x ∷ xs) ys a r =
+falling-append [] ys a r = refl
+falling-append (x ∷ xs) ys a r =
     let e : a / 2 ^ length (xs ++ ys) ≡ a / 2 ^ length ys / 2 ^ length xs = ap (λ (n : ℕ). a / 2 ^ n) (length-append xs ys ∙ add_comm (length xs) (length ys)) ∙ sym (shr-shr a (length ys) (length xs)) in
-    rw (falling_from, e) (falling-append_lem xs ys a (cond (eqb (a / 2 ^ length ys / 2 ^ length xs % 2) 1) (r * x / 2 ^ 32) r))
+    rw (falling_from, e) (falling-append xs ys a (cond (eqb (a / 2 ^ length ys / 2 ^ length xs % 2) 1) (r * x / 2 ^ 32) r))
 
 -- ---- only the last digits matter
 digit : (a n k : ℕ) → k < n → a % 2 ^ n / 2 ^ k % 2 ≡ a / 2 ^ k % 2
@@ -43,7 +43,7 @@ entry_at f zero j i h = absurd (omega arith)
 entry_at f (suc k) j zero h = let e : j + 0 ≡ j = omega arith in rw e
 entry_at f (suc k) j (suc i) h = let e : suc j + i ≡ j + suc i = omega arith in entry_at f k (suc j) i (omega arith) ∙ ap f e
 
-pub entries-length_lem : (f : ℕ → ℕ) (k j : ℕ) → length (entries f k j) ≡ k
+pub entries-length : (f : ℕ → ℕ) (k j : ℕ) → length (entries f k j) ≡ k
 unfolding entries
-entries-length_lem f zero j = refl
-entries-length_lem f (suc k) j = ap suc (entries-length_lem f k (suc j))
+entries-length f zero j = refl
+entries-length f (suc k) j = ap suc (entries-length f k (suc j))

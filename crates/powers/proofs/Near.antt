@@ -13,7 +13,7 @@ use Rattle.rules.specs.Kernels.{table, falling_from, falling}
 use Rattle.kernels.proofs.Powers.{both}
 use Rattle.kernels.proofs.Roots.{table_is}
 use Rattle.powers.specs.Estimates.{product_from, taken_first, taken_off, entries, estimates_from, estimates}
-use Rattle.powers.proofs.Digits.{falling-append_lem, falling_last, product_last, entry_at, entries-length_lem}
+use Rattle.powers.proofs.Digits.{falling-append, falling_last, product_last, entry_at, entries-length}
 
 -- ---- floored at each digit, or not at all
 
@@ -169,7 +169,7 @@ module _ (xs ys zs : List ℕ) (ly : length ys ≡ 8) (lz : length zs ≡ 8) (sy
   by_parts : falling_from (xs ++ (ys ++ zs)) a r ≡ falling_from zs a (falling_from ys (a / 2 ^ 8) (falling_from xs (a / 2 ^ 16) r))
   by_parts =
       let e : length (ys ++ zs) ≡ 16 = length-append ys zs ∙ omega arith in
-      falling-append_lem xs (ys ++ zs) a r ∙ rw (e, falling-append_lem ys zs a (falling_from xs (a / 2 ^ 16) r), lz)
+      falling-append xs (ys ++ zs) a r ∙ rw (e, falling-append ys zs a (falling_from xs (a / 2 ^ 16) r), lz)
 
   module _ (t u e d f : ℕ) (it : t ≡ falling_from xs (a / 2 ^ 16) r) (few : t ≤ 2 ^ 32) (fewer : u ≤ 2 ^ 32) (id : d ≡ taken_off ys (2 ^ 40) (a / 2 ^ 8 % 2 ^ 8)) (iu : u + t * d / 2 ^ 40 ≡ t)
       (if : f ≡ taken_off zs (2 ^ 48) (a % 2 ^ 8)) (ie : e + u * f / 2 ^ 48 ≡ u) where
@@ -273,20 +273,20 @@ at_third = entries (taken_off thirds (2 ^ 48)) 256 0
 module _ (i : ℕ) (h : i < 256) where
   first_entry : get_or estimates i 0 ≡ taken_first table i
   unfolding estimates estimates_from
-  first_entry = get_or-append at_first (at_second ++ at_third) 0 i (subst (λ (n : ℕ). i < n) (sym (entries-length_lem (taken_first table) 256 0)) h) ∙ entry_at (taken_first table) 256 0 i h ∙ ap (taken_first table) (zero-add i)
+  first_entry = get_or-append at_first (at_second ++ at_third) 0 i (subst (λ (n : ℕ). i < n) (sym (entries-length (taken_first table) 256 0)) h) ∙ entry_at (taken_first table) 256 0 i h ∙ ap (taken_first table) (zero-add i)
 
   second_entry : get_or estimates (i + 256) 0 ≡ taken_off seconds (2 ^ 40) i
   unfolding estimates estimates_from
   second_entry =
-      let e : i + 256 ≡ length at_first + i = ap (λ (n : ℕ). i + n) (sym (entries-length_lem (taken_first table) 256 0)) ∙ add_comm i (length at_first) in
+      let e : i + 256 ≡ length at_first + i = ap (λ (n : ℕ). i + n) (sym (entries-length (taken_first table) 256 0)) ∙ add_comm i (length at_first) in
       ap (λ (n : ℕ). get_or (at_first ++ (at_second ++ at_third)) n 0) e ∙ get_or-append-add at_first (at_second ++ at_third) i 0
-      ∙ get_or-append at_second at_third 0 i (subst (λ (n : ℕ). i < n) (sym (entries-length_lem (taken_off seconds (2 ^ 40)) 256 0)) h)
+      ∙ get_or-append at_second at_third 0 i (subst (λ (n : ℕ). i < n) (sym (entries-length (taken_off seconds (2 ^ 40)) 256 0)) h)
       ∙ entry_at (taken_off seconds (2 ^ 40)) 256 0 i h ∙ ap (taken_off seconds (2 ^ 40)) (zero-add i)
 
   third_entry : get_or estimates (i + 512) 0 ≡ taken_off thirds (2 ^ 48) i
   unfolding estimates estimates_from
   third_entry =
-      let e : i + 512 ≡ length at_first + (length at_second + i) = rw (entries-length_lem (taken_first table) 256 0, entries-length_lem (taken_off seconds (2 ^ 40)) 256 0) (omega arith) in
+      let e : i + 512 ≡ length at_first + (length at_second + i) = rw (entries-length (taken_first table) 256 0, entries-length (taken_off seconds (2 ^ 40)) 256 0) (omega arith) in
       ap (λ (n : ℕ). get_or (at_first ++ (at_second ++ at_third)) n 0) e ∙ get_or-append-add at_first (at_second ++ at_third) (length at_second + i) 0
       ∙ get_or-append-add at_second at_third i 0
       ∙ entry_at (taken_off thirds (2 ^ 48)) 256 0 i h ∙ ap (taken_off thirds (2 ^ 48)) (zero-add i)
@@ -314,4 +314,4 @@ later a A =
     let e : length (drop 8 table) ≡ 16 = rw table_is in
     let f : table ≡ firsts ++ drop 8 table = rw table_is in
     ap (falling_from (drop 8 table) a) ((first_left (a / 2 ^ 16) (omega arith)).1 ∙ ap (λ (n : ℕ). falling_from firsts (a / 2 ^ n) (2 ^ 32)) (sym e))
-    ∙ sym (ap (λ (cs : List ℕ). falling_from cs a (2 ^ 32)) f ∙ falling-append_lem firsts (drop 8 table) a (2 ^ 32))
+    ∙ sym (ap (λ (cs : List ℕ). falling_from cs a (2 ^ 32)) f ∙ falling-append firsts (drop 8 table) a (2 ^ 32))

@@ -102,8 +102,8 @@ module _ (k q : ℕ) (lo : 2 ^ 52 ≤ q) (hi : q < 2 ^ 53) where
     inr (mul-le-mul_right (2 ^ 1074) (le_trans (le_of_eq (pow-add 2 52 k)) (mul-le-mul_right (2 ^ k) lo))),
   )
 
-  whole-kept_lem : closest (q * 2 ^ k * 2 ^ 1074) (2 ^ 1074 * 2 ^ k * 2 ^ 29) ≡ closest q (2 ^ 29)
-  whole-kept_lem = exactly (q * 2 ^ k * 2 ^ 1074) (2 ^ 1074 * 2 ^ k) q (mul-pos (pow_pos 1074) (pow_pos k)) (mul_assoc q (2 ^ k) (2 ^ 1074) ∙ ap (λ (y : ℕ). q * y) (mul_comm (2 ^ k) (2 ^ 1074)))
+  whole-kept : closest (q * 2 ^ k * 2 ^ 1074) (2 ^ 1074 * 2 ^ k * 2 ^ 29) ≡ closest q (2 ^ 29)
+  whole-kept = exactly (q * 2 ^ k * 2 ^ 1074) (2 ^ 1074 * 2 ^ k) q (mul-pos (pow_pos 1074) (pow_pos k)) (mul_assoc q (2 ^ k) (2 ^ 1074) ∙ ap (λ (y : ℕ). q * y) (mul_comm (2 ^ k) (2 ^ 1074)))
 
 -- the pattern b by its fields
 bits_fields : (b : ℕ) → b < 2 ^ 64 → 898 * 2 ^ 52 ≤ b % 2 ^ 63 → b % 2 ^ 63 < 1149 * 2 ^ 52
@@ -131,7 +131,7 @@ pub even_law : (x : Float) → T (fits binary64 x) → (b : ℕ) → b ≡ to_bi
 even_law x fit b e B lo hi =
     ap (of_bits binary64) (bits_even s b k q (bits_split b B lo s refl) ∙ ap (λ (y : ℕ). cond s (2 ^ 63) 0 + (k * 2 ^ 52 + y * 2 ^ 29)) (sym (even_cut_lem q)) ∙ ap (λ (y : ℕ). cond s (2 ^ 63) 0 + (y * 2 ^ 52 + closest q (2 ^ 29) * 2 ^ 29)) (sym w.1))
     ∙ twice_round s (q * 2 ^ k) (2 ^ 1074) (k - 896) q (pow_pos 1074) (subst (λ (y : ℕ). Drops 53 (q * 2 ^ k * 2 ^ 1074) (2 ^ 1074) y) (sym w.1) (whole_drops k q q_lo q_hi)) w.2 q_lo (le_of_lt q_hi)
-    (ap (λ (y : ℕ). closest (q * 2 ^ k * 2 ^ 1074) (2 ^ 1074 * 2 ^ y * 2 ^ 29)) w.1 ∙ whole-kept_lem k q q_lo q_hi)
+    (ap (λ (y : ℕ). closest (q * 2 ^ k * 2 ^ 1074) (2 ^ 1074 * 2 ^ y * 2 ^ 29)) w.1 ∙ whole-kept k q q_lo q_hi)
     ∙ sym (narrowed_value x s (q * 2 ^ k) (2 ^ 1074) (pow_pos 1074)
     (subst (λ (v : Float). HasValue v s (q * 2 ^ k) (2 ^ 1074)) (ap (of_bits binary64) e ∙ of_bits-to_bits binary64 x fit) (normal_value binary64 b k (field_lt (b % 2 ^ 63 / 2 ^ 52) hi') w.0)))
   where

@@ -146,8 +146,8 @@ module _ (f : Format) (s t u : Bool) (l m n i j k a b : ℕ) (x y z : Float) (p 
       group : (l m v w : ℕ) → l * v * (m * w) ≡ l * m * (v * w)
       group l m v w = simp (mul_assoc, mul_comm, mul_left_comm)
 
-  pub fused-parts_lem : sum f (unlike s t) (l * m * 2 ^ (i + j)) u (n * 2 ^ (k + a)) (2 ^ (a + b)) ≡ fused f x y z
-  fused-parts_lem =
+  pub fused-parts : sum f (unlike s t) (l * m * 2 ^ (i + j)) u (n * 2 ^ (k + a)) (2 ^ (a + b)) ≡ fused f x y z
+  fused-parts =
       ap (λ (w : ℕ). sum f (unlike s t) (l * m * 2 ^ (i + j)) u (n * 2 ^ (k + a)) w) (pow-add 2 a b)
       ∙ ap (λ (w : ℕ). sum f (unlike s t) w u (n * 2 ^ (k + a)) (2 ^ a * 2 ^ b)) (sym product_is)
       ∙ sym (fused_value f s t u (l * 2 ^ i) (m * 2 ^ j) (n * 2 ^ (k + a)) (2 ^ a) (2 ^ b) (pow_pos a) (pow_pos b) x y z p q third)
@@ -158,8 +158,8 @@ module _ (f : Format) (s t u : Bool) (l m n i j k a b : ℕ) (x y z : Float) (p 
       (product_is ∙ ap (λ (w : ℕ). w * 2 ^ (i + j)) h ∙ zero-mul (2 ^ (i + j)))
 
   -- where the first is a power of two, the product is the second, moved
-  pub fused-power_lem : (d : ℕ) → l * 2 ^ i ≡ 2 ^ d → a ≡ 0 → b ≡ low f → m < 2 ^ prec f → m * 2 ^ (d + j) < 2 ^ (low f + suc (emax f)) → add f (mul f x y) z ≡ fused f x y z
-  fused-power_lem d e o w short under =
+  pub fused-power : (d : ℕ) → l * 2 ^ i ≡ 2 ^ d → a ≡ 0 → b ≡ low f → m < 2 ^ prec f → m * 2 ^ (d + j) < 2 ^ (low f + suc (emax f)) → add f (mul f x y) z ≡ fused f x y z
+  fused-power d e o w short under =
       fused_exact f s t u (l * 2 ^ i) (m * 2 ^ j) (n * 2 ^ (k + a)) (2 ^ a) (2 ^ b) (pow_pos a) (pow_pos b) x y z p q third
       (round_exact f (unlike s t) (l * 2 ^ i * (m * 2 ^ j)) (2 ^ a * 2 ^ b) m (d + j) (mul-pos (pow_pos a) (pow_pos b)) short under
       (ap (λ (v : ℕ). v * (m * 2 ^ j) * 2 ^ low f) e
@@ -176,9 +176,9 @@ pub wide_value : (n : ℕ) → n ≤ 2 ^ 53 → HasValue (wide n) false (n * 2 ^
 unfolding wide of_int
 wide_value n h = subst (λ (a : ℕ). HasValue (round binary64 false n 1) false a 1) (sym (mul-one n)) (round_whole binary64 false n h)
 
-pub wide-held_lem : (n : ℕ) → n ≤ 1024 → T (in_float binary64 (pos n))
+pub wide-held : (n : ℕ) → n ≤ 1024 → T (in_float binary64 (pos n))
 unfolding in_float
-wide-held_lem n h = le→leb n (2 ^ 53) (le_trans h (lit≤ tt))
+wide-held n h = le→leb n (2 ^ 53) (le_trans h (lit≤ tt))
 
 pub wide_finite : (n : ℕ) → n ≤ 2 ^ 53 → finite (wide n) ≡ true
 wide_finite n h = go (wide n) (wide_value n h)
@@ -193,13 +193,13 @@ digits_lt a b m n h k =
     lt_of_le_of_lt (mul-le-mul_right n h) (subst (λ (x : ℕ). 2 ^ a * n < x) (sym (pow-add 2 a b)) (subst (λ (x : ℕ). x < 2 ^ a * 2 ^ b) (mul_comm n (2 ^ a)) (subst (λ (x : ℕ). n * 2 ^ a < x) (mul_comm (2 ^ b) (2 ^ a)) (mul-lt-mul_of_pos_right k (pow_pos a)))))
 
 -- ---- with an operand that is no finite number
-pub fused-left_lem : (f : Format) (x y z : Float) → finite x ≡ false → add f (mul f x y) z ≡ fused f x y z
+pub fused-left : (f : Format) (x y z : Float) → finite x ≡ false → add f (mul f x y) z ≡ fused f x y z
 unfolding fused product mul
-fused-left_lem f nan y z h = refl
-fused-left_lem f (inf s) nan z h = refl
-fused-left_lem f (inf s) (inf t) z h = refl
-fused-left_lem f (inf s) (fin t n d) z h = refl
-fused-left_lem f (fin s m e) y z h = absurd (true≢false h)
+fused-left f nan y z h = refl
+fused-left f (inf s) nan z h = refl
+fused-left f (inf s) (inf t) z h = refl
+fused-left f (inf s) (fin t n d) z h = refl
+fused-left f (fin s m e) y z h = absurd (true≢false h)
 
 pub fused_middle : (f : Format) (x y z : Float) → finite x ≡ true → finite y ≡ false → add f (mul f x y) z ≡ fused f x y z
 unfolding fused product mul

@@ -263,8 +263,8 @@ module _ (start duration time dt : Float) (fits_start : T (fits binary64 start))
   abbrev at : ℕ → Float
   at j = phase_of start duration (after dt j time)
 
-  pub all-within_lem : (bx j d : ℕ) → Spans bx (phase_of start duration time) (at (d + j)) → Within bx (at j)
-  all-within_lem bx j d h =
+  pub all-within : (bx j d : ℕ) → Spans bx (phase_of start duration time) (at (d + j)) → Within bx (at j)
+  all-within bx j d h =
       let S = plain_is start fits_start r.steady.start_plain in
       let D = plain_is duration fits_duration r.steady.duration_plain in
       let A = plain_is time fits_time r.started.time_plain in
@@ -296,7 +296,7 @@ module _ (start duration time dt : Float) (fits_start : T (fits binary64 start))
   sixteen_within bx h i l =
       let e : 15 - i + i ≡ 15 = omega arith in
       let h' : Spans bx (at 0) (at 15) = rw (← run_at (phase_of start duration) dt 16 0 time nan (omega arith), ← run_at (phase_of start duration) dt 16 15 time nan (omega arith)) h in
-      rw (run_at (phase_of start duration) dt 16 i time nan l) (all-within_lem bx i (15 - i) (rw e (first h')))
+      rw (run_at (phase_of start duration) dt 16 i time nan l) (all-within bx i (15 - i) (rw e (first h')))
     where
       first : Spans bx (at 0) (at 15) → Spans bx (phase_of start duration time) (at 15)
       first h = unfold after in h

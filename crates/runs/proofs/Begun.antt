@@ -29,12 +29,12 @@ module _ (start dt : Float) where
       ∙ and_assoc (not (lt t start)) (begun start dt i (add binary64 t dt)) (not (lt (after dt (suc i) t) start))
 
   -- then nothing is held back
-  pub run-begun_lem : (v : Float) (s : Float → Float) (n : ℕ) (t : Float) → begun start dt n t ≡ true → run (from_start start v s) dt n t ≡ run s dt n t
+  pub run-begun : (v : Float) (s : Float → Float) (n : ℕ) (t : Float) → begun start dt n t ≡ true → run (from_start start v s) dt n t ≡ run s dt n t
   unfolding begun run from_start
-  run-begun_lem v s zero t h = refl
-  run-begun_lem v s (suc n) t h =
+  run-begun v s zero t h = refl
+  run-begun v s (suc n) t h =
       let k = both (not (lt t start)) (begun start dt n (add binary64 t dt)) h in
-      ap (λ (x : Float). x ∷ run (from_start start v s) dt n (add binary64 t dt)) (now_on (lt t start) k.0) ∙ ap (λ (l : List Float). s t ∷ l) (run-begun_lem v s n (add binary64 t dt) k.1)
+      ap (λ (x : Float). x ∷ run (from_start start v s) dt n (add binary64 t dt)) (now_on (lt t start) k.0) ∙ ap (λ (l : List Float). s t ∷ l) (run-begun v s n (add binary64 t dt) k.1)
     where
       now_on : (b : Bool) → not b ≡ true → cond b v (s t) ≡ s t
       now_on true h = absurd (true≢false (sym h))
@@ -49,7 +49,7 @@ module _ (P : Float → Type 0) where
   every_at (x ∷ xs) e zero h d = e.0
   every_at (x ∷ xs) e (suc i) h d = every_at xs e.1 i (le_of_suc-le-suc h) d
 
-  pub every-each_lem : (g : Float → Float) (xs : List Float) → ((x : Float) → P (g x)) → every P (each g xs)
+  pub every-each : (g : Float → Float) (xs : List Float) → ((x : Float) → P (g x)) → every P (each g xs)
   unfolding every each
-  every-each_lem g [] h = tt
-  every-each_lem g (x ∷ xs) h = (h x, every-each_lem g xs h)
+  every-each g [] h = tt
+  every-each g (x ∷ xs) h = (h x, every-each g xs h)

@@ -18,10 +18,10 @@ unfolding after
 after_more dt zero i t = let e : 0 + i ≡ i = omega arith in rw e
 after_more dt (suc n) i t = let e : suc n + i ≡ suc (n + i) = omega arith in rw e (ap (λ (u : Float). add binary64 u dt) (after_more dt n i t))
 
-pub run-same_lem : (f g : Float → Float) (dt : Float) (n : ℕ) (t : Float) → ((i : ℕ) → i < n → f (after dt i t) ≡ g (after dt i t)) → run f dt n t ≡ run g dt n t
+pub run-same : (f g : Float → Float) (dt : Float) (n : ℕ) (t : Float) → ((i : ℕ) → i < n → f (after dt i t) ≡ g (after dt i t)) → run f dt n t ≡ run g dt n t
 unfolding run after
-run-same_lem f g dt zero t h = refl
-run-same_lem f g dt (suc n) t h = λ j. h 0 (omega arith) j ∷ run-same_lem f g dt n (add binary64 t dt) (λ i l. rw (after_first dt i t) (h (suc i) (omega arith))) j
+run-same f g dt zero t h = refl
+run-same f g dt (suc n) t h = λ j. h 0 (omega arith) j ∷ run-same f g dt n (add binary64 t dt) (λ i l. rw (after_first dt i t) (h (suc i) (omega arith))) j
 
 module _ (s : Float → Float) (dt : Float) where
   pub run_length : (i : ℕ) (t : Float) → length (run s dt i t) ≡ i
@@ -60,8 +60,8 @@ module _ (s : Float → Float) (dt : Float) where
     unfolding run after
     none_filled o = record { within = omega arith; next = refl; places = refl }
 
-    pub filled-length_lem : {o₀ o : List Float} {i : ℕ} {t : Float} → Filled o₀ o i t → length o ≡ length o₀
-    filled-length_lem {o₀} {o} {i} {t} f =
+    pub filled-length : {o₀ o : List Float} {i : ℕ} {t : Float} → Filled o₀ o i t → length o ≡ length o₀
+    filled-length {o₀} {o} {i} {t} f =
         let w = f.within in
         ap length f.places ∙ length-append (run s dt i time) (drop i o₀) ∙ rw (run_length i time, length-drop i o₀) (omega arith)
 
@@ -94,13 +94,13 @@ module _ (s : Float → Float) (dt : Float) where
     pub rest_filled : {o₀ o : List Float} {i : ℕ} {t : Float} → Filled o₀ o i t → (p : List Float) → p ≡ run s dt (length (mid_of i (length o - i) o)) t
         → Filled o₀ (put_mid i (length o - i) o p) (i + (length o - i)) (after dt (length o - i) t)
     rest_filled {o₀} {o} {i} {t} f p e =
-        let k = filled-length_lem f in
+        let k = filled-length f in
         let w = f.within in
         let within : i ≤ length o = omega arith in
         some_more f (length o - i) (omega arith) p (e ∙ rw (mid_len i (length o) o (omega arith)))
 
-    pub all-filled_lem : {o₀ o : List Float} {i : ℕ} {t : Float} → Filled o₀ o i t → length o₀ ≤ i → o ≡ run s dt (length o₀) time
-    all-filled_lem {o₀} {o} {i} {t} f h =
+    pub all-filled : {o₀ o : List Float} {i : ℕ} {t : Float} → Filled o₀ o i t → length o₀ ≤ i → o ≡ run s dt (length o₀) time
+    all-filled {o₀} {o} {i} {t} f h =
         let w = f.within in
         let e : i ≡ length o₀ = omega arith in
         f.places ∙ rw (e, drop-length o₀) (append-nil (run s dt (length o₀) time))

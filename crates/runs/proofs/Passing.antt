@@ -53,15 +53,15 @@ module _ (f : Float → Float) where
   each_last (x ∷ xs) zero h d = refl
   each_last (x ∷ xs) (suc i) h d = ap (λ (l : List Float). f x ∷ l) (each_last xs i (le_of_suc-le-suc h) d)
 
-  pub each-run_lem : (g : Float → Float) (dt : Float) (n : ℕ) (t : Float) → each f (run g dt n t) ≡ run (λ u. f (g u)) dt n t
+  pub each-run : (g : Float → Float) (dt : Float) (n : ℕ) (t : Float) → each f (run g dt n t) ≡ run (λ u. f (g u)) dt n t
   unfolding each run
-  each-run_lem g dt zero t = refl
-  each-run_lem g dt (suc n) t = ap (λ (l : List Float). f (g t) ∷ l) (each-run_lem g dt n (add binary64 t dt))
+  each-run g dt zero t = refl
+  each-run g dt (suc n) t = ap (λ (l : List Float). f (g t) ∷ l) (each-run g dt n (add binary64 t dt))
 
-  pub each-length_lem : (xs : List Float) → length (each f xs) ≡ length xs
+  pub each-length : (xs : List Float) → length (each f xs) ≡ length xs
   unfolding each
-  each-length_lem [] = refl
-  each-length_lem (x ∷ xs) = ap suc (each-length_lem xs)
+  each-length [] = refl
+  each-length (x ∷ xs) = ap suc (each-length xs)
 
   pub each_at : (xs : List Float) (i : ℕ) (d : Float) → i < length xs → get_or (each f xs) i d ≡ f (get_or xs i d)
   unfolding each
@@ -69,10 +69,10 @@ module _ (f : Float → Float) where
   each_at (x ∷ xs) zero d h = refl
   each_at (x ∷ xs) (suc i) d h = each_at xs i d (le_of_suc-le-suc h)
 
-  pub each-each_lem : (g : Float → Float) (xs : List Float) → each f (each g xs) ≡ each (λ x. f (g x)) xs
+  pub each-each : (g : Float → Float) (xs : List Float) → each f (each g xs) ≡ each (λ x. f (g x)) xs
   unfolding each
-  each-each_lem g [] = refl
-  each-each_lem g (x ∷ xs) = ap (λ (l : List Float). f (g x) ∷ l) (each-each_lem g xs)
+  each-each g [] = refl
+  each-each g (x ∷ xs) = ap (λ (l : List Float). f (g x) ∷ l) (each-each g xs)
 
   pub each_same : (g : Float → Float) (xs : List Float) → ((i : ℕ) → i < length xs → f (get_or xs i nan) ≡ g (get_or xs i nan)) → each f xs ≡ each g xs
   unfolding each
@@ -90,10 +90,10 @@ module _ (f : Float → Float → Float) (dt : Float) where
   timed_last (x ∷ xs) (suc i) t h d =
       ap (λ (l : List Float). f t x ∷ l) (timed_last xs i (add binary64 t dt) (le_of_suc-le-suc h) d ∙ rw (after_first dt i t))
 
-  pub timed-run_lem : (g : Float → Float) (n : ℕ) (t : Float) → timed f dt (run g dt n t) t ≡ run (λ u. f u (g u)) dt n t
+  pub timed-run : (g : Float → Float) (n : ℕ) (t : Float) → timed f dt (run g dt n t) t ≡ run (λ u. f u (g u)) dt n t
   unfolding timed run
-  timed-run_lem g zero t = refl
-  timed-run_lem g (suc n) t = ap (λ (l : List Float). f t (g t) ∷ l) (timed-run_lem g n (add binary64 t dt))
+  timed-run g zero t = refl
+  timed-run g (suc n) t = ap (λ (l : List Float). f t (g t) ∷ l) (timed-run g n (add binary64 t dt))
 
 -- ---- the first n of an array z, lent to a first pass and read by the second
 

@@ -10,7 +10,7 @@ use Rattle.rules.specs.Samples.{log2e, decay_of}
 use Rattle.rounding_laws.specs.Parts.{Parted}
 use Rattle.rounding_laws.proofs.Parts.{parted}
 use Rattle.rounding_laws.proofs.Wide.{add_no_nan}
-use Rattle.samples.proofs.Fading.{decay-left_lem}
+use Rattle.samples.proofs.Fading.{decay-left}
 use Rattle.phases.specs.Patterns.{Lifted}
 use Rattle.phases.proofs.Quick.{bits, lifts, whole_lifted}
 use Rattle.decays.specs.Told.{steps_in}
@@ -203,7 +203,7 @@ module _ (few : ℕ) (x : Float) (h : few ≤ 124) where
         record {
           lo = l;
           hi = small (bits v) l (lt_of_le_of_lt (le_of_eq e) whole_less);
-          factor = ap (λ (k : ℕ). narrowed (decay_of k)) e ∙ decay-left_lem y (near top (limit * 2 ^ 1074) top_is (mul-le-mul_right (2 ^ 1074) limit_most) y n found.1 less);
+          factor = ap (λ (k : ℕ). narrowed (decay_of k)) e ∙ decay-left y (near top (limit * 2 ^ 1074) top_is (mul-le-mul_right (2 ^ 1074) limit_most) y n found.1 less);
         }
       where
         small : (b : ℕ) → 2115 * 2 ^ 51 ≤ b → (b - 2115 * 2 ^ 51) / 2 ^ 18 < (few + 1) * 2 ^ 24 → b < 2115 * 2 ^ 51 + (few + 1) * 2 ^ 42

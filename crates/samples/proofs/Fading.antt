@@ -22,6 +22,6 @@ module _ (y : Float) where
     unfolding whole_part
     steps_few = omega (arith, scaled_le y h)
 
-    pub decay-left_lem : narrowed (decay_of (whole_part (mul binary64 y (fin false 1 (pos 24))))) ≡ decay y
+    pub decay-left : narrowed (decay_of (whole_part (mul binary64 y (fin false 1 (pos 24))))) ≡ decay y
     unfolding decay wide of_int
-    decay-left_lem = rw h
+    decay-left = rw h

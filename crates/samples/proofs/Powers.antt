@@ -20,15 +20,15 @@ eq_or_above : (n : ℕ) → (n ≡ 0) ⊎ (0 < n)
 eq_or_above zero = inl refl
 eq_or_above (suc n) = inr (omega arith)
 
-whole-turn_lem : (q : ℤ) (f : ℕ) → f ≡ 0 → power_of q f ≡ fin false 1 q
+whole-turn : (q : ℤ) (f : ℕ) → f ≡ 0 → power_of q f ≡ fin false 1 q
 unfolding power_of
-whole-turn_lem q zero e = refl
-whole-turn_lem q (suc f) e = absurd (omega arith)
+whole-turn q zero e = refl
+whole-turn q (suc f) e = absurd (omega arith)
 
-pub part-turn_lem : (q : ℤ) (f : ℕ) → 0 < f → power_of q f ≡ fin false (falling (parts - f)) (q +ℤ negsuc 30)
+pub part-turn : (q : ℤ) (f : ℕ) → 0 < f → power_of q f ≡ fin false (falling (parts - f)) (q +ℤ negsuc 30)
 unfolding power_of
-part-turn_lem q zero h = absurd (omega arith)
-part-turn_lem q (suc f) h = refl
+part-turn q zero h = absurd (omega arith)
+part-turn q (suc f) h = refl
 
 held_at_lem : (m a b : ℕ) → held (fin false m (sub_ℕ a b)) ≡ round binary64 false (m * 2 ^ a) (2 ^ b)
 unfolding held
@@ -49,11 +49,11 @@ module _ (n : ℕ) where
 
     pub rise_whole : n % parts ≡ 0 → round binary64 false (1 * 2 ^ (n / parts + 1139)) (2 ^ 1139) ≡ held (power (pos n))
     unfolding held
-    rise_whole e = rw (near_up, whole-turn_lem (pos (n / parts)) (n % parts) e) (moved binary64 false 1 (n / parts + 1139) 1139 (n / parts) 0 (omega arith))
+    rise_whole e = rw (near_up, whole-turn (pos (n / parts)) (n % parts) e) (moved binary64 false 1 (n / parts + 1139) 1139 (n / parts) 0 (omega arith))
 
     pub rise_part : 0 < n % parts → round binary64 false (falling (parts - n % parts) * 2 ^ (n / parts + 1108)) (2 ^ 1139) ≡ held (power (pos n))
     rise_part e =
-        rw (near_up, part-turn_lem (pos (n / parts)) (n % parts) e)
+        rw (near_up, part-turn (pos (n / parts)) (n % parts) e)
         (moved binary64 false (falling (parts - n % parts)) (n / parts + 1108) 1139 (n / parts) 31 (omega arith) ∙ sym (held_at_lem (falling (parts - n % parts)) (n / parts) 31))
 
 -- ---- P from 0 down
@@ -86,14 +86,14 @@ module _ (p : ℕ) where
     fell_whole e =
         let a : suc p % parts ≡ 0 = omega arith in
         let b : suc p / parts ≡ suc q = omega arith in
-        rw (near_down, whole-turn_lem (negsuc q) f e, a, b) (none_turn (suc q) (omega arith))
+        rw (near_down, whole-turn (negsuc q) f e, a, b) (none_turn (suc q) (omega arith))
 
     fell_part : 0 < f → round binary64 false (falling (suc p % parts) * 2 ^ (1107 - suc p / parts)) (2 ^ 1139) ≡ held (power (negsuc p))
     unfolding held
     fell_part e =
         let a : parts - f ≡ suc p % parts = omega arith in
         let b : suc p / parts ≡ q = omega arith in
-        rw (near_down, part-turn_lem (negsuc q) f e, a, b) (moved binary64 false (falling (suc p % parts)) (1107 - q) 1139 0 (suc (suc (q + 30))) (omega arith))
+        rw (near_down, part-turn (negsuc q) f e, a, b) (moved binary64 false (falling (suc p % parts)) (1107 - q) 1139 0 (suc (suc (q + 30))) (omega arith))
 
     fell : round binary64 false (falling (suc p % parts) * 2 ^ (1107 - suc p / parts)) (2 ^ 1139) ≡ held (power (negsuc p))
     fell = ⊎_elim fell_whole fell_part (eq_or_above f)

@@ -7,7 +7,7 @@ use lib.ListN.{length}
 use lib.Ieee.{Float}
 use Rattle.rules.specs.Block.{Param}
 use Rattle.costs.specs.declared.Totals.{Totals}
-use Rattle.text.proofs.Writing.{put-nothing_lem, put_same, put_then}
+use Rattle.text.proofs.Writing.{put-nothing, put_same, put_then}
 use Rattle.param.specs.Param.{param_of, struct_of}
 use Rattle.param.proofs.Calls.{struct_back}
 use Rattle.lines.specs.declared.Lines.{Lines}
@@ -28,14 +28,14 @@ by_next input {d = d} {s} {l} {at} {r} {s'} {l'} e spoken = subst (λ (n : Next)
 
 -- ---- one thing said behind another
 
-same-table_lem : {p q : Param} {n m : ℕ} {s t : List Float} {a b : Totals} → p ≡ q → n ≡ m → s ≡ t → a ≡ b
+same-table : {p q : Param} {n m : ℕ} {s t : List Float} {a b : Totals} → p ≡ q → n ≡ m → s ≡ t → a ≡ b
     → ◌≡◌ {A = Table} (record { param = p; lent = n; store = s; totals = a }) (record { param = q; lent = m; store = t; totals = b })
-same-table_lem e f g h = rw (e, f, g, h)
+same-table e f g h = rw (e, f, g, h)
 
 -- what is at hand once it is said
 said_table : {most : ℕ} {turn : Table → Turn} {d : Desk} {s : List Float} {l : List ℕ} {at : ℕ} {r : Answered} {s' : List Float} {l' : List ℕ}
     → Spoken most turn d s l at r s' l' → table_of r.desk s' ≡ (turn (table_of d s)).table
-said_table k = same-table_lem (ap param_of k.param ∙ struct_back _) k.lent k.store k.totals
+said_table k = same-table (ap param_of k.param ∙ struct_back _) k.lent k.store k.totals
 
 then_said : {m n : ℕ} (most : ℕ) {f g : Table → Turn} {d : Desk} {s s₁ s' : List Float} {l l₁ l' : List ℕ} {at : ℕ} {r r' : Answered}
     → Spoken m f d s l at r s₁ l₁ → Spoken n g r.desk s₁ l₁ r.next r' s' l' → r.next ≤ length l → r'.next ≤ at + most → Spoken most (and_then f g) d s l at r' s' l'
@@ -57,7 +57,7 @@ then_said most {g = g} a b h near =
 pub none_answered : (input : List ℕ) (d : Desk) (l : Lines) (n : ℕ) (store : List Float) (out : List ℕ) → SoundDesk d → Through input d l n store out d l n store out
 unfolding lines_turn lines_left
 none_answered input d l n store out ok =
-    record { count = 0; spoken = said _ _ _ d.lent _ _ ok refl ok.lent refl (put-nothing_lem _ _) (omega arith); left = refl }
+    record { count = 0; spoken = said _ _ _ d.lent _ _ ok refl ok.lent refl (put-nothing _ _) (omega arith); left = refl }
 
 pub one_answered : {input : List ℕ} {d d₁ : Desk} {l l₁ : Lines} {n n₁ : ℕ} {s s₁ s' : List Float} {out out₁ out' : List ℕ} {t : Taken} {r : Answered}
     → Through input d l n s out d₁ l₁ n₁ s₁ out₁ → t ≡ next_of input l₁ → Spoken 42000 (next_turn input t.next) d₁ s₁ out₁ n₁ r s' out'

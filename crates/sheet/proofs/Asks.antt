@@ -73,9 +73,9 @@ module _ {p : AudioParam} {s : List Float} {c : Call} where
 -- ---- a row's calls
 
 -- a call behind others, by what these leave
-pub after-calls_lem : {p : AudioParam} {q : Param} {s t after : List Float} {c : Call} {r : Outcome} → Applies p s c r after → param_of p ≡ q → s ≡ t
+pub after-calls : {p : AudioParam} {q : Param} {s t after : List Float} {c : Call} {r : Outcome} → Applies p s c r after → param_of p ≡ q → s ≡ t
     → (param_of r.param ≡ (applied q t c).param) × (after ≡ (applied q t c).store)
-after-calls_lem {c = c} a here there =
+after-calls {c = c} a here there =
     (ap param_of a.param ∙ struct_back _ ∙ ap₂ (λ (x : Param) (y : List Float). (applied x y c).param) here there, a.left ∙ ap₂ (λ (x : Param) (y : List Float). (applied x y c).store) here there)
 
 module _ {row : Row} {s s₁ s₂ s₃ : List Float} {m r₁ r₂ r₃ : Outcome} where
@@ -84,7 +84,7 @@ module _ {row : Row} {s s₁ s₂ s₃ : List Float} {m r₁ r₂ r₃ : Outcome
   unfolding set_up
   sets_up as-made a b c =
       let p₀ : param_of m.param ≡ made row.bounds row.rate 1 = ap param_of as-made.param ∙ struct_back _ in
-      let one = after-calls_lem a p₀ refl in
-      let two = after-calls_lem b one.0 one.1 in
-      let three = after-calls_lem c two.0 two.1 in
+      let one = after-calls a p₀ refl in
+      let two = after-calls b one.0 one.1 in
+      let three = after-calls c two.0 two.1 in
       record { param = whole _ c.sound ∙ ap struct_of three.0; left = three.1; sound = c.sound }

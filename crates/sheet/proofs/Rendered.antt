@@ -13,7 +13,7 @@ use Rattle.param.proofs.Calls.{struct_back}
 use Rattle.sheet.specs.declared.Row.{Row}
 use Rattle.sheet.specs.Rows.{n0, n4}
 use Rattle.sheet.specs.Played.{n1, input_of, set_up, first_block, second_block, Applies, SetsUp, Says, PlaysRow}
-use Rattle.sheet.proofs.Asks.{after-calls_lem}
+use Rattle.sheet.proofs.Asks.{after-calls}
 
 -- a block behind calls, by what these leave
 module _ {p : AudioParam} {q : Param} {s t output after : List Float} {c : Call} {r : Processed} (b : Processes p s c r output after) (here : param_of p ≡ q) (there : s ≡ t) where
@@ -44,5 +44,5 @@ module _ {row : Row} {s s₁ s₂ s₃ s₄ output output' later later' : List F
   unfolding first_block second_block
   plays_row a b₁ c b₂ =
       let made : param_of p ≡ (set_up row s).param = ap param_of a.param ∙ struct_back _ in
-      let called = after-calls_lem c (carries b₁ made a.left) (leaves b₁ made a.left) in
+      let called = after-calls c (carries b₁ made a.left) (leaves b₁ made a.left) in
       record { first = says b₁ made a.left; second = says b₂ called.0 called.1; left = leaves b₂ called.0 called.1 }

@@ -36,8 +36,8 @@ capped_or P n below full = go (leb n largest) refl
     go true e = below (leb-true n largest e)
     go false e = full (omega (arith, leb-false n largest e))
 
-pub capped-plus_lem : (a b : ℕ) → capped (capped a + b) ≡ capped (a + b)
-capped-plus_lem a b =
+pub capped-plus : (a b : ℕ) → capped (capped a + b) ≡ capped (a + b)
+capped-plus a b =
     capped_or (λ (n : ℕ). capped (n + b) ≡ capped (a + b)) a (λ h. refl)
     (λ h. capped_full (largest + b) (omega arith) ∙ sym (capped_full (a + b) (omega arith)))
 
@@ -50,14 +50,14 @@ pub capped_most : (t : Totals) → capped (capped (t.stored + t.stored) + t.bloc
 unfolding most_steps
 capped_most t =
     let twice : t.stored + t.stored + t.blocks ≡ 2 * t.stored + t.blocks = omega arith in
-    capped-plus_lem (t.stored + t.stored) t.blocks ∙ ap capped twice
+    capped-plus (t.stored + t.stored) t.blocks ∙ ap capped twice
 
 -- ---- totals
 
-pub kept-plus_lem : (t u : Totals) → kept (plus (kept t) u) ≡ kept (plus t u)
+pub kept-plus : (t u : Totals) → kept (plus (kept t) u) ≡ kept (plus t u)
 unfolding kept plus
-kept-plus_lem t u =
-    rw (capped-plus_lem t.steps, capped-plus_lem t.blocks, capped-plus_lem t.stored, capped-plus_lem t.finished, capped-plus_lem t.cancelled, capped-plus_lem t.turned)
+kept-plus t u =
+    rw (capped-plus t.steps, capped-plus t.blocks, capped-plus t.stored, capped-plus t.finished, capped-plus t.cancelled, capped-plus t.turned)
 
 -- where steps and events stored are below the largest, so are all
 kept_same : {t : Totals} {waiting : ℕ} → Sums t waiting → (kept t).steps < largest → (kept t).stored < largest → kept t ≡ t
@@ -82,10 +82,10 @@ unfolding command_seen
 command_parts before after s c = rw (s, c)
 
 module _ {v : Verdict} (steps before after : ℕ) where
-  pub answered-parts_lem : {finished further turned : ℕ} → v ≡ Verdict.Answered → finished ≡ before - after → further ≡ steps - 1 → turned ≡ further - finished
+  pub answered-parts : {finished further turned : ℕ} → v ≡ Verdict.Answered → finished ≡ before - after → further ≡ steps - 1 → turned ≡ further - finished
       → record { steps = steps; blocks = 1; stored = 0; finished = finished; cancelled = 0; turned = turned } ≡ block_seen v steps before after
   unfolding block_seen
-  answered-parts_lem e f g t =
+  answered-parts e f g t =
       let left : steps - 1 - (before - after) ≡ steps - suc (before - after) = omega arith in
       rw (e, t, g, f, left)
 

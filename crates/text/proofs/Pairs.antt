@@ -17,7 +17,7 @@ use Rattle.text.specs.Put.{Put}
 use Rattle.text.specs.Hex.{before, pairs_in, bytes_in, Sized, sized, bytes_up_to, bytes_text, sized_at}
 use Rattle.text.specs.declared.read.Number.{Number}
 use Rattle.text.specs.declared.read.Number.TheVariants as Number
-use Rattle.text.proofs.Writing.{put-nothing_lem, put_same, put_then, length_digits}
+use Rattle.text.proofs.Writing.{put-nothing, put_same, put_then, length_digits}
 use Rattle.text.proofs.Back.{bits_back}
 
 -- ---- read
@@ -169,7 +169,7 @@ next_byte i bytes d inside p room q = put_same (rw (add-one i, drop-cons bytes i
 
 pub no_byte : (out : List ℕ) (at : ℕ) (bytes : List ℕ) (i : ℕ) → length bytes ≤ i → Put out at (bytes_text (drop i bytes)) out at
 unfolding bytes_text
-no_byte out at bytes i past = rw (drop_of_length-le bytes past) (put-nothing_lem out at)
+no_byte out at bytes i past = rw (drop_of_length-le bytes past) (put-nothing out at)
 
 pub bytes_length : (bytes : List ℕ) → length (bytes_text bytes) ≡ 2 * length bytes
 unfolding bytes_text

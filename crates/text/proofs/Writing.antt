@@ -16,9 +16,9 @@ use Rattle.text.specs.Digits.{glyph_of, digits_of, places_of, decimal_of}
 use Rattle.text.specs.Floats.{digits_for, float_text}
 
 module _ {A : Type 0} where
-  pub length-put_lem : (l : List A) (at : ℕ) (xs : List A) → at + length xs ≤ length l → length (put l at xs) ≡ length l
+  pub length-put : (l : List A) (at : ℕ) (xs : List A) → at + length xs ≤ length l → length (put l at xs) ≡ length l
   unfolding put
-  length-put_lem l at xs h = simp (length-append, length-take, length-drop) (omega arith)
+  length-put l at xs h = simp (length-append, length-take, length-drop) (omega arith)
 
   put_is : (l : List A) (at : ℕ) (xs : List A) → put l at xs ≡ take at l ++ (xs ++ drop (at + length xs) l)
   unfolding put
@@ -53,14 +53,14 @@ module _ {A : Type 0} where
     unfolding put
     put_front = rw (← append_assoc) (take_at (take at l ++ xs) _ (at + length xs) (simp (length-append, length-take) (omega arith)))
 
-    pub put-behind_lem : drop (at + length xs) (put l at xs) ≡ drop (at + length xs) l
+    pub put-behind : drop (at + length xs) (put l at xs) ≡ drop (at + length xs) l
     unfolding put
-    put-behind_lem = rw (← append_assoc) (drop_at (take at l ++ xs) _ (at + length xs) (simp (length-append, length-take) (omega arith)))
+    put-behind = rw (← append_assoc) (drop_at (take at l ++ xs) _ (at + length xs) (simp (length-append, length-take) (omega arith)))
 
     -- what is written behind what was written
-    pub put-put_lem : (ys : List A) → put (put l at xs) (at + length xs) ys ≡ put l at (xs ++ ys)
-    put-put_lem ys =
-        rw (put_is (put l at xs) (at + length xs) ys, put_is l at (xs ++ ys), put_front, ← drop-drop (length ys) (at + length xs) (put l at xs), put-behind_lem, drop-drop, append_assoc, append_assoc, length-append, add_assoc)
+    pub put-put : (ys : List A) → put (put l at xs) (at + length xs) ys ≡ put l at (xs ++ ys)
+    put-put ys =
+        rw (put_is (put l at xs) (at + length xs) ys, put_is l at (xs ++ ys), put_front, ← drop-drop (length ys) (at + length xs) (put l at xs), put-behind, drop-drop, append_assoc, append_assoc, length-append, add_assoc)
 
 pub put_same : {l : List ℕ} {at : ℕ} {xs ys l' : List ℕ} {next : ℕ} → xs ≡ ys → Put l at xs l' next → Put l at ys l' next
 put_same {l} {at} {xs} {ys} {l'} {next} e p = subst (λ (zs : List ℕ). Put l at zs l' next) e p
@@ -117,7 +117,7 @@ last_place (suc j) left h = rw (lt-ltb left 10 h)
 pub put_then : {l l₁ l₂ xs ys : List ℕ} {at p₁ p₂ : ℕ} → Put l at xs l₁ p₁ → Put l₁ p₁ ys l₂ p₂ → p₁ ≤ length l → Put l at (xs ++ ys) l₂ p₂
 put_then {l} {l₁} {l₂} {xs} {ys} {at} {p₁} {p₂} p q h =
     let second : l₂ ≡ put (put l at xs) (at + length xs) ys = q.bytes ∙ rw (p.bytes, p.place) in
-    record { bytes = second ∙ put-put_lem l at xs (subst (λ (k : ℕ). k ≤ length l) p.place h) ys; place = q.place ∙ rw (p.place, length-append, add_assoc) }
+    record { bytes = second ∙ put-put l at xs (subst (λ (k : ℕ). k ≤ length l) p.place h) ys; place = q.place ∙ rw (p.place, length-append, add_assoc) }
 
 pub length_float : (f : Format) (x : Float) → length (float_text f x) ≡ digits_for f
 unfolding float_text
@@ -136,5 +136,5 @@ pub length_decimal : (n : ℕ) → length (decimal_of n) ≤ 20
 unfolding decimal_of
 length_decimal n = rw length_digits (few_places 19 n)
 
-pub put-nothing_lem : (l : List ℕ) (at : ℕ) → Put l at [] l at
-put-nothing_lem l at = record { bytes = sym (put_none l at); place = sym (add-zero at) }
+pub put-nothing : (l : List ℕ) (at : ℕ) → Put l at [] l at
+put-nothing l at = record { bytes = sym (put_none l at); place = sym (add-zero at) }

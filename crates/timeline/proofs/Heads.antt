@@ -15,9 +15,9 @@ use Rattle.rules.specs.declared.Head.TheVariants as Head
 use Rattle.rules.specs.Numbers.{store_length}
 use Rattle.rules.specs.Queue.{Waiting, head_of, length_of, lengths_of, attached}
 use Rattle.laws.specs.Sound.{is_clear, SoundQueue}
-use Rattle.laws.proofs.Clear.{all-parts_lem, all_drop, curve_parts}
+use Rattle.laws.proofs.Clear.{all-parts, all_drop, curve_parts}
 use Rattle.laws.proofs.Events.{lengths_split}
-use Rattle.laws.proofs.Store.{attached-drop_lem, no_numbers}
+use Rattle.laws.proofs.Store.{attached-drop, no_numbers}
 use Rattle.timeline.specs.Timeline.{first_of}
 use Rattle.timeline.specs.Heads.{waiting_as, numbers_at, Numbered}
 
@@ -74,7 +74,7 @@ module _ (es : List Event) (store : List Float) (at : ℕ) where
   -- none waits there
   pub none_waits : first_of (drop at es) ≡ Head.Empty → drop at ws ≡ []
   unfolding attached
-  none_waits h = let z : drop at es ≡ [] = first_none (drop at es) h in sym (attached-drop_lem at es store) ∙ rw z
+  none_waits h = let z : drop at es ≡ [] = first_none (drop at es) h in sym (attached-drop at es store) ∙ rw z
 
   -- the head e waits there, and its numbers begin at the offset
   module _ {offset : ℕ} (from : offset ≡ lengths_of (take at es)) {e : Event} (is : first_of (drop at es) ≡ Head.Event e) where
@@ -94,18 +94,18 @@ module _ (es : List Event) (store : List Float) (at : ℕ) where
     pub waits_here : drop at ws ≡ waiting_as e (numbers_at store offset e) ∷ drop (at + 1) ws
     unfolding attached
     waits_here =
-        sym (attached-drop_lem at es store)
+        sym (attached-drop at es store)
         ∙ rw (here, ← from, drop-drop (length_of e) offset store, past_is)
-        (ap (λ (l : List Waiting). waiting_as e (numbers_at store offset e) ∷ l) (attached-drop_lem (at + 1) es store))
+        (ap (λ (l : List Waiting). waiting_as e (numbers_at store offset e) ∷ l) (attached-drop (at + 1) es store))
 
     pub numbered : SoundQueue es → lengths_of es ≤ length store → Numbered e (numbers_at store offset e)
     numbered s l =
         record {
           fits = length-take-le (length_of e) (drop offset store) (rw (length-drop offset store) (omega (arith, past_most)));
           few = omega (arith, past_most, s.room);
-          clear = (all-parts_lem is_clear e _ (rw here at (all_drop is_clear at es s.clear))).0;
+          clear = (all-parts is_clear e _ (rw here at (all_drop is_clear at es s.clear))).0;
         }
 
   -- what is behind that place is the rules' next head
   pub behind_is : {n : Head} → n ≡ first_of (drop (at + 1) es) → n ≡ head_of (drop (at + 1) ws)
-  behind_is h = h ∙ sym (head_attached (drop (at + 1) es) _) ∙ ap head_of (attached-drop_lem (at + 1) es store)
+  behind_is h = h ∙ sym (head_attached (drop (at + 1) es) _) ∙ ap head_of (attached-drop (at + 1) es store)

@@ -16,7 +16,7 @@ use Rattle.laws.proofs.Events.{lengths_append, lengths_split}
 use Rattle.timeline.specs.declared.AudioParamEvent.{AudioParamEvent}
 use Rattle.timeline.specs.declared.AudioParamEventTimeline.{AudioParamEventTimeline}
 use Rattle.timeline.specs.Timeline.{slot_of, blank_event, padded, made, waiting, Neat}
-use Rattle.timeline.proofs.Lists.{map-take_lem, map-set_lem, map-replicate_lem}
+use Rattle.timeline.proofs.Lists.{map-take, map-set, map-replicate}
 
 abbrev event_in : AudioParamEvent → Event
 event_in s = s.event
@@ -30,7 +30,7 @@ nothing = Event.Step nan nan
 pub waits : (es : List Event) → waiting (made es) ≡ es
 unfolding made padded
 waits es =
-    ap (map event_in) (map-take_lem slot_of (length es) (padded es) ∙ ap (map slot_of) (take_at es _ (length es) refl))
+    ap (map event_in) (map-take slot_of (length es) (padded es) ∙ ap (map slot_of) (take_at es _ (length es) refl))
     ∙ map-map event_in slot_of es ∙ map-id es
 
 pub made_neat : (es : List Event) → length es ≤ most_events → Neat (made es)
@@ -43,9 +43,9 @@ neat_of q es e h = rw e (made_neat es h)
 pub waits_of : (q : AudioParamEventTimeline) (es : List Event) → q ≡ made es → waiting q ≡ es
 waits_of q es e = rw e (waits es)
 
-padded-length_lem : (es : List Event) → length es ≤ most_events → length (padded es) ≡ most_events
+padded-length : (es : List Event) → length es ≤ most_events → length (padded es) ≡ most_events
 unfolding padded
-padded-length_lem es h = simp (length-append, length-replicate) (omega arith)
+padded-length es h = simp (length-append, length-replicate) (omega arith)
 
 -- ---- a sound queue
 
@@ -63,7 +63,7 @@ module _ (q : AudioParamEventTimeline) (h : Neat q) where
       let s : q.len ≤ most_events = h.few in
       let c : length (waiting q) ≡ q.len = count in
       let p : length (waiting q) ≤ most_events = omega arith in
-      ap length slots_are ∙ length-map (padded (waiting q)) slot_of ∙ padded-length_lem (waiting q) p
+      ap length slots_are ∙ length-map (padded (waiting q)) slot_of ∙ padded-length (waiting q) p
 
   -- what a slot in use holds
   pub slot_holds : (i : ℕ) → i < q.len → get_or q.slots i (slot_of nothing) ≡ slot_of (get_or (waiting q) i nothing)
@@ -91,9 +91,9 @@ padded_push es e h =
     let n : length (es ++ (e ∷ [])) ≡ suc (length es) = simp length-append (omega arith) in
     rw (m, n, set_at es blank_event (replicate (most_events - suc (length es)) blank_event) e (length es) refl, append_snoc)
 
-pub padded-set_lem : (es : List Event) (i : ℕ) (e : Event) → i < length es → set (padded es) i e ≡ padded (set es i e)
+pub padded-set : (es : List Event) (i : ℕ) (e : Event) → i < length es → set (padded es) i e ≡ padded (set es i e)
 unfolding padded
-padded-set_lem es i e h = rw (set-append_left es (replicate (most_events - length es) blank_event) i e h, length-set es i e)
+padded-set es i e h = rw (set-append_left es (replicate (most_events - length es) blank_event) i e h, length-set es i e)
 
 -- the first k slots hold these events, and the others are blank
 pub record Filled (s : List AudioParamEvent) (k : ℕ) (es : List Event) : Type 0 where
@@ -102,7 +102,7 @@ pub record Filled (s : List AudioParamEvent) (k : ℕ) (es : List Event) : Type 
 
 pub filled_none : (b : AudioParamEvent) → b ≡ slot_of blank_event → Filled (replicate 64 b) 0 []
 unfolding padded
-filled_none b e = record { many = refl; held = rw (e, map-replicate_lem slot_of 64 blank_event) }
+filled_none b e = record { many = refl; held = rw (e, map-replicate slot_of 64 blank_event) }
 
 module _ {s : List AudioParamEvent} {k : ℕ} {es : List Event} (f : Filled s k es) where
   pub filled_more : {x : AudioParamEvent} {e : Event} {more : List Event}
@@ -112,15 +112,15 @@ module _ {s : List AudioParamEvent} {k : ℕ} {es : List Event} (f : Filled s k 
       let n : length (es ++ (e ∷ [])) ≡ length es + 1 = simp length-append in
       record {
         many = rw (m, n, f.many);
-        held = rw (m, f.held, g, f.many) (map-set_lem slot_of (padded es) (length es) e ∙ ap (map slot_of) (padded_push es e l));
+        held = rw (m, f.held, g, f.many) (map-set slot_of (padded es) (length es) e ∙ ap (map slot_of) (padded_push es e l));
       }
 
-  pub filled-same_lem : {same : List Event} → same ≡ es → Filled s k same
-  filled-same_lem e = rw e f
+  pub filled-same : {same : List Event} → same ≡ es → Filled s k same
+  filled-same e = rw e f
 
-  pub filled-made_lem : ◌≡◌ {A = AudioParamEventTimeline} (record { slots = s; len = k }) (made es)
+  pub filled-made : ◌≡◌ {A = AudioParamEventTimeline} (record { slots = s; len = k }) (made es)
   unfolding made
-  filled-made_lem = rw (f.many, f.held)
+  filled-made = rw (f.many, f.held)
 
 -- ---- another event at a place in use
 
@@ -129,12 +129,12 @@ pub replaced : (q : AudioParamEventTimeline) → Neat q → (i : ℕ) (e : Event
 replaced q h i e l =
     let c : length (waiting q) ≡ q.len = count q h in
     let m : i < length (waiting q) = omega arith in
-    filled-made_lem
+    filled-made
     (record {
       many = sym (length-set (waiting q) i e ∙ c);
       held =
-          ap (λ (s : List AudioParamEvent). set s i (slot_of e)) (slots_are q h) ∙ map-set_lem slot_of (padded (waiting q)) i e
-          ∙ ap (map slot_of) (padded-set_lem (waiting q) i e m);
+          ap (λ (s : List AudioParamEvent). set s i (slot_of e)) (slots_are q h) ∙ map-set slot_of (padded (waiting q)) i e
+          ∙ ap (map slot_of) (padded-set (waiting q) i e m);
     })
 
 -- ---- offsets

@@ -30,28 +30,28 @@ module _ {A : Type 0} (d : A) (a b : List A) (i : ℕ) where
 -- ---- map
 
 module _ {A B : Type 0} (f : A → B) where
-  pub map-take_lem : (n : ℕ) (l : List A) → take n (map f l) ≡ map f (take n l)
-  map-take_lem zero l = refl
-  map-take_lem (suc n) [] = refl
-  map-take_lem (suc n) (x ∷ l) = ap (λ (r : List B). f x ∷ r) (map-take_lem n l)
+  pub map-take : (n : ℕ) (l : List A) → take n (map f l) ≡ map f (take n l)
+  map-take zero l = refl
+  map-take (suc n) [] = refl
+  map-take (suc n) (x ∷ l) = ap (λ (r : List B). f x ∷ r) (map-take n l)
 
-  pub map-drop_lem : (n : ℕ) (l : List A) → drop n (map f l) ≡ map f (drop n l)
-  map-drop_lem zero l = refl
-  map-drop_lem (suc n) [] = refl
-  map-drop_lem (suc n) (x ∷ l) = map-drop_lem n l
+  pub map-drop : (n : ℕ) (l : List A) → drop n (map f l) ≡ map f (drop n l)
+  map-drop zero l = refl
+  map-drop (suc n) [] = refl
+  map-drop (suc n) (x ∷ l) = map-drop n l
 
-  pub map-set_lem : (l : List A) (i : ℕ) (x : A) → set (map f l) i (f x) ≡ map f (set l i x)
-  map-set_lem [] i x = refl
-  map-set_lem (y ∷ l) zero x = refl
-  map-set_lem (y ∷ l) (suc i) x = ap (λ (r : List B). f y ∷ r) (map-set_lem l i x)
+  pub map-set : (l : List A) (i : ℕ) (x : A) → set (map f l) i (f x) ≡ map f (set l i x)
+  map-set [] i x = refl
+  map-set (y ∷ l) zero x = refl
+  map-set (y ∷ l) (suc i) x = ap (λ (r : List B). f y ∷ r) (map-set l i x)
 
-  pub map-replicate_lem : (n : ℕ) (x : A) → replicate n (f x) ≡ map f (replicate n x)
-  map-replicate_lem zero x = refl
-  map-replicate_lem (suc n) x = ap (λ (r : List B). f x ∷ r) (map-replicate_lem n x)
+  pub map-replicate : (n : ℕ) (x : A) → replicate n (f x) ≡ map f (replicate n x)
+  map-replicate zero x = refl
+  map-replicate (suc n) x = ap (λ (r : List B). f x ∷ r) (map-replicate n x)
 
-  pub map-put_lem : (n : ℕ) (x : A) (l : List A) → put_at n (f x) (map f l) ≡ map f (put_at n x l)
+  pub map-put : (n : ℕ) (x : A) (l : List A) → put_at n (f x) (map f l) ≡ map f (put_at n x l)
   unfolding put_at
-  map-put_lem n x l = rw (map-append f (take n l) (x ∷ drop n l), map-take_lem n l, map-drop_lem n l)
+  map-put n x l = rw (map-append f (take n l) (x ∷ drop n l), map-take n l, map-drop n l)
 
 -- ---- those that pass a test
 
@@ -71,10 +71,10 @@ module _ {A : Type 0} (test : A → Bool) where
   fewer true x xs h = omega arith
   fewer false x xs h = omega arith
 
-  pub those-length_lem : (xs : List A) → length (those test xs) ≤ length xs
+  pub those-length : (xs : List A) → length (those test xs) ≤ length xs
   unfolding those
-  those-length_lem [] = omega arith
-  those-length_lem (x ∷ xs) = fewer (test x) x xs (those-length_lem xs)
+  those-length [] = omega arith
+  those-length (x ∷ xs) = fewer (test x) x xs (those-length xs)
 
 -- ---- one more at a place
 
@@ -96,6 +96,6 @@ module _ {A : Type 0} (p : ℕ) (x d : A) (o : List A) (h : p ≤ length o) wher
   unfolding put_at
   put_none = rw (take_at (take p o) (x ∷ drop p o) p (length-take-le p o h), take-append-drop p o)
 
-pub put-append_lem : {A : Type 0} (p : ℕ) (x : A) (w r : List A) → p ≤ length w → put_at p x (w ++ r) ≡ put_at p x w ++ r
+pub put-append : {A : Type 0} (p : ℕ) (x : A) (w r : List A) → p ≤ length w → put_at p x (w ++ r) ≡ put_at p x w ++ r
 unfolding put_at
-put-append_lem p x w r h = rw (take-append-le p w r h, drop-append-le p w r h, append_assoc)
+put-append p x w r h = rw (take-append-le p w r h, drop-append-le p w r h, append_assoc)

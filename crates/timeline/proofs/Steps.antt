@@ -14,12 +14,12 @@ use Rattle.rules.specs.declared.Head.{Head}
 use Rattle.rules.specs.declared.Head.TheVariants as Head
 use Rattle.rules.specs.Numbers.{most_events}
 use Rattle.rules.specs.Queue.{filed_under, any, has_not_later, place_behind, put_at, those}
-use Rattle.laws.proofs.Events.{put-length_lem}
+use Rattle.laws.proofs.Events.{put-length}
 use Rattle.laws.proofs.Ordered.{behind_last, behind_others}
 use Rattle.timeline.specs.declared.AudioParamEvent.{AudioParamEvent}
 use Rattle.timeline.specs.declared.AudioParamEventTimeline.{AudioParamEventTimeline}
 use Rattle.timeline.specs.Timeline.{slot_of, blank_event, padded, waiting, Neat, first_of, is_some, stays}
-use Rattle.timeline.proofs.Lists.{overlay_more, overlay_past, map-take_lem, map-drop_lem, map-put_lem, those_snoc, put_next, put-append_lem}
+use Rattle.timeline.proofs.Lists.{overlay_more, overlay_past, map-take, map-drop, map-put, those_snoc, put_next, put-append}
 use Rattle.timeline.proofs.Laws.{nothing, slots_are, count, slot_holds, one_more, Filled}
 
 -- ---- the event at a place
@@ -77,34 +77,34 @@ module _ (p : ℕ) (x : AudioParamEvent) (o : List AudioParamEvent) (h : p ≤ l
   abbrev gone : AudioParamEvent
   gone = slot_of nothing
 
-  pub put-turn_lem : (y : AudioParamEvent) → y ≡ get_or (put_at p x o) i gone → set s i y ≡ take (i + 1) (put_at p x o) ++ drop (i + 1) o
-  put-turn_lem y f =
-      let n : length (put_at p x o) ≡ suc (length o) = put-length_lem p x o in
+  pub put-turn : (y : AudioParamEvent) → y ≡ get_or (put_at p x o) i gone → set s i y ≡ take (i + 1) (put_at p x o) ++ drop (i + 1) o
+  put-turn y f =
+      let n : length (put_at p x o) ≡ suc (length o) = put-length p x o in
       rw (e, f, overlay_more gone (put_at p x o) o i (omega arith) l)
 
   pub put_carry : get_or s i gone ≡ get_or (put_at p x o) (i + 1) gone
   put_carry =
-      let n : length (put_at p x o) ≡ suc (length o) = put-length_lem p x o in
+      let n : length (put_at p x o) ≡ suc (length o) = put-length p x o in
       rw (e, overlay_past gone (put_at p x o) o i i (omega arith) (omega arith), put_next p x gone o h i g)
 
 -- one blank the fewer
 one_less : (n m : ℕ) → n ≡ suc m → drop 1 (replicate n blank_event) ≡ replicate m blank_event
 one_less n m e = rw e
 
-padded-put_lem : (p : ℕ) (x : Event) (w : List Event) → p ≤ length w → length w < most_events
+padded-put : (p : ℕ) (x : Event) (w : List Event) → p ≤ length w → length w < most_events
     → take (length w + 1) (put_at p x (padded w)) ++ drop (length w + 1) (padded w) ≡ padded (put_at p x w)
 unfolding padded
-padded-put_lem p x w h l =
+padded-put p x w h l =
     let r : List Event = replicate (most_events - length w) blank_event in
-    let n : length (put_at p x w) ≡ length w + 1 = put-length_lem p x w ∙ sym (add-one (length w)) in
+    let n : length (put_at p x w) ≡ length w + 1 = put-length p x w ∙ sym (add-one (length w)) in
     let b : drop 1 r ≡ replicate (most_events - (length w + 1)) blank_event = one_less (most_events - length w) (most_events - (length w + 1)) (omega arith) in
-    rw (n, put-append_lem p x w r h, take_at (put_at p x w) r (length w + 1) n, drop-append-add w r 1, b)
+    rw (n, put-append p x w r h, take_at (put_at p x w) r (length w + 1) n, drop-append-add w r 1, b)
 
 put_whole : (p : ℕ) (x : Event) (w : List Event) → p ≤ length w → length w < most_events → (o s : List AudioParamEvent) (i : ℕ)
     → o ≡ map slot_of (padded w) → s ≡ take i (put_at p (slot_of x) o) ++ drop i o → i ≡ length w + 1 → s ≡ map slot_of (padded (put_at p x w))
 put_whole p x w h l o s i a e f =
-    rw (e, f, a, map-put_lem slot_of p x (padded w), map-take_lem slot_of (length w + 1) (put_at p x (padded w)), map-drop_lem slot_of (length w + 1) (padded w))
-    (sym (map-append slot_of (take (length w + 1) (put_at p x (padded w))) (drop (length w + 1) (padded w))) ∙ ap (map slot_of) (padded-put_lem p x w h l))
+    rw (e, f, a, map-put slot_of p x (padded w), map-take slot_of (length w + 1) (put_at p x (padded w)), map-drop slot_of (length w + 1) (padded w))
+    (sym (map-append slot_of (take (length w + 1) (put_at p x (padded w))) (drop (length w + 1) (padded w))) ∙ ap (map slot_of) (padded-put p x w h l))
 
 module _ (q : AudioParamEventTimeline) (h : Neat q) (p : ℕ) (x : Event) (g : p ≤ q.len) (l : q.len < most_events) where
   pub put_end : (s : List AudioParamEvent) (i : ℕ) → s ≡ take i (put_at p (slot_of x) q.slots) ++ drop i q.slots → i ≡ q.len + 1
@@ -113,7 +113,7 @@ module _ (q : AudioParamEventTimeline) (h : Neat q) (p : ℕ) (x : Event) (g : p
       let c : length (waiting q) ≡ q.len = count q h in
       let k : p ≤ length (waiting q) = omega arith in
       record {
-        many = sym (put-length_lem p x (waiting q) ∙ sym (add-one (length (waiting q))) ∙ ap (λ (n : ℕ). n + 1) c);
+        many = sym (put-length p x (waiting q) ∙ sym (add-one (length (waiting q))) ∙ ap (λ (n : ℕ). n + 1) c);
         held = put_whole p x (waiting q) k (omega arith) q.slots s i (slots_are q h) e (omega arith);
       }
 
@@ -133,8 +133,8 @@ module _ (equal : Bool) (c : Float) (q : AudioParamEventTimeline) (h : Neat q) w
     pub kept_none : stays equal c (get_or (waiting q) i nothing) ≡ false → Kept (i + 1) ≡ Kept i
     kept_none f = rw (kept_more, f, append-nil)
 
-  pub kept-all_lem : (i : ℕ) → q.len ≤ i → those (stays equal c) (waiting q) ≡ Kept i
-  kept-all_lem i l =
+  pub kept-all : (i : ℕ) → q.len ≤ i → those (stays equal c) (waiting q) ≡ Kept i
+  kept-all i l =
       let n : length (waiting q) ≡ q.len = count q h in
       let m : length (waiting q) ≤ i = omega arith in
       sym (ap (those (stays equal c)) (take_all i (waiting q) m))
@@ -149,8 +149,8 @@ module _ (q : AudioParamEventTimeline) (h : Neat q) (n i : ℕ) where
       let m : n ≤ length (take i (waiting q)) = omega arith in
       rw (one_more q h i l, drop-append-le n (take i (waiting q)) (get_or (waiting q) i nothing ∷ []) m)
 
-  pub behind-all_lem : q.len ≤ i → drop n (waiting q) ≡ slice n i (waiting q)
-  behind-all_lem l =
+  pub behind-all : q.len ≤ i → drop n (waiting q) ≡ slice n i (waiting q)
+  behind-all l =
       let c : length (waiting q) ≡ q.len = count q h in
       let m : length (waiting q) ≤ i = omega arith in
       rw (take_all i (waiting q) m)

@@ -74,10 +74,10 @@ first_run (c ∷ cs) = by_test (is_blank c) (first_run cs)
     by_test true rest = refl
     by_test false rest = rw rest
 
-behind-spoken_lem : (cs : List ℕ) → spoken (behind (drop (run_of false cs) cs)) ≡ spoken (split (drop (run_of false cs) cs))
+behind-spoken : (cs : List ℕ) → spoken (behind (drop (run_of false cs) cs)) ≡ spoken (split (drop (run_of false cs) cs))
 unfolding split spoken run_of behind
-behind-spoken_lem [] = sym (kept_none [])
-behind-spoken_lem (c ∷ cs) = by_test (is_blank c) refl (behind-spoken_lem cs)
+behind-spoken [] = sym (kept_none [])
+behind-spoken (c ∷ cs) = by_test (is_blank c) refl (behind-spoken cs)
   where
     by_test : (t : Bool) → is_blank c ≡ t → spoken (behind (drop (run_of false cs) cs)) ≡ spoken (split (drop (run_of false cs) cs))
         → spoken (behind (drop (cond (beq t false) (suc (run_of false cs)) zero) (c ∷ cs))) ≡ spoken (split (drop (cond (beq t false) (suc (run_of false cs)) zero) (c ∷ cs)))
@@ -96,7 +96,7 @@ module _ (s : List ℕ) (at from to : ℕ) (skipped : from ≡ at + run_of true 
       blanks_off (drop at s)
       ∙ ap (λ (cs : List ℕ). spoken (split cs)) (drop-drop (run_of true (drop at s)) at s ∙ ap (λ (i : ℕ). drop i s) (sym skipped))
       ∙ ap spoken (first_run (drop from s))
-      ∙ ap (kept (take k (drop from s))) (behind-spoken_lem (drop from s) ∙ ap (λ (cs : List ℕ). spoken (split cs)) (drop-drop k from s ∙ ap (λ (i : ℕ). drop i s) (sym ended)))
+      ∙ ap (kept (take k (drop from s))) (behind-spoken (drop from s) ∙ ap (λ (cs : List ℕ). spoken (split cs)) (drop-drop k from s ∙ ap (λ (i : ℕ). drop i s) (sym ended)))
       ∙ ap (λ (i : ℕ). kept (take i (drop from s)) (words_at s to)) (sym long)
 
   pub a_small : is_small (take (to - from) (drop from s)) ≡ true → words_at s at ≡ words_at s to

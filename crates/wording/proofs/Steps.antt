@@ -160,22 +160,22 @@ part_length s from to h = length-take-le (to - from) (drop from s) (omega (arith
 -- ---- one thing behind another
 
 module _ (s : List ℕ) where
-  pub ran-same_lem : {o q : Fields} (l : List ℕ) (at : ℕ) (r : Told) (l' : List ℕ) → o ≡ q → Ran s o l at r l' → Ran s q l at r l'
-  ran-same_lem l at r l' e v = subst (λ (f : Fields). Ran s f l at r l') e v
+  pub ran-same : {o q : Fields} (l : List ℕ) (at : ℕ) (r : Told) (l' : List ℕ) → o ≡ q → Ran s o l at r l' → Ran s q l at r l'
+  ran-same l at r l' e v = subst (λ (f : Fields). Ran s f l at r l') e v
 
   -- fields behind a text
-  pub ran-after_lem : {l l₁ t : List ℕ} {at p : ℕ} (o : Fields) (r : Told) (l₂ : List ℕ) → Put l at t l₁ p → p ≤ length l → Ran s o l₁ p r l₂ → Ran s (in_front t o) l at r l₂
+  pub ran-after : {l l₁ t : List ℕ} {at p : ℕ} (o : Fields) (r : Told) (l₂ : List ℕ) → Put l at t l₁ p → p ≤ length l → Ran s o l₁ p r l₂ → Ran s (in_front t o) l at r l₂
   unfolding Ran in_front
-  ran-after_lem {t = t} o (Told.At next q) l₂ w h v = (_, ap (in_front t) v.1, put_then w v.2 h)
-  ran-after_lem {t = t} o Told.Unread l₂ w h v = ap (in_front t) v
+  ran-after {t = t} o (Told.At next q) l₂ w h v = (_, ap (in_front t) v.1, put_then w v.2 h)
+  ran-after {t = t} o Told.Unread l₂ w h v = ap (in_front t) v
 
   pub ran_to : {o : Fields} {l l' : List ℕ} {at next p : ℕ} {r : Told} → Ran s o l at r l' → r ≡ Told.At next p → (t : List ℕ) × (o ≡ some (t, words_at s next)) × Put l at t l' p
   unfolding Ran
   ran_to {o} {l} {l'} {at} v g = subst (λ (f : Told). Ran s o l at f l') g v
 
-  pub ran-unread_lem : (o : Fields) (l : List ℕ) (at : ℕ) {r : Told} (l' : List ℕ) → Ran s o l at r l' → r ≡ Told.Unread → o ≡ none
+  pub ran-unread : (o : Fields) (l : List ℕ) (at : ℕ) {r : Told} (l' : List ℕ) → Ran s o l at r l' → r ≡ Told.Unread → o ≡ none
   unfolding Ran
-  ran-unread_lem o l at l' v g = subst (λ (f : Told). Ran s o l at f l') g v
+  ran-unread o l at l' v g = subst (λ (f : Told). Ran s o l at f l') g v
 
   pub passed_to : (from at : ℕ) {next p : ℕ} {r : Told} → Passed s from at r → r ≡ Told.At next p → (next ≤ length s) × (p + 17 * (length s - next) ≤ at + 17 * (length s - from))
   unfolding Passed

@@ -134,17 +134,17 @@ pub single_front : (bs cs : List ℕ) (at : ℕ) → at + 4 ≤ length bs → si
 unfolding single_at
 single_front bs cs at h = ap single_in (word_front 4 bs cs at h)
 
-pub single-behind_lem : (bs cs : List ℕ) (at : ℕ) → single_at (bs ++ cs) (length bs + at) ≡ single_at cs at
+pub single-behind : (bs cs : List ℕ) (at : ℕ) → single_at (bs ++ cs) (length bs + at) ≡ single_at cs at
 unfolding single_at
-single-behind_lem bs cs at = ap single_in (word_behind 4 bs cs at)
+single-behind bs cs at = ap single_in (word_behind 4 bs cs at)
 
 pub double_front : (bs cs : List ℕ) (at : ℕ) → at + 8 ≤ length bs → double_at (bs ++ cs) at ≡ double_at bs at
 unfolding double_at
 double_front bs cs at h = ap double_in (word_front 8 bs cs at h)
 
-pub double-behind_lem : (bs cs : List ℕ) (at : ℕ) → double_at (bs ++ cs) (length bs + at) ≡ double_at cs at
+pub double-behind : (bs cs : List ℕ) (at : ℕ) → double_at (bs ++ cs) (length bs + at) ≡ double_at cs at
 unfolding double_at
-double-behind_lem bs cs at = ap double_in (word_behind 8 bs cs at)
+double-behind bs cs at = ap double_in (word_behind 8 bs cs at)
 
 -- a float's bits give it back
 pub bits_single : (x : Float) → T (fits binary32 x) → single_in (to_bits binary32 x) ≡ x
@@ -181,28 +181,28 @@ unfolding AreSingles
 are_singles [] d h = tt
 are_singles (x ∷ xs) d h = (h 0, are_singles xs d (λ i. h (suc i)))
 
-pub singles-take_lem : (n : ℕ) (xs : List Float) → AreSingles xs → AreSingles (take n xs)
+pub singles-take : (n : ℕ) (xs : List Float) → AreSingles xs → AreSingles (take n xs)
 unfolding AreSingles
-singles-take_lem zero xs h = tt
-singles-take_lem (suc n) [] h = tt
-singles-take_lem (suc n) (x ∷ xs) h = (h.0, singles-take_lem n xs h.1)
+singles-take zero xs h = tt
+singles-take (suc n) [] h = tt
+singles-take (suc n) (x ∷ xs) h = (h.0, singles-take n xs h.1)
 
-pub singles-drop_lem : (n : ℕ) (xs : List Float) → AreSingles xs → AreSingles (drop n xs)
+pub singles-drop : (n : ℕ) (xs : List Float) → AreSingles xs → AreSingles (drop n xs)
 unfolding AreSingles
-singles-drop_lem zero xs h = h
-singles-drop_lem (suc n) [] h = tt
-singles-drop_lem (suc n) (x ∷ xs) h = singles-drop_lem n xs h.1
+singles-drop zero xs h = h
+singles-drop (suc n) [] h = tt
+singles-drop (suc n) (x ∷ xs) h = singles-drop n xs h.1
 
-pub length-numbers_lem : (xs : List Float) → length (numbers_bytes xs) ≡ 4 * length xs
+pub length-numbers : (xs : List Float) → length (numbers_bytes xs) ≡ 4 * length xs
 unfolding numbers_bytes single_bytes
-length-numbers_lem [] = refl
-length-numbers_lem (x ∷ xs) = simp length-append (omega (arith, length_bytes 4 (to_bits binary32 x), length-numbers_lem xs))
+length-numbers [] = refl
+length-numbers (x ∷ xs) = simp length-append (omega (arith, length_bytes 4 (to_bits binary32 x), length-numbers xs))
 
 module _ (bs : List ℕ) where
-  pub length-singles_lem : (at n : ℕ) → length (singles_at bs at n) ≡ n
+  pub length-singles : (at n : ℕ) → length (singles_at bs at n) ≡ n
   unfolding singles_at
-  length-singles_lem at zero = refl
-  length-singles_lem at (suc n) = ap suc (length-singles_lem (at + 4) n)
+  length-singles at zero = refl
+  length-singles at (suc n) = ap suc (length-singles (at + 4) n)
 
   pub fits_singles : (at n : ℕ) → AreSingles (singles_at bs at n)
   unfolding singles_at AreSingles
@@ -214,10 +214,10 @@ module _ (bs : List ℕ) where
   singles_front cs at zero h = refl
   singles_front cs at (suc n) h = rw (single_front bs cs at (omega arith), singles_front cs (at + 4) n (omega arith))
 
-  pub singles-behind_lem : (cs : List ℕ) (at n : ℕ) → singles_at (bs ++ cs) (length bs + at) n ≡ singles_at cs at n
+  pub singles-behind : (cs : List ℕ) (at n : ℕ) → singles_at (bs ++ cs) (length bs + at) n ≡ singles_at cs at n
   unfolding singles_at
-  singles-behind_lem cs at zero = refl
-  singles-behind_lem cs at (suc n) = rw (single-behind_lem bs cs at, add_assoc (length bs) at 4, singles-behind_lem cs (at + 4) n)
+  singles-behind cs at zero = refl
+  singles-behind cs at (suc n) = rw (single-behind bs cs at, add_assoc (length bs) at 4, singles-behind cs (at + 4) n)
 
   pub singles_bytes_back : (at n : ℕ) → AreBytes bs → at + 4 * n ≤ length bs → all_finite (singles_at bs at n) ≡ true → numbers_bytes (singles_at bs at n) ≡ take (4 * n) (drop at bs)
   unfolding singles_at numbers_bytes all_finite is_number
@@ -234,4 +234,4 @@ singles_back (x ∷ xs) rest h =
     let four : 4 ≡ length (single_bytes x) + 0 = unfold single_bytes in omega (arith, length_bytes 4 (to_bits binary32 x)) in
     rw (append_assoc (single_bytes x) (numbers_bytes xs) rest, single_back x (numbers_bytes xs ++ rest) h.0)
     (ap (λ (ys : List Float). x ∷ ys)
-    (ap (λ (at : ℕ). singles_at (single_bytes x ++ (numbers_bytes xs ++ rest)) at (length xs)) four ∙ singles-behind_lem (single_bytes x) (numbers_bytes xs ++ rest) 0 (length xs) ∙ singles_back xs rest h.1))
+    (ap (λ (at : ℕ). singles_at (single_bytes x ++ (numbers_bytes xs ++ rest)) at (length xs)) four ∙ singles-behind (single_bytes x) (numbers_bytes xs ++ rest) 0 (length xs) ∙ singles_back xs rest h.1))

@@ -4,7 +4,7 @@ use Prim.Native.Nat.{◌-◌}
 use lib.ListN.{length, drop}
 use borrow.Author.Rules.{rules}
 use Rattle.answers.specs.Answers.{are_marks}
-use Rattle.answers.proofs.Lists.{still_marks, other_mark, all-marks_lem}
+use Rattle.answers.proofs.Lists.{still_marks, other_mark, all-marks}
 use Rattle.answers.proofs.is_clean.Statement.{statement}
 use Rattle.answers.proofs.is_clean.Tie as tie
 use Rattle.answers.proofs.is_clean.Reads as reads
@@ -38,7 +38,7 @@ loop_again : tie.Need-loop-preserved invariant_loop decreases_loop
 loop_again c = c.before.before.before.loop.invariant ∙ still_marks _ _ _ c.before.before.loop-test.true c.if1.false
 
 returns_2 : tie.Need-returns-2 invariant_loop decreases_loop
-returns_2 c = sym (c.before.loop.invariant ∙ all-marks_lem _ _ c.loop-test.false)
+returns_2 c = sym (c.before.loop.invariant ∙ all-marks _ _ c.loop-test.false)
 
 pub is_clean_spec : {M : Type 1} → statement M
 is_clean_spec =

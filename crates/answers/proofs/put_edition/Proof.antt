@@ -1,7 +1,7 @@
 -- `answers::put_edition` meets its contract: nothing, or `2`. Assumes nothing.
 use mathlib.Core.Path.{sym, ap}
 use native.Mathlib.Omega.{arith}
-use Rattle.text.proofs.Writing.{put-nothing_lem, put_same}
+use Rattle.text.proofs.Writing.{put-nothing, put_same}
 use Rattle.answers.specs.Answers.{edition_text}
 use borrow.Author.Rules.{rules}
 use Rattle.answers.proofs.put_edition.Statement.{statement}
@@ -21,7 +21,7 @@ put_word_requires c κs = search rules
 
 returns : tie.Need-returns
 unfolding edition_text
-returns c = (put_same (ap edition_text (sym c.enum_told.given.1)) (put-nothing_lem _ _), omega arith)
+returns c = (put_same (ap edition_text (sym c.enum_told.given.1)) (put-nothing _ _), omega arith)
 
 same_length : tie.Need-same-length
 same_length c = search rules

@@ -1,7 +1,7 @@
 -- `answers::put_end` meets its contract: the end, or nothing. Assumes nothing.
 use mathlib.Core.Path.{sym, ap}
 use native.Mathlib.Omega.{arith}
-use Rattle.text.proofs.Writing.{put-nothing_lem, put_same}
+use Rattle.text.proofs.Writing.{put-nothing, put_same}
 use Rattle.answers.specs.Answers.{end_text}
 use borrow.Author.Rules.{rules}
 use Rattle.answers.proofs.put_end.Statement.{statement}
@@ -18,7 +18,7 @@ put_double_behind_requires c κs = search rules
 
 returns : tie.Need-returns
 unfolding end_text
-returns c = (put_same (ap end_text (sym c.enum_told.given.1)) (put-nothing_lem _ _), omega arith)
+returns c = (put_same (ap end_text (sym c.enum_told.given.1)) (put-nothing _ _), omega arith)
 
 same_length : tie.Need-same-length
 same_length c = search rules

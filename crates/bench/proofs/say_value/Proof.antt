@@ -1,5 +1,5 @@
 -- `bench::say_value` meets its contract: the text fits its buffer. Assumes nothing.
-use Rattle.bench.proofs.Cuts.{cut_length, put-within_lem}
+use Rattle.bench.proofs.Cuts.{cut_length, put-within}
 use borrow.Author.Rules.{rules}
 use Rattle.bench.proofs.say_value.Statement.{statement}
 use Rattle.bench.proofs.say_value.Tie as tie
@@ -15,10 +15,10 @@ put_value_requires : tie.Need-put-value-requires
 put_value_requires c κs = search rules
 
 array_share_prefix_text : tie.Need-array-share-prefix-text
-array_share_prefix_text c = put-within_lem c.before.put-value.ensures
+array_share_prefix_text c = put-within c.before.put-value.ensures
 
 slice_aggregate_write_all : tie.Need-slice-aggregate-write-all
-slice_aggregate_write_all c = cut_length _ _ (put-within_lem c.before.before.put-value.ensures)
+slice_aggregate_write_all c = cut_length _ _ (put-within c.before.before.put-value.ensures)
 
 write_all_requires : tie.Need-write-all-requires
 write_all_requires c κs = search rules

@@ -5,10 +5,10 @@ use native.Mathlib.Nat.{le_of_eq}
 use lib.ListN.{length, take, length-replicate}
 use Rattle.rules.specs.Numbers.{plus_zero}
 use Rattle.rules.specs.Mix.{mixed_all}
-use Rattle.laws.proofs.Within.{mixed-length_lem}
+use Rattle.laws.proofs.Within.{mixed-length}
 use Rattle.block.specs.Asked.{mixed_in}
 use Rattle.block.proofs.Tests.{silent, not_silent, fits_whole}
-use Rattle.block.proofs.Parts.{taken_out, over-all_lem, silent_in, lent_in}
+use Rattle.block.proofs.Parts.{taken_out, over-all, silent_in, lent_in}
 use borrow.Author.Rules.{rules}
 use Rattle.block.proofs.mix_part.Statement.{statement}
 use Rattle.block.proofs.mix_part.Tie as tie

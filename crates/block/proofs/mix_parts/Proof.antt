@@ -7,7 +7,7 @@ use lib.ListN.{length}
 use borrow.Rule.Slice.PartMut.{mid_len}
 use Rattle.rules.specs.Refusals.{fits_count}
 use Rattle.block.specs.Asked.{mixed_in}
-use Rattle.block.proofs.Parts.{Mixing, none_mixed, mixing_length, values_there, part-mixed_lem, all-mixed_lem, smaller_rises, mixed_long, mixed_there, part_input}
+use Rattle.block.proofs.Parts.{Mixing, none_mixed, mixing_length, values_there, part-mixed, all-mixed, smaller_rises, mixed_long, mixed_there, part_input}
 use Rattle.block.proofs.mix_parts.Statement.{statement}
 use Rattle.block.proofs.mix_parts.Tie as tie
 use Rattle.block.proofs.mix_parts.Reads as reads
@@ -94,7 +94,7 @@ loop_again c =
     let is = c.before.before.mix-part.ensures
     ∙ ap (mixed_in s.args.bounds _) (values_there ys o many a.loop.invariant (e - i))
     ∙ mixed_there s.args.bounds input o s.pre i e end.ensures.0 end.ensures.1 c.before.before.before.before.before.before.up_to.ensures c.before.before.before.before.before.up-to2.ensures in
-    rw there at (part-mixed_lem ys o many a.loop.invariant (e - i) (omega (arith, end.ensures.1)) p is)
+    rw there at (part-mixed ys o many a.loop.invariant (e - i) (omega (arith, end.ensures.1)) p is)
 
 same_length : tie.Need-same-length invariant_loop decreases_loop
 same_length c = kept c.before
@@ -103,7 +103,7 @@ returns : tie.Need-returns invariant_loop decreases_loop
 returns c =
     let a = c.before in
     let s = start a in
-    all-mixed_lem _ _ (mixed_long s.args.bounds s.args.input.now s.args.output.now s.pre) a.loop.invariant (omega (arith, c.loop-test))
+    all-mixed _ _ (mixed_long s.args.bounds s.args.input.now s.args.output.now s.pre) a.loop.invariant (omega (arith, c.loop-test))
 
 pub mix_parts_spec : {M : Type 1} → statement M
 mix_parts_spec =

@@ -1,6 +1,6 @@
 -- `mix_value` meets its contract, with one input for all places and with one for each. Assumes nothing.
 use mathlib.Core.Path.{refl, sym, ◌∙◌}
-use Rattle.block.proofs.Mixes.{inputs-each_lem, each_room, one_sample, one_value}
+use Rattle.block.proofs.Mixes.{inputs-each, each_room, one_sample, one_value}
 use borrow.Author.Rules.{rules}
 use Rattle.block.proofs.mix_value.Statement.{statement}
 use Rattle.block.proofs.mix_value.Tie as tie
@@ -34,7 +34,7 @@ mix_one_requires c κs =
     let said = c.before.before in
     let start = said.before.before.before in
     let a = start.args in
-    each_room a.bounds a.infos _ _ start.requires (inputs-each_lem a.infos.rate a.infos.count _ (sym (said.says-one.ensures _ refl) ∙ c.before.if1.false)).1
+    each_room a.bounds a.infos _ _ start.requires (inputs-each a.infos.rate a.infos.count _ (sym (said.says-one.ensures _ refl) ∙ c.before.if1.false)).1
 
 -- src/lib.rt:114:1
 same_length : tie.Need-same-length

@@ -1,7 +1,7 @@
 -- `calls::read_call` meets its contract: no call, or the row whose word the first is. Assumes nothing.
 use mathlib.Core.Path.{◌∙◌}
 use Rattle.calls.specs.Language.{calls}
-use Rattle.calls.proofs.Numbers.{heard-bare_lem}
+use Rattle.calls.proofs.Numbers.{heard-bare}
 use Rattle.calls.proofs.Rows.{this_row, next_row, heard_by, empty_line, comment, by_word}
 use borrow.Author.Rules.{rules}
 use Rattle.calls.proofs.read_call.Statement.{statement}
@@ -58,7 +58,7 @@ returns_3 c =
     heard_by _ _ _
     (by_word _ c.before.before.before.before.before.before.before.before.if1.false c.before.before.before.before.before.before.if2.false _ c.before.before.before.before.before.word-end.ensures.0
     ∙ this_row _ _ _ _ _ c.before.before.same.ensures c.before.if3.true)
-    (heard-bare_lem _ _ _ c.read-make.ensures)
+    (heard-bare _ _ _ c.read-make.ensures)
 
 slice_aggregate_same_2 : tie.Need-slice-aggregate-same-2
 slice_aggregate_same_2 c = search rules
@@ -127,7 +127,7 @@ returns_6 c =
     ∙ next_row _ _ _ _ _ e2.before.same2.ensures e2.if4.false
     ∙ next_row _ _ _ _ _ e3.before.same3.ensures e3.if5.false
     ∙ this_row _ _ _ _ _ c.before.before.same4.ensures c.before.if6.true)
-    (heard-bare_lem _ _ _ c.read-lend.ensures)
+    (heard-bare _ _ _ c.read-lend.ensures)
 
 slice_aggregate_same_5 : tie.Need-slice-aggregate-same-5
 slice_aggregate_same_5 c = search rules
@@ -152,7 +152,7 @@ returns_7 c =
     ∙ next_row _ _ _ _ _ e3.before.same3.ensures e3.if5.false
     ∙ next_row _ _ _ _ _ e4.before.same4.ensures e4.if6.false
     ∙ this_row _ _ _ _ _ c.before.before.same5.ensures c.before.if7.true)
-    (heard-bare_lem _ _ _ c.read-poke.ensures)
+    (heard-bare _ _ _ c.read-poke.ensures)
 
 slice_aggregate_same_6 : tie.Need-slice-aggregate-same-6
 slice_aggregate_same_6 c = search rules
@@ -179,7 +179,7 @@ returns_8 c =
     ∙ next_row _ _ _ _ _ e4.before.same4.ensures e4.if6.false
     ∙ next_row _ _ _ _ _ e5.before.same5.ensures e5.if7.false
     ∙ this_row _ _ _ _ _ c.before.before.same6.ensures c.before.if8.true)
-    (heard-bare_lem _ _ _ c.read-state.ensures)
+    (heard-bare _ _ _ c.read-state.ensures)
 
 slice_aggregate_same_7 : tie.Need-slice-aggregate-same-7
 slice_aggregate_same_7 c = search rules
@@ -208,7 +208,7 @@ returns_9 c =
     ∙ next_row _ _ _ _ _ e5.before.same5.ensures e5.if7.false
     ∙ next_row _ _ _ _ _ e6.before.same6.ensures e6.if8.false
     ∙ this_row _ _ _ _ _ c.before.before.same7.ensures c.before.if9.true)
-    (heard-bare_lem _ _ _ c.read-save.ensures)
+    (heard-bare _ _ _ c.read-save.ensures)
 
 slice_aggregate_same_8 : tie.Need-slice-aggregate-same-8
 slice_aggregate_same_8 c = search rules

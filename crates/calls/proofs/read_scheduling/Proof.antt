@@ -1,7 +1,7 @@
 -- `calls::read_scheduling` meets its contract: the row whose word it is, or none. Assumes nothing.
 use mathlib.Core.Path.{◌∙◌}
 use Rattle.calls.specs.Language.{scheduling}
-use Rattle.calls.proofs.Numbers.{unheard, heard-bare_lem}
+use Rattle.calls.proofs.Numbers.{unheard, heard-bare}
 use Rattle.calls.proofs.Rows.{this_row, next_row, no_row, heard_by}
 use borrow.Author.Rules.{rules}
 use Rattle.calls.proofs.read_scheduling.Statement.{statement}
@@ -29,7 +29,7 @@ unfolding scheduling
 returns c =
     λ file. heard_by _ _ file
     (this_row _ _ _ _ _ c.before.before.same.ensures c.before.if1.true)
-    (heard-bare_lem _ _ file c.read_set.ensures)
+    (heard-bare _ _ file c.read_set.ensures)
 
 slice_aggregate_same_2 : tie.Need-slice-aggregate-same-2
 slice_aggregate_same_2 c = search rules
@@ -47,7 +47,7 @@ returns_2 c =
     λ file. heard_by _ _ file
     (next_row _ _ _ _ _ e1.before.same.ensures e1.if1.false
     ∙ this_row _ _ _ _ _ c.before.before.same2.ensures c.before.if2.true)
-    (heard-bare_lem _ _ file c.read-timed.ensures)
+    (heard-bare _ _ file c.read-timed.ensures)
 
 slice_aggregate_same_3 : tie.Need-slice-aggregate-same-3
 slice_aggregate_same_3 c = search rules
@@ -67,7 +67,7 @@ returns_3 c =
     (next_row _ _ _ _ _ e1.before.same.ensures e1.if1.false
     ∙ next_row _ _ _ _ _ e2.before.same2.ensures e2.if2.false
     ∙ this_row _ _ _ _ _ c.before.before.same3.ensures c.before.if3.true)
-    (heard-bare_lem _ _ file c.read-timed2.ensures)
+    (heard-bare _ _ file c.read-timed2.ensures)
 
 slice_aggregate_same_4 : tie.Need-slice-aggregate-same-4
 slice_aggregate_same_4 c = search rules
@@ -89,7 +89,7 @@ returns_4 c =
     ∙ next_row _ _ _ _ _ e2.before.same2.ensures e2.if2.false
     ∙ next_row _ _ _ _ _ e3.before.same3.ensures e3.if3.false
     ∙ this_row _ _ _ _ _ c.before.before.same4.ensures c.before.if4.true)
-    (heard-bare_lem _ _ file c.read-timed3.ensures)
+    (heard-bare _ _ file c.read-timed3.ensures)
 
 slice_aggregate_same_5 : tie.Need-slice-aggregate-same-5
 slice_aggregate_same_5 c = search rules
@@ -113,7 +113,7 @@ returns_5 c =
     ∙ next_row _ _ _ _ _ e3.before.same3.ensures e3.if3.false
     ∙ next_row _ _ _ _ _ e4.before.same4.ensures e4.if4.false
     ∙ this_row _ _ _ _ _ c.before.before.same5.ensures c.before.if5.true)
-    (heard-bare_lem _ _ file c.read-target.ensures)
+    (heard-bare _ _ file c.read-target.ensures)
 
 slice_aggregate_same_6 : tie.Need-slice-aggregate-same-6
 slice_aggregate_same_6 c = search rules
@@ -170,7 +170,7 @@ returns_7 c =
     ∙ next_row _ _ _ _ _ e5.before.same5.ensures e5.if5.false
     ∙ next_row _ _ _ _ _ e6.before.same6.ensures e6.if6.false
     ∙ this_row _ _ _ _ _ c.before.before.same7.ensures c.before.if7.true)
-    (heard-bare_lem _ _ file c.read-cancelling.ensures)
+    (heard-bare _ _ file c.read-cancelling.ensures)
 
 slice_aggregate_same_8 : tie.Need-slice-aggregate-same-8
 slice_aggregate_same_8 c = search rules
@@ -200,7 +200,7 @@ returns_8 c =
     ∙ next_row _ _ _ _ _ e6.before.same6.ensures e6.if6.false
     ∙ next_row _ _ _ _ _ e7.before.same7.ensures e7.if7.false
     ∙ this_row _ _ _ _ _ c.before.before.same8.ensures c.before.if8.true)
-    (heard-bare_lem _ _ file c.read-cancelling2.ensures)
+    (heard-bare _ _ file c.read-cancelling2.ensures)
 
 returns_9 : tie.Need-returns-9
 unfolding scheduling

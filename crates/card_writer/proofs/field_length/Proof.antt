@@ -2,7 +2,7 @@
 use native.Mathlib.Omega.{arith}
 use borrow.Author.Rules.{rules}
 use Rattle.words.specs.Words.{bytes_of, single_bytes, double_bytes}
-use Rattle.words.proofs.Bytes.{length-numbers_lem}
+use Rattle.words.proofs.Bytes.{length-numbers}
 use Rattle.card.specs.Card.{event_field}
 use Rattle.card_writer.proofs.field_length.Statement.{statement}
 use Rattle.card_writer.proofs.field_length.Tie as tie
@@ -46,7 +46,7 @@ returns_4 c = rw c.enum-told4.given.1
 
 returns_5 : tie.Need-returns-5
 unfolding event_field single_bytes double_bytes bytes_of
-returns_5 c = rw c.enum-told5.given.1 (omega (arith, length-numbers_lem c.before.before.args.numbers.now))
+returns_5 c = rw c.enum-told5.given.1 (omega (arith, length-numbers c.before.before.args.numbers.now))
 
 pub field_length_spec : {M : Type 1} → statement M
 field_length_spec =

@@ -2,7 +2,7 @@
 use mathlib.Core.Path.{sym, ap, ◌∙◌}
 use borrow.Author.Rules.{rules}
 use Rattle.laws.specs.Sound.{has_played}
-use Rattle.card_writer.proofs.Judging.{judged_store, judged-played_lem, judged_events}
+use Rattle.card_writer.proofs.Judging.{judged_store, judged-played, judged_events}
 use Rattle.card_writer.proofs.judge.Statement.{statement}
 use Rattle.card_writer.proofs.judge.Tie as tie
 
@@ -16,7 +16,7 @@ has_played_requires : tie.Need-has-played-requires
 has_played_requires c κs = search rules
 
 returns_2 : tie.Need-returns-2
-returns_2 c = judged-played_lem _ _ c.before.before.before.if1.false (sym (c.before.has-played.ensures ∙ ap has_played c.before.before.last-block-time.ensures) ∙ c.if2.true)
+returns_2 c = judged-played _ _ c.before.before.before.if1.false (sym (c.before.has-played.ensures ∙ ap has_played c.before.before.last-block-time.ensures) ∙ c.if2.true)
 
 judge_events_requires : tie.Need-judge-events-requires
 judge_events_requires c κs = search rules

@@ -2,7 +2,7 @@
 use native.Mathlib.Omega.{arith}
 use borrow.Author.Rules.{rules}
 use Rattle.words.specs.Words.{bytes_of, single_bytes, double_bytes}
-use Rattle.words.proofs.Bytes.{length-numbers_lem}
+use Rattle.words.proofs.Bytes.{length-numbers}
 use Rattle.card.specs.Card.{event_field}
 use Rattle.card_writer.proofs.put_event.Statement.{statement}
 use Rattle.card_writer.proofs.put_event.Tie as tie
@@ -40,7 +40,7 @@ enum_known_e_5 c = search rules
 
 put_curve_requires : tie.Need-put-curve-requires
 unfolding event_field single_bytes double_bytes bytes_of
-put_curve_requires c κs = let room = rw c.before.before.e5.given.1 at c.before.before.before.before.before.before.requires in omega (arith, room, length-numbers_lem c.before.before.before.before.before.before.args.numbers.now)
+put_curve_requires c κs = let room = rw c.before.before.e5.given.1 at c.before.before.before.before.before.before.requires in omega (arith, room, length-numbers c.before.before.before.before.before.before.args.numbers.now)
 
 same_length : tie.Need-same-length
 same_length c = search rules

@@ -7,7 +7,7 @@ use borrow.Author.Rules.{rules}
 use Rattle.rules.specs.Queue.{lengths_of, attached}
 use Rattle.timeline.specs.Timeline.{waiting}
 use Rattle.card.specs.Card.{fields_of}
-use Rattle.card_writer.proofs.Parts.{Leaves, leaves_fewer, leaves_none, fields-next_lem, fields-length_lem, fields-over_lem}
+use Rattle.card_writer.proofs.Parts.{Leaves, leaves_fewer, leaves_none, fields-next, fields-length, fields-over}
 use Rattle.card_writer.proofs.Turns.{Walked, walked, Turn, turn, over}
 use Rattle.card_writer.proofs.put_events.Statement.{statement}
 use Rattle.card_writer.proofs.put_events.Tie as tie
@@ -63,7 +63,7 @@ part_put_event_end : tie.Need-slice-bounds-put-event-end invariant_loop decrease
 part_put_event_end c = omega (arith, (event c.before).room, c.before.before.before.before.before.before.before.before.requires.1)
 
 put_event_requires : tie.Need-put-event-requires invariant_loop decreases_loop
-put_event_requires c κs = omega (arith, room c.before.before.before.before.before, c.before.before.before.before.before.loop.invariant.2, c.before.before.before.before.before.loop.invariant.3, fields-length_lem (event c.before.before).here)
+put_event_requires c κs = omega (arith, room c.before.before.before.before.before, c.before.before.before.before.before.loop.invariant.2, c.before.before.before.before.before.loop.invariant.3, fields-length (event c.before.before).here)
 
 add_i : tie.Need-overflow-add-i invariant_loop decreases_loop
 add_i c = search rules
@@ -76,14 +76,14 @@ loop_again c =
     let t = event c.before.before.before.before.before in
     let l = c.before.before.before.before.before.before.before.before.loop in
     let put = c.before.before.put-event.ensures in
-    let long = fields-length_lem t.here in
-    (omega arith, t.past, omega (arith, l.invariant.2), omega (arith, l.invariant.3, put.place), leaves_fewer l.invariant.4 (fields-next_lem t.here) put (omega (arith, room c.before.before.before.before.before.before.before.before, l.invariant.2, l.invariant.3, put.place)))
+    let long = fields-length t.here in
+    (omega arith, t.past, omega (arith, l.invariant.2), omega (arith, l.invariant.3, put.place), leaves_fewer l.invariant.4 (fields-next t.here) put (omega (arith, room c.before.before.before.before.before.before.before.before, l.invariant.2, l.invariant.3, put.place)))
 
 same_length : tie.Need-same-length invariant_loop decreases_loop
 same_length c = search rules
 
 returns : tie.Need-returns invariant_loop decreases_loop
-returns c = rw (← (queue c.before).same) (leaves_none c.before.loop.invariant.4 (fields-over_lem (over (queue c.before) _ _ c.loop-test.false)))
+returns c = rw (← (queue c.before).same) (leaves_none c.before.loop.invariant.4 (fields-over (over (queue c.before) _ _ c.loop-test.false)))
 
 pub put_events_spec : {M : Type 1} → statement M
 put_events_spec =

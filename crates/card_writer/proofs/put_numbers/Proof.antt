@@ -5,7 +5,7 @@ use native.Mathlib.Omega.{arith}
 use lib.ListN.{length, drop}
 use borrow.Author.Rules.{rules}
 use Rattle.words.specs.Words.{bytes_of, single_bytes, numbers_bytes}
-use Rattle.card_writer.proofs.Parts.{Leaves, leaves_fewer, leaves_none, numbers-next_lem, numbers-over_lem}
+use Rattle.card_writer.proofs.Parts.{Leaves, leaves_fewer, leaves_none, numbers-next, numbers-over}
 use Rattle.card_writer.proofs.put_numbers.Statement.{statement}
 use Rattle.card_writer.proofs.put_numbers.Tie as tie
 
@@ -39,13 +39,13 @@ unfolding single_bytes bytes_of
 loop_again c =
     let l = c.before.before.before.before.before.before.loop in
     let put = c.before.before.put-single.ensures in
-    (omega arith, omega arith, omega arith, leaves_fewer l.invariant.3 (numbers-next_lem _ l.i _ c.before.before.before.before.before.loop-test.true) put (omega arith))
+    (omega arith, omega arith, omega arith, leaves_fewer l.invariant.3 (numbers-next _ l.i _ c.before.before.before.before.before.loop-test.true) put (omega arith))
 
 same_length : tie.Need-same-length invariant_loop decreases_loop
 same_length c = search rules
 
 returns : tie.Need-returns invariant_loop decreases_loop
-returns c = leaves_none c.before.loop.invariant.3 (numbers-over_lem _ _ c.loop-test.false)
+returns c = leaves_none c.before.loop.invariant.3 (numbers-over _ _ c.loop-test.false)
 
 pub put_numbers_spec : {M : Type 1} → statement M
 put_numbers_spec =

@@ -11,7 +11,7 @@ use Rattle.card.specs.Card.{is_accepted}
 use Rattle.card.proofs.Bound.{range_size}
 use Rattle.card_writer.specs.Writer.{Printable}
 use Rattle.card_writer.proofs.Formats.{printable}
-use Rattle.card_writer.proofs.Saving.{whole_store, bytes_said, saved_not, saved_short, saved-whole_lem}
+use Rattle.card_writer.proofs.Saving.{whole_store, bytes_said, saved_not, saved_short, saved-whole}
 use Rattle.card_writer.proofs.write.Statement.{statement}
 use Rattle.card_writer.proofs.write.Tie as tie
 
@@ -52,7 +52,7 @@ same_length c = search rules
 
 returns_3 : tie.Need-returns-3
 returns_3 c = record {
-  saved = saved-whole_lem _ _ c.before.before.before.before.before.before.before.before.before.before.before.before.judge.ensures (answered c.before.before.before.before.before.before.before.before.before.before) _ c.before.before.before.before.before.before.before.before.before.if2.false c.before.before.before.before.before.before.before.bounds.ensures c.before.before.before.before.before.before.put-range.ensures c.before.before.put-events.ensures;
+  saved = saved-whole _ _ c.before.before.before.before.before.before.before.before.before.before.before.before.judge.ensures (answered c.before.before.before.before.before.before.before.before.before.before) _ c.before.before.before.before.before.before.before.before.before.if2.false c.before.before.before.before.before.before.before.bounds.ensures c.before.before.before.before.before.before.put-range.ensures c.before.before.put-events.ensures;
   printable = floats c.before.before.before.before.before.before.before.before.before.before.before.before.before.before;
 }
 

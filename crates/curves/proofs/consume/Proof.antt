@@ -7,7 +7,7 @@ use Rattle.rules.specs.Queue.{lengths_of}
 use Rattle.timeline.specs.Timeline.{made, waiting}
 use Rattle.timeline.proofs.Laws.{count, offset_most}
 use Rattle.curves.specs.Curves.{moved}
-use Rattle.curves.proofs.Calls.{consumed-part_lem, consumed_events, emptied_part, emptied_events}
+use Rattle.curves.proofs.Calls.{consumed-part, consumed_events, emptied_part, emptied_events}
 use borrow.Author.Rules.{rules}
 use Rattle.curves.proofs.consume.Statement.{statement}
 use Rattle.curves.proofs.consume.Tie as tie
@@ -73,7 +73,7 @@ returns_2 c =
       queue = c.drop-heads.ensures ∙ ap made (consumed_events q o start.requires.1 a.n);
       part =
           c.before.before.before.zero-behind2.ensures
-          ∙ consumed-part_lem q o start.requires.1 a.n m.move_down.new.0 left u
+          ∙ consumed-part q o start.requires.1 a.n m.move_down.new.0 left u
           (m.move_down.ensures ∙ ap (λ (k : ℕ). moved o k 0 left) d.offset-of.ensures);
     }
 

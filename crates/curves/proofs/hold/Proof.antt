@@ -3,7 +3,7 @@ use mathlib.Core.Path.{ap, ◌∙◌}
 use lib.ListN.{length}
 use Rattle.rules.specs.Queue.{attached, held}
 use Rattle.timeline.specs.Timeline.{made, waiting}
-use Rattle.curves.proofs.Calls.{packed-same_lem, held_queue, held-numbers_lem}
+use Rattle.curves.proofs.Calls.{packed-same, held_queue, held-numbers}
 use borrow.Author.Rules.{rules}
 use Rattle.curves.proofs.hold.Statement.{statement}
 use Rattle.curves.proofs.hold.Tie as tie
@@ -24,7 +24,7 @@ returns c =
     let o = a.part.now in
     record {
       queue = c.hold.ensures ∙ ap made (held_queue a.c q o);
-      part = c.before.before.before.cut.ensures ∙ packed-same_lem (length o) _ (held a.c (attached q o)) (held-numbers_lem a.c q o);
+      part = c.before.before.before.cut.ensures ∙ packed-same (length o) _ (held a.c (attached q o)) (held-numbers a.c q o);
     }
 
 pub hold_spec : {M : Type 1} → statement M

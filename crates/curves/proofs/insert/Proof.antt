@@ -11,7 +11,7 @@ use Rattle.timeline.specs.Timeline.{made, waiting}
 use Rattle.timeline.proofs.Laws.{count, offset_most}
 use Rattle.timeline.proofs.Steps.{place_within}
 use Rattle.curves.specs.Curves.{curve_of}
-use Rattle.curves.proofs.Calls.{inserted-part_lem, inserted_events}
+use Rattle.curves.proofs.Calls.{inserted-part, inserted_events}
 use borrow.Author.Rules.{rules}
 use Rattle.curves.proofs.insert.Statement.{statement}
 use Rattle.curves.proofs.insert.Tie as tie
@@ -80,7 +80,7 @@ returns c =
           ∙ ap made (inserted_events a.start a.duration xs q o);
       part =
           c.before.before.before.zero-behind.ensures
-          ∙ inserted-part_lem a.start a.duration xs q o start.requires.2 u at d.before.before.lengths.ensures
+          ∙ inserted-part a.start a.duration xs q o start.requires.2 u at d.before.before.lengths.ensures
           (d.offset-of.ensures ∙ ap (λ (k : ℕ). lengths_of (take k q)) p) w.write.new.0
           (w.write.ensures ∙ ap (λ (s : List Float). paste s at xs (length xs)) m.move_up.ensures);
     }

@@ -9,7 +9,7 @@ use lib.Ieee.Fits.{and_i, fits_widens}
 use Rattle.rules.specs.Numbers.{narrowed}
 use Rattle.rules.specs.Samples.{decay_of, decay}
 use Rattle.phases.proofs.Seen.{seen}
-use Rattle.samples.proofs.Fading.{decay_gone, decay-left_lem}
+use Rattle.samples.proofs.Fading.{decay_gone, decay-left}
 use Rattle.decays.specs.Told.{steps_in, Steps}
 use Rattle.decays.proofs.Fits.{decay_fits, decay_no_nan}
 use Rattle.decays.proofs.decay_at.Statement.{statement}
@@ -30,7 +30,7 @@ factor : (c : tie.Then3) → narrowed (decay_of (steps_in c.before.before.raised
 unfolding of_bits
 factor c =
     let r = c.before.before in
-    ap (λ (p : ℕ). narrowed (decay_of p)) (seen r.raised.result r.raised.ensures c.before.if2.true).whole ∙ decay-left_lem r.before.before.args.y r.before.if1.false
+    ap (λ (p : ℕ). narrowed (decay_of p)) (seen r.raised.result r.raised.ensures c.before.if2.true).whole ∙ decay-left r.before.before.args.y r.before.if1.false
 
 told_of_requires : tie.Need-told-of-requires
 told_of_requires c κs = (c.before.before.before.before.requires, steps c)

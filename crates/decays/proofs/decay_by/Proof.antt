@@ -6,7 +6,7 @@ use Prim.Native.Nat.{ℕ, ◌-◌, ◌*◌, ◌/◌, ◌^◌, ◌<◌}
 use native.Mathlib.Omega.{arith}
 use lib.Ieee.{binary32, of_bits, round}
 use Rattle.rules.specs.Kernels.{parts}
-use Rattle.samples.proofs.Fading.{decay_gone, steps_few, decay-left_lem, steps_norm}
+use Rattle.samples.proofs.Fading.{decay_gone, steps_few, decay-left, steps_norm}
 use Rattle.decays.proofs.decay_by.Statement.{statement}
 use Rattle.decays.proofs.decay_by.Tie as tie
 
@@ -37,7 +37,7 @@ returns_2 c =
     let w = f.before in
     let p = w.whole.result in
     c.norm32.ensures ∙ ap (λ (d : ℕ). round binary32 false (d * 2 ^ (331 - p / parts)) (2 ^ 363)) f.falling-by.ensures
-    ∙ steps_norm p (few w) ∙ rw w.whole.ensures (decay-left_lem w.before.before.args.y w.before.if1.false)
+    ∙ steps_norm p (few w) ∙ rw w.whole.ensures (decay-left w.before.before.args.y w.before.if1.false)
 
 pub decay_by_spec : {M : Type 1} → statement M
 decay_by_spec =

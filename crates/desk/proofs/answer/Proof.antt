@@ -3,7 +3,7 @@ use mathlib.Core.Path.{refl, sym, subst}
 use Prim.Native.Nat.{ℕ, ◌<◌}
 use native.Mathlib.Omega.{arith}
 use lib.Seq.{length-take-le}
-use Rattle.text.proofs.Writing.{put-nothing_lem}
+use Rattle.text.proofs.Writing.{put-nothing}
 use Rattle.desk.specs.Desk.{InRange, unread, answer_of}
 use Rattle.desk.proofs.Turns.{said, by_call, ranged, scheduling_by}
 use borrow.Author.Rules.{rules}
@@ -115,7 +115,7 @@ returns : tie.Need-returns
 unfolding answer_of
 returns c =
     let a = c.before.before.before.before.before.before in
-    by_call a.args.numbers.now a.args.file.now c.enum_told.given.1 (said _ _ _ a.args.desk.lent _ _ a.requires.0 refl a.requires.0.lent refl (put-nothing_lem _ _) (omega arith))
+    by_call a.args.numbers.now a.args.file.now c.enum_told.given.1 (said _ _ _ a.args.desk.lent _ _ a.requires.0 refl a.requires.0.lent refl (put-nothing _ _) (omega arith))
 
 same_length : tie.Need-same-length
 same_length c = search rules

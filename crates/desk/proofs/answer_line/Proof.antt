@@ -2,7 +2,7 @@
 use native.Mathlib.Omega.{arith}
 use Rattle.desk.specs.Desk.{line_turn}
 use Rattle.desk.proofs.Turns.{newline}
-use Rattle.desk.proofs.Ranges.{heard_in_range, heard-turn_lem}
+use Rattle.desk.proofs.Ranges.{heard_in_range, heard-turn}
 use borrow.Author.Rules.{rules}
 use Rattle.desk.proofs.answer_line.Statement.{statement}
 use Rattle.desk.proofs.answer_line.Tie as tie
@@ -38,7 +38,7 @@ same_length_4 c = search rules
 
 returns : tie.Need-returns
 unfolding line_turn
-returns c = newline (heard-turn_lem _ _ _ _ c.before.before.before.before.before.before.before.before.before.before.before.before.before.before.before.before.before.before.before.before.read-call.ensures) c.before.before.before.before.before.before.before.before.before.before.before.answer.ensures c.before.before.put_byte.ensures c.before.before.before.before.before.before.before.before.before.before.before.before.before.before.before.before.before.before.before.before.before.before.before.before.before.before.before.before.requires.4
+returns c = newline (heard-turn _ _ _ _ c.before.before.before.before.before.before.before.before.before.before.before.before.before.before.before.before.before.before.before.before.read-call.ensures) c.before.before.before.before.before.before.before.before.before.before.before.answer.ensures c.before.before.put_byte.ensures c.before.before.before.before.before.before.before.before.before.before.before.before.before.before.before.before.before.before.before.before.before.before.before.before.before.before.before.before.requires.4
 
 pub answer_line_spec : {M : Type 1} → statement M
 answer_line_spec =

@@ -1,5 +1,5 @@
 -- `desk::make` meets its contract: what the constructor ensures, and the store cleared. Assumes nothing.
-use Rattle.desk.proofs.Turns.{made-spoken_lem}
+use Rattle.desk.proofs.Turns.{made-spoken}
 use borrow.Author.Rules.{rules}
 use Rattle.desk.proofs.make.Statement.{statement}
 use Rattle.desk.proofs.make.Tie as tie
@@ -29,7 +29,7 @@ same_length_2 c = search rules
 
 returns : tie.Need-returns
 returns c =
-    made-spoken_lem _ _ _ _ _ _ _ _ _ _ c.before.before.before.before.before.before.before.before.before.before.before.before.requires.0 c.before.before.before.before.before.before.before.before.clear.ensures c.before.before.before.before.before.with-edition.ensures
+    made-spoken _ _ _ _ _ _ _ _ _ _ c.before.before.before.before.before.before.before.before.before.before.before.before.requires.0 c.before.before.before.before.before.before.before.before.clear.ensures c.before.before.before.before.before.with-edition.ensures
     (rw c.before.before.before.before.none.ensures at c.before.before.told.ensures)
 
 pub make_spec : {M : Type 1} → statement M

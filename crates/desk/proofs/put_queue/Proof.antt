@@ -8,7 +8,7 @@ use borrow.Author.Rules.{rules}
 use Rattle.rules.specs.Queue.{lengths_of}
 use Rattle.param.specs.Param.{param_of}
 use Rattle.text.specs.Put.{Put}
-use Rattle.text.proofs.Writing.{put-nothing_lem, put_same, put_then}
+use Rattle.text.proofs.Writing.{put-nothing, put_same, put_then}
 use Rattle.desk.specs.Desk.{queue_text}
 use Rattle.desk.proofs.Queues.{next_text, next_width, last_text_lem, all_width}
 use Rattle.desk.proofs.put_queue.Statement.{statement}
@@ -63,7 +63,7 @@ returns : tie.Need-returns invariant_loop decreases_loop
 returns c =
     let l = c.before.loop in
     let past : length (param_of c.before.before.before.before.before.args.p).queue ≤ l.i = subst (λ (k : ℕ). k ≤ l.i) c.before.before.len.ensures c.loop-test.false in
-    (l.invariant.3 _ _ (put_same (sym (last_text_lem (param_of c.before.before.before.before.before.args.p).queue l.i _ past)) (put-nothing_lem _ _)), omega (arith, l.invariant.2))
+    (l.invariant.3 _ _ (put_same (sym (last_text_lem (param_of c.before.before.before.before.before.args.p).queue l.i _ past)) (put-nothing _ _)), omega (arith, l.invariant.2))
 
 pub put_queue_spec : {M : Type 1} → statement M
 put_queue_spec =

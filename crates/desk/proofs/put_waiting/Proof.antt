@@ -5,7 +5,7 @@ use Prim.Native.Nat.{◌+◌, ◌-◌}
 use lib.ListN.{take, drop}
 use Rattle.answers.proofs.Lists.{list_length}
 use Rattle.param.specs.Param.{param_of}
-use Rattle.text.proofs.Writing.{put-nothing_lem, put_same, put_then}
+use Rattle.text.proofs.Writing.{put-nothing, put_same, put_then}
 use Rattle.desk.specs.Desk.{waiting_at, width_at}
 use Rattle.desk.proofs.Queues.{first_none, width, within, part_length, waiting_text_lem}
 use borrow.Author.Rules.{rules}
@@ -31,7 +31,7 @@ enum_told c = search rules
 returns : tie.Need-returns
 unfolding waiting_at width_at
 returns c = (
-  put_same (sym (first_none (drop c.before.before.before.before.before.args.i (param_of c.before.before.before.before.before.args.p).queue) _ (sym c.enum_told.given.1 ∙ c.before.before.event-at.ensures))) (put-nothing_lem _ _),
+  put_same (sym (first_none (drop c.before.before.before.before.before.args.i (param_of c.before.before.before.before.before.args.p).queue) _ (sym c.enum_told.given.1 ∙ c.before.before.event-at.ensures))) (put-nothing _ _),
   omega arith,
 )
 

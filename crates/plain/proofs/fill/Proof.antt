@@ -9,7 +9,7 @@ use Rattle.rules.specs.Numbers.{time_at}
 use Rattle.laws.proofs.Tests.{both}
 use Rattle.plain.specs.declared.Look.{Look}
 use Rattle.plain.specs.Seen.{filled_of, seen, sample_of, time_after}
-use Rattle.plain.proofs.Sees.{fill_passed, fill_other, fill-found_lem, sample_is}
+use Rattle.plain.proofs.Sees.{fill_passed, fill_other, fill-found, sample_is}
 use borrow.Author.Rules.{rules}
 use Rattle.plain.proofs.fill.Statement.{statement}
 use Rattle.plain.proofs.fill.Tie as tie
@@ -39,7 +39,7 @@ returns_2 c = λ f n w e.
     let among = both (leb a.look.filled a.look.place) (ltb a.look.place a.to) c.before.before.if2.true in
     let time = c.before.sample-time.ensures ∙ ap (λ (l : Look). time_after l.infos.dt (l.place - l.filled) (time_at l.infos l.filled)) e in
     let found = c.value_at.ensures ∙ sample_is f n w e a.event a.numbers.now c.before.sample-time.result ∙ ap sample time in
-    let is = fill-found_lem f a.to sample w n few (omega (arith, c.before.before.before.before.before.if1.false)) (omega (arith, leb-true a.look.filled a.look.place among.0)) (omega (arith, ltb-true a.look.place a.to among.1)) in
+    let is = fill-found f a.to sample w n few (omega (arith, c.before.before.before.before.before.if1.false)) (omega (arith, leb-true a.look.filled a.look.place among.0)) (omega (arith, ltb-true a.look.place a.to among.1)) in
     rw (e, found) (sym is)
 
 returns_3 : tie.Need-returns-3

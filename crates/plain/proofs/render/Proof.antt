@@ -12,7 +12,7 @@ use Rattle.rules.specs.Mix.{inputs}
 use Rattle.mix.proofs.Writes.{Writes, begins, goes_on, ends}
 use Rattle.block.proofs.Tests.{not_silent, fits_whole}
 use Rattle.plain.specs.Seen.{samples_of}
-use Rattle.plain.proofs.Blocks.{lookable, place_inside, silent_at, input_at, samples_many, sample_is, all-written_lem}
+use Rattle.plain.proofs.Blocks.{lookable, place_inside, silent_at, input_at, samples_many, sample_is, all-written}
 use Rattle.plain.proofs.render.Statement.{statement}
 use Rattle.plain.proofs.render.Tie as tie
 
@@ -88,7 +88,7 @@ same_length c = c.before.loop.invariant.0.whole
 returns : tie.Need-returns invariant_loop decreases_loop
 returns c = let l = c.before.loop in
     let a = c.before.before.before.before.before.args in
-    all-written_lem a.param a.infos a.input.now a.store.now c.before.before.before.before.before.requires.fits.lent a.output.now (ends (samples_of a.param a.infos a.input.now a.store.now) a.infos.count a.output.now l.place l.output l.invariant.0 (omega arith))
+    all-written a.param a.infos a.input.now a.store.now c.before.before.before.before.before.requires.fits.lent a.output.now (ends (samples_of a.param a.infos a.input.now a.store.now) a.infos.count a.output.now l.place l.output l.invariant.0 (omega arith))
 
 pub render_spec : {M : Type 1} → statement M
 render_spec =

@@ -4,7 +4,7 @@ use native.Mathlib.Nat.{le_trans, le_of_eq}
 use native.Mathlib.Omega.{arith}
 use lib.Seq.{length-take-le}
 use Rattle.wording.proofs.Steps.{wrote_to, wrote_unread, room_to, written_is}
-use Rattle.play.proofs.Turns.{no_translation, a_translation, spoken-same_lem}
+use Rattle.play.proofs.Turns.{no_translation, a_translation, spoken-same}
 use borrow.Author.Rules.{rules}
 use Rattle.play.proofs.answer_plain.Statement.{statement}
 use Rattle.play.proofs.answer_plain.Tie as tie
@@ -34,7 +34,7 @@ same_length_2 c = search rules
 
 returns : tie.Need-returns
 returns c =
-    spoken-same_lem (no_translation _ _ (wrote_unread _ _ _ _ c.before.before.before.before.before.before.before.before.translate.ensures.0 c.before.before.before.before.enum_told.given.1)) (c.before.before.answer-not-read.ensures _)
+    spoken-same (no_translation _ _ (wrote_unread _ _ _ _ c.before.before.before.before.before.before.before.before.translate.ensures.0 c.before.before.before.before.enum_told.given.1)) (c.before.before.answer-not-read.ensures _)
 
 slice_reshare_prefix_answer_read : tie.Need-slice-reshare-prefix-answer-read
 slice_reshare_prefix_answer_read c =
@@ -65,7 +65,7 @@ same_length_7 c = search rules
 returns_2 : tie.Need-returns-2
 returns_2 c =
     let v = wrote_to c.before.before.before.before.before.before.before.before.before.before.before.before.before.before.before.before.before.before.before.translate.ensures.0 c.before.before.before.before.before.before.before.before.before.before.before.before.before.before.before.to.given.1 in
-    spoken-same_lem (a_translation _ _ v.1 (written_is v.2 (room_to _ c.before.before.before.before.before.before.before.before.before.before.before.before.before.before.before.before.before.before.before.translate.ensures.1 c.before.before.before.before.before.before.before.before.before.before.before.before.before.before.before.to.given.1))) c.before.before.before.before.before.before.before.before.answer-read.ensures
+    spoken-same (a_translation _ _ v.1 (written_is v.2 (room_to _ c.before.before.before.before.before.before.before.before.before.before.before.before.before.before.before.before.before.before.before.translate.ensures.1 c.before.before.before.before.before.before.before.before.before.before.before.before.before.before.before.to.given.1))) c.before.before.before.before.before.before.before.before.answer-read.ensures
 
 pub answer_plain_spec : {M : Type 1} → statement M
 answer_plain_spec =

@@ -1,6 +1,6 @@
 -- `play::answer_read` meets its contract: `cost`, or a call of the session language. Assumes nothing.
 use mathlib.Core.Path.{sym, ◌∙◌}
-use Rattle.play.proofs.Turns.{read_cost, read_strict, spoken-same_lem}
+use Rattle.play.proofs.Turns.{read_cost, read_strict, spoken-same}
 use borrow.Author.Rules.{rules}
 use Rattle.play.proofs.answer_read.Statement.{statement}
 use Rattle.play.proofs.answer_read.Tie as tie
@@ -24,7 +24,7 @@ same_length c = search rules
 
 returns : tie.Need-returns
 returns c =
-    spoken-same_lem (read_cost _ _ (sym c.before.before.before.before.before.same.ensures ∙ c.before.before.before.before.if1.true)) (c.before.before.answer-cost.ensures _)
+    spoken-same (read_cost _ _ (sym c.before.before.before.before.before.same.ensures ∙ c.before.before.before.before.if1.true)) (c.before.before.answer-cost.ensures _)
 
 answer_strict_requires : tie.Need-answer-strict-requires
 answer_strict_requires c κs = search rules
@@ -43,7 +43,7 @@ same_length_5 c = search rules
 
 returns_2 : tie.Need-returns-2
 returns_2 c =
-    spoken-same_lem (read_strict _ _ (sym c.before.before.before.before.before.before.before.before.before.before.before.before.before.before.same.ensures ∙ c.before.before.before.before.before.before.before.before.before.before.before.before.before.if1.false)) c.before.before.before.before.before.before.before.before.answer-strict.ensures
+    spoken-same (read_strict _ _ (sym c.before.before.before.before.before.before.before.before.before.before.before.before.before.before.same.ensures ∙ c.before.before.before.before.before.before.before.before.before.before.before.before.before.if1.false)) c.before.before.before.before.before.before.before.before.answer-strict.ensures
 
 pub answer_read_spec : {M : Type 1} → statement M
 answer_read_spec =

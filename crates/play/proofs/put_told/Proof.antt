@@ -2,7 +2,7 @@
 use mathlib.Core.Path.{sym, ◌∙◌}
 use native.Mathlib.Omega.{arith}
 use Rattle.text.proofs.Writing.{put_same, put_then}
-use Rattle.play.proofs.Turns.{told-unread_lem, told_clash, told-reply_lem}
+use Rattle.play.proofs.Turns.{told-unread, told_clash, told-reply}
 use borrow.Author.Rules.{rules}
 use Rattle.play.proofs.put_told.Statement.{statement}
 use Rattle.play.proofs.put_told.Tie as tie
@@ -22,7 +22,7 @@ same_length c = search rules
 returns : tie.Need-returns
 returns c =
     let v = c.before.before.put-not-read.ensures in
-    (put_same (sym (told-unread_lem _ _ _ (sym c.before.before.before.before.before.same.ensures ∙ c.before.before.before.before.if1.true))) v.0, omega (arith, v.1))
+    (put_same (sym (told-unread _ _ _ (sym c.before.before.before.before.before.same.ensures ∙ c.before.before.before.before.if1.true))) v.0, omega (arith, v.1))
 
 slice_aggregate_same_2 : tie.Need-slice-aggregate-same-2
 slice_aggregate_same_2 c = search rules
@@ -57,7 +57,7 @@ returns_3 : tie.Need-returns-3
 returns_3 c =
     let read = sym c.before.before.before.before.before.before.before.before.same.ensures ∙ c.before.before.before.before.before.before.before.if1.false in
     let v = c.before.before.put-reply.ensures in
-    (put_same (sym (told-reply_lem _ _ _ read (sym c.before.before.before.before.before.same2.ensures ∙ c.before.before.before.before.if2.false))) v.0, v.1)
+    (put_same (sym (told-reply _ _ _ read (sym c.before.before.before.before.before.same2.ensures ∙ c.before.before.before.before.if2.false))) v.0, v.1)
 
 pub put_told_spec : {M : Type 1} → statement M
 put_told_spec =

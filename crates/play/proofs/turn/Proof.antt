@@ -3,7 +3,7 @@ use mathlib.Core.Path.{sym}
 use Prim.Native.Nat.{zero-le}
 use native.Mathlib.Omega.{arith}
 use lib.Seq.{length-take-le}
-use Rattle.lines.proofs.Taking.{left-within_lem}
+use Rattle.lines.proofs.Taking.{left-within}
 use borrow.Author.Rules.{rules}
 use Rattle.play.proofs.turn.Statement.{statement}
 use Rattle.play.proofs.turn.Tie as tie
@@ -33,7 +33,7 @@ make_room_requires c κs = search rules
 
 read_more_requires : tie.Need-read-more-requires
 read_more_requires c κs =
-    (left-within_lem _ _ c.before.before.before.make-room.ensures c.before.before.before.before.before.before.before.before.before.before.before.before.before.before.before.before.before.answer-lines.ensures.lines).inside
+    (left-within _ _ c.before.before.before.make-room.ensures c.before.before.before.before.before.before.before.before.before.before.before.before.before.before.before.before.before.answer-lines.ensures.lines).inside
 
 add_t34 : tie.Need-overflow-add-t34
 add_t34 c = search rules
@@ -59,7 +59,7 @@ same_length_6 c = search rules
 returns : tie.Need-returns
 returns c =
     let r = c.before.before.before.before.before.before.before.before.before.before.before.before.before.before.before.before.before.before.before.before.before.answer-lines.ensures in
-    let w = left-within_lem _ _ c.before.before.before.before.before.before.before.make-room.ensures r.lines in
+    let w = left-within _ _ c.before.before.before.before.before.before.before.make-room.ensures r.lines in
     record {
       desk = r.desk;
       lines = record { ordered = omega (arith, w.ordered); inside = omega (arith, c.before.before.before.read_more.ensures, c.before.before.before.read_more.auto.0) };

@@ -6,7 +6,7 @@ use native.Mathlib.Nat.{le_of_eq}
 use native.Mathlib.Omega.{arith}
 use lib.ListN.{length, drop, length-take, length-drop}
 use Rattle.text.specs.Put.{Put}
-use Rattle.text.proofs.Writing.{put_same, put_then, put-nothing_lem}
+use Rattle.text.proofs.Writing.{put_same, put_then, put-nothing}
 use Rattle.replies.specs.Plain.{parts, plain_fields}
 use Rattle.replies.proofs.Fields.{last_field, next_field, one_more}
 use borrow.Author.Rules.{rules}
@@ -28,7 +28,7 @@ decreases_loop out₀ at line i₀ to₀ out i to = length line - i
 
 loop_holds : tie.Need-loop-init invariant_loop decreases_loop
 loop_holds c =
-    (search rules, refl, search rules, (_, refl, put-nothing_lem _ _))
+    (search rules, refl, search rules, (_, refl, put-nothing _ _))
 
 field_end_requires : tie.Need-field-end-requires invariant_loop decreases_loop
 field_end_requires c κs = search rules

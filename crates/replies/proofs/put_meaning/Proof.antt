@@ -1,7 +1,7 @@
 -- `replies::put_meaning` meets its contract: the table's row, or none. Assumes nothing.
 use mathlib.Core.Path.{sym, ap}
 use native.Mathlib.Omega.{arith}
-use Rattle.text.proofs.Writing.{put_same, put-nothing_lem}
+use Rattle.text.proofs.Writing.{put_same, put-nothing}
 use Rattle.replies.specs.Plain.{table, meaning_in}
 use Rattle.replies.proofs.Reasons.{no_meaning}
 use borrow.Author.Rules.{rules}
@@ -196,7 +196,7 @@ returns_13 c =
 returns_14 : tie.Need-returns-14
 returns_14 c =
     let r = c.match.rest in
-    (put_same (sym (no_meaning _ r.0.0.0.0.0.0.0.0.0.0.0.0.1 r.0.0.0.0.0.0.0.0.0.0.0.1 r.0.0.0.0.0.0.0.0.0.0.1 r.0.0.0.0.0.0.0.0.0.1 r.0.0.0.0.0.0.0.0.1 r.0.0.0.0.0.0.0.1 r.0.0.0.0.0.0.1 r.0.0.0.0.0.1 r.0.0.0.0.1 r.0.0.0.1 r.0.0.1 r.0.1 r.1)) (put-nothing_lem _ _), omega arith)
+    (put_same (sym (no_meaning _ r.0.0.0.0.0.0.0.0.0.0.0.0.1 r.0.0.0.0.0.0.0.0.0.0.0.1 r.0.0.0.0.0.0.0.0.0.0.1 r.0.0.0.0.0.0.0.0.0.1 r.0.0.0.0.0.0.0.0.1 r.0.0.0.0.0.0.0.1 r.0.0.0.0.0.0.1 r.0.0.0.0.0.1 r.0.0.0.0.1 r.0.0.0.1 r.0.0.1 r.0.1 r.1)) (put-nothing _ _), omega arith)
 
 pub put_meaning_spec : {M : Type 1} → statement M
 put_meaning_spec =

@@ -3,7 +3,7 @@ use mathlib.Core.Path.{sym, ◌∙◌}
 use native.Mathlib.Omega.{arith}
 use lib.Seq.{length-take-le}
 use borrow.Author.Tests.{not-true, not-false}
-use Rattle.text.proofs.Writing.{put_same, put-nothing_lem}
+use Rattle.text.proofs.Writing.{put_same, put-nothing}
 use Rattle.replies.proofs.Reasons.{no_refusal, no_number, a_number}
 use borrow.Author.Rules.{rules}
 use Rattle.replies.proofs.put_reason.Statement.{statement}
@@ -30,7 +30,7 @@ same_requires c κs = search rules
 
 returns : tie.Need-returns
 returns c =
-    (put_same (sym (no_refusal _ _ c.before.before.before.before.word-end.ensures.0 (sym c.before.same.ensures ∙ not-true _ c.if1.true))) (put-nothing_lem _ _), omega arith)
+    (put_same (sym (no_refusal _ _ c.before.before.before.before.word-end.ensures.0 (sym c.before.same.ensures ∙ not-true _ c.if1.true))) (put-nothing _ _), omega arith)
 
 add_next_count : tie.Need-overflow-add-next-count
 add_next_count c = search rules
@@ -46,7 +46,7 @@ enum_told c = search rules
 
 returns_2 : tie.Need-returns-2
 returns_2 c =
-    (put_same (sym (no_number _ _ c.before.before.before.before.before.before.before.word-end.ensures.0 (sym c.before.before.before.before.same.ensures ∙ not-false _ c.before.before.before.if1.false) _ c.before.before.next-count.ensures c.enum_told.given.1)) (put-nothing_lem _ _), omega arith)
+    (put_same (sym (no_number _ _ c.before.before.before.before.before.before.before.word-end.ensures.0 (sym c.before.before.before.before.same.ensures ∙ not-false _ c.before.before.before.if1.false) _ c.before.before.next-count.ensures c.enum_told.given.1)) (put-nothing _ _), omega arith)
 
 put_meaning_requires : tie.Need-put-meaning-requires
 put_meaning_requires c κs = search rules

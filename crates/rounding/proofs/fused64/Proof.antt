@@ -5,7 +5,7 @@ use native.Mathlib.Nat.{le_trans}
 use lib.Dec.{T, lit≤}
 use lib.Ieee.{binary64}
 use Rattle.rules.specs.Numbers.{wide}
-use Rattle.rounding_laws.proofs.Fuse.{fused_middle, fused_right, wide-held_lem, wide_finite}
+use Rattle.rounding_laws.proofs.Fuse.{fused_middle, fused_right, wide-held, wide_finite}
 use Rattle.rounding.proofs.fused64.Statement.{statement}
 use Rattle.rounding.proofs.fused64.Tie as tie
 
@@ -21,7 +21,7 @@ fused_finite64_requires c κs =
     (k.before.requires, subst T (sym (sym k.finite64.ensures ∙ c.before.before.if1.true)) tt, subst T (sym (sym c.before.finite642.ensures ∙ c.if2.true)) tt)
 
 int_to_float_result : tie.Need-int-to-float-result
-int_to_float_result c = wide-held_lem c.before.before.before.args.n c.before.before.before.requires
+int_to_float_result c = wide-held c.before.before.before.args.n c.before.before.before.requires
 
 returns : tie.Need-returns
 returns c = search rules

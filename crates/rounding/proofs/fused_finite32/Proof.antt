@@ -7,7 +7,7 @@ use native.Mathlib.Omega.{arith}
 use lib.Dec.{lit≤, lit<}
 use lib.Ieee.{binary32}
 use Rattle.rounding_laws.proofs.Sum.{lead_or_low}
-use Rattle.rounding_laws.proofs.Fuse.{fused-parts_lem, fused_none, digits_lt}
+use Rattle.rounding_laws.proofs.Fuse.{fused-parts, fused_none, digits_lt}
 use Rattle.rounding.proofs.fused_finite32.Statement.{statement}
 use Rattle.rounding.proofs.fused_finite32.Tie as tie
 
@@ -60,7 +60,7 @@ returns_2 c =
     let a = k.before.before.before.args in
     c.norm32.ensures
     ∙ c.before.total.ensures.1 binary32 298 refl (lit≤ tt) (lead_or_low binary32 z.result.m z.result.j (z.result.j + 149) 298 39 z.ensures.lead (λ o. omega arith))
-    ∙ fused-parts_lem binary32 x.result.neg y.result.neg z.result.neg x.result.m y.result.m z.result.m x.result.j y.result.j z.result.j 149 149 a.a a.b a.c x.ensures.value y.ensures.value z.ensures.value
+    ∙ fused-parts binary32 x.result.neg y.result.neg z.result.neg x.result.m y.result.m z.result.m x.result.j y.result.j z.result.j 149 149 a.a a.b a.c x.ensures.value y.ensures.value z.ensures.value
 
 pub fused_finite32_spec : {M : Type 1} → statement M
 fused_finite32_spec =

@@ -11,7 +11,7 @@ use lib.Ieee.{binary64, unlike, sum}
 use Rattle.rules.specs.Numbers.{wide}
 use Rattle.rounding_laws.proofs.Parts.{parted}
 use Rattle.rounding_laws.proofs.Sum.{lead_or_low}
-use Rattle.rounding_laws.proofs.Fuse.{fused-parts_lem, fused_none, fused-power_lem, digits_lt, wide_value, wide-held_lem}
+use Rattle.rounding_laws.proofs.Fuse.{fused-parts, fused_none, fused-power, digits_lt, wide_value, wide-held}
 use Rattle.rounding.proofs.fused_finite64.Statement.{statement}
 use Rattle.rounding.proofs.fused_finite64.Tie as tie
 
@@ -39,7 +39,7 @@ mul_m : tie.Need-overflow-mul-m
 mul_m c = record { fits = lt_of_lt_of_le (short c.before) (lit≤ tt) }
 
 int_to_float_result : tie.Need-int-to-float-result
-int_to_float_result c = let a = c.before.before.before.before.before in wide-held_lem a.args.n a.requires.0
+int_to_float_result c = let a = c.before.before.before.before.before in wide-held a.args.n a.requires.0
 
 -- 128 of them
 returns : tie.Need-returns
@@ -50,11 +50,11 @@ returns c =
     let s = k.before in
     let a = s.args in
     let z = parted binary64 a.t (subst T (sym s.well-formed.1.1.0.1) tt) s.requires.2 in
-    fused-power_lem binary64 false y.result.neg _ a.n y.result.m _ 0 y.result.j _ 0 1074 (wide a.n) a.p a.t (wide_value a.n (le_trans s.requires.0 (lit≤ tt))) y.ensures.value z.value
+    fused-power binary64 false y.result.neg _ a.n y.result.m _ 0 y.result.j _ 0 1074 (wide a.n) a.p a.t (wide_value a.n (le_trans s.requires.0 (lit≤ tt))) y.ensures.value z.value
     7 (ap (λ (n : ℕ). n * 2 ^ 0) c.before.before.before.if1.true) refl refl y.ensures.short (far y.result.m y.result.j y.ensures.short c.before.if2.true)
 
 int_to_float_result_2 : tie.Need-int-to-float-result-2
-int_to_float_result_2 c = let a = c.before.before.before.before.before.before in wide-held_lem a.args.n a.requires.0
+int_to_float_result_2 c = let a = c.before.before.before.before.before.before in wide-held a.args.n a.requires.0
 
 returns_2 : tie.Need-returns-2
 unfolding wide
@@ -87,7 +87,7 @@ returns_3 c =
     ∙ ap (λ (i : Bool). sum binary64 i (a.n * y.result.m * 2 ^ y.result.j) z.result.neg (z.result.m * 2 ^ z.result.j) (2 ^ 1074)) (like y.result.neg)
     ∙ ap (λ (i : ℕ). sum binary64 (unlike false y.result.neg) (a.n * y.result.m * 2 ^ i) z.result.neg (z.result.m * 2 ^ z.result.j) (2 ^ 1074)) (sym (zero-add y.result.j))
     ∙ ap (λ (i : ℕ). sum binary64 (unlike false y.result.neg) (a.n * y.result.m * 2 ^ (0 + y.result.j)) z.result.neg (z.result.m * 2 ^ i) (2 ^ 1074)) (sym (add-zero z.result.j))
-    ∙ fused-parts_lem binary64 false y.result.neg z.result.neg a.n y.result.m z.result.m 0 y.result.j z.result.j 0 1074 (wide a.n) a.p a.t (wide_value a.n (le_trans s.requires.0 (lit≤ tt))) y.ensures.value z.ensures.value
+    ∙ fused-parts binary64 false y.result.neg z.result.neg a.n y.result.m z.result.m 0 y.result.j z.result.j 0 1074 (wide a.n) a.p a.t (wide_value a.n (le_trans s.requires.0 (lit≤ tt))) y.ensures.value z.ensures.value
 
 pub fused_finite64_spec : {M : Type 1} → statement M
 fused_finite64_spec =

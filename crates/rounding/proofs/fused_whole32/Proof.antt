@@ -3,7 +3,7 @@ use borrow.Author.Rules.{rules}
 use mathlib.Core.Path.{sym, ◌∙◌, subst}
 use lib.Dec.{T}
 use lib.Ieee.{binary32}
-use Rattle.rounding_laws.proofs.Fuse.{fused-left_lem, fused_middle, fused_right}
+use Rattle.rounding_laws.proofs.Fuse.{fused-left, fused_middle, fused_right}
 use Rattle.rounding.proofs.fused_whole32.Statement.{statement}
 use Rattle.rounding.proofs.fused_whole32.Tie as tie
 
@@ -29,7 +29,7 @@ returns_3 : tie.Need-returns-3
 returns_3 c = fused_middle binary32 c.before.before.before.before.args.a c.before.before.before.before.args.b c.before.before.before.before.args.c (sym c.before.before.before.finite32.ensures ∙ c.before.before.if1.true) (sym c.before.finite322.ensures ∙ c.if2.false)
 
 returns_4 : tie.Need-returns-4
-returns_4 c = fused-left_lem binary32 c.before.before.args.a c.before.before.args.b c.before.before.args.c (sym c.before.finite32.ensures ∙ c.if1.false)
+returns_4 c = fused-left binary32 c.before.before.args.a c.before.before.args.b c.before.before.args.c (sym c.before.finite32.ensures ∙ c.if1.false)
 
 pub fused_whole32_spec : {M : Type 1} → statement M
 fused_whole32_spec =

@@ -8,8 +8,8 @@ use Rattle.runs.specs.After.{after}
 use Rattle.runs.specs.Passes.{each}
 use Rattle.runs.specs.Rising.{Plain, Rises, Climbs, position_of, at_position}
 use Rattle.runs.proofs.Climb.{climbs, sample_is}
-use Rattle.runs.proofs.Filling.{run_length, run_at, run-same_lem}
-use Rattle.runs.proofs.Passing.{each-run_lem}
+use Rattle.runs.proofs.Filling.{run_length, run_at, run-same}
+use Rattle.runs.proofs.Passing.{each-run}
 use Rattle.runs.proofs.curve_tried.Statement.{statement}
 use Rattle.runs.proofs.curve_tried.Tie as tie
 
@@ -72,8 +72,8 @@ module _ (start : tie.Start) where
     samples out v o =
         o
         ∙ ap (each (at_position values)) ps_is
-        ∙ each-run_lem (at_position values) position start.args.dt 16 start.args.time
-        ∙ run-same_lem (λ t. at_position values (position t)) (from_start start.args.start-time v (curve_sample values start.args.start-time start.args.duration)) start.args.dt 16 start.args.time
+        ∙ each-run (at_position values) position start.args.dt 16 start.args.time
+        ∙ run-same (λ t. at_position values (position t)) (from_start start.args.start-time v (curve_sample values start.args.start-time start.args.duration)) start.args.dt 16 start.args.time
         (λ i l.
         sample_is start.args.start-time start.args.duration start.args.time start.args.dt fits_start fits_duration fits_time fits_dt r top few next.0 next.1 end.0 end.1
         values start.pre.0.1 start.pre.0.2 refl v i (omega arith))

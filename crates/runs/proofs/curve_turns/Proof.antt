@@ -4,7 +4,7 @@ use lib.Ieee.{Float}
 use borrow.Rule.Slice.PartMut.{mid_len}
 use Rattle.rules.specs.Samples.{curve_sample}
 use Rattle.rules.specs.Walk.{from_start}
-use Rattle.runs.proofs.Filling.{Filled, none_filled, some_more, rest_filled, filled-length_lem, all-filled_lem}
+use Rattle.runs.proofs.Filling.{Filled, none_filled, some_more, rest_filled, filled-length, all-filled}
 use Rattle.runs.proofs.curve_turns.Statement.{statement}
 use Rattle.runs.proofs.curve_turns.Tie as tie
 
@@ -21,7 +21,7 @@ abbrev sample : tie.Start invariant_loop decreases_loop → Float → Float
 sample s = let a = s.args in from_start a.start-time a.intrinsic (curve_sample a.values.now a.start-time a.duration)
 
 kept : (c : tie.At-loop invariant_loop decreases_loop) → length c.loop.out ≡ length (start c).args.out.now
-kept c = let s = start c in filled-length_lem (sample s) s.args.dt s.args.time c.loop.invariant
+kept c = let s = start c in filled-length (sample s) s.args.dt s.args.time c.loop.invariant
 
 sixteen : (i : ℕ) → i + 16 - i ≡ 16
 sixteen i = omega arith
@@ -83,13 +83,13 @@ same_length : tie.Need-same-length invariant_loop decreases_loop
 same_length c =
     let a = c.before.before.before.before.before in
     let s = start a in
-    filled-length_lem (sample s) s.args.dt s.args.time (rest_filled (sample s) s.args.dt s.args.time a.loop.invariant c.before.before.curve-run.new.0 c.before.before.curve-run.ensures)
+    filled-length (sample s) s.args.dt s.args.time (rest_filled (sample s) s.args.dt s.args.time a.loop.invariant c.before.before.curve-run.new.0 c.before.before.curve-run.ensures)
 
 returns : tie.Need-returns invariant_loop decreases_loop
 returns c =
     let a = c.before.before.before.before.before in
     let s = start a in
-    all-filled_lem (sample s) s.args.dt s.args.time (rest_filled (sample s) s.args.dt s.args.time a.loop.invariant c.before.before.curve-run.new.0 c.before.before.curve-run.ensures) (omega (arith, kept a, a.loop.invariant.within))
+    all-filled (sample s) s.args.dt s.args.time (rest_filled (sample s) s.args.dt s.args.time a.loop.invariant c.before.before.curve-run.new.0 c.before.before.curve-run.ensures) (omega (arith, kept a, a.loop.invariant.within))
 
 pub curve_turns_spec : {M : Type 1} → statement M
 curve_turns_spec =

@@ -7,7 +7,7 @@ use Rattle.phases.specs.Once.{Within}
 use Rattle.runs.specs.Passes.{each, phase_sum}
 use Rattle.runs.specs.Rising.{Spans, Between, Climbs, at_position}
 use Rattle.runs.proofs.Climb.{counted, place, place_under, place_is, fraction, fractions_within, alike}
-use Rattle.runs.proofs.Passing.{each-length_lem, each_at, each-each_lem}
+use Rattle.runs.proofs.Passing.{each-length, each_at, each-each}
 use Rattle.runs.proofs.curve_within.Statement.{statement}
 use Rattle.runs.proofs.curve_within.Tie as tie
 
@@ -58,7 +58,7 @@ module _ (f : tie.After-fractions) where
   xs_is = f.fractions.ensures ∙ ap (λ (v : Float). each (λ p. sub binary64 p v) (ps w)) (wide_is w)
 
   long : length xs ≡ 16
-  long = ap length xs_is ∙ each-length_lem (λ p. sub binary64 p (wide (k w))) (ps w) ∙ (start w).pre.1
+  long = ap length xs_is ∙ each-length (λ p. sub binary64 p (wide (k w))) (ps w) ∙ (start w).pre.1
 
   lane_is : (i : ℕ) → i < 16 → get_or xs i nan ≡ fraction (length (values w) - 1) (ps w) (climbs w) (few w) i
   lane_is i l = ap (λ (ys : List Float). get_or ys i nan) xs_is ∙ each_at (λ p. sub binary64 p (wide (k w))) (ps w) i nan (omega (arith, l, (start w).pre.1))
@@ -75,7 +75,7 @@ module _ (f : tie.After-fractions) where
       o
       ∙ ap (λ (n : ℕ). each (phase_sum (get_or (values w) n nan) (sub binary32 (get_or (values w) (n + 1) nan) (get_or (values w) n nan))) xs) (k_is w)
       ∙ ap (each (phase_sum (get_or (values w) (k w) nan) (sub binary32 (get_or (values w) (k w + 1) nan) (get_or (values w) (k w) nan)))) xs_is
-      ∙ each-each_lem (phase_sum (get_or (values w) (k w) nan) (sub binary32 (get_or (values w) (k w + 1) nan) (get_or (values w) (k w) nan))) (λ p. sub binary64 p (wide (k w))) (ps w)
+      ∙ each-each (phase_sum (get_or (values w) (k w) nan) (sub binary32 (get_or (values w) (k w + 1) nan) (get_or (values w) (k w) nan))) (λ p. sub binary64 p (wide (k w))) (ps w)
       ∙ alike (length (values w) - 1) (ps w) (climbs w) (few w) (values w) (start w).pre.1 (subst (λ (x : Float). to_bits binary64 x < 1023 * 2 ^ 52) (lane_is 15 (lit≤ tt)) h)
 
 element_copy_out_whole : tie.Need-element-copy-out-whole

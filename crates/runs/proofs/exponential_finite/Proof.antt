@@ -4,7 +4,7 @@ use borrow.Rule.Slice.PartMut.{mid_len}
 use lib.Ieee.{Float, binary64, add}
 use Rattle.rules.specs.Samples.{phase_of}
 use Rattle.samples.specs.At.{exponential_over}
-use Rattle.runs.proofs.Filling.{Filled, none_filled, one_more, rest_filled, filled-length_lem, all-filled_lem}
+use Rattle.runs.proofs.Filling.{Filled, none_filled, one_more, rest_filled, filled-length, all-filled}
 use Rattle.runs.proofs.exponential_finite.Statement.{statement}
 use Rattle.runs.proofs.exponential_finite.Tie as tie
 
@@ -36,7 +36,7 @@ module _ (g : tie.After-grown-at) where
   first = one_more sample s.args.dt s.args.time (none_filled sample s.args.dt s.args.time s.args.out.now) some g.grown-at.result g.grown-at.ensures
 
   long : length one ≡ length s.args.out.now
-  long = filled-length_lem sample s.args.dt s.args.time first
+  long = filled-length sample s.args.dt s.args.time first
 
 sub_exponential_rest : tie.Need-overflow-sub-exponential-rest
 sub_exponential_rest c = search rules
@@ -57,13 +57,13 @@ same_length : tie.Need-same-length
 same_length c =
     let g = c.before.before.before.before.before in
     let a = (s g).args in
-    filled-length_lem (sample g) a.dt a.time (rest_filled (sample g) a.dt a.time (first g) c.before.before.exponential-rest.new.0 c.before.before.exponential-rest.ensures)
+    filled-length (sample g) a.dt a.time (rest_filled (sample g) a.dt a.time (first g) c.before.before.exponential-rest.new.0 c.before.before.exponential-rest.ensures)
 
 returns : tie.Need-returns
 returns c =
     let g = c.before.before.before.before.before in
     let a = (s g).args in
-    all-filled_lem (sample g) a.dt a.time (rest_filled (sample g) a.dt a.time (first g) c.before.before.exponential-rest.new.0 c.before.before.exponential-rest.ensures) (omega (arith, long g))
+    all-filled (sample g) a.dt a.time (rest_filled (sample g) a.dt a.time (first g) c.before.before.exponential-rest.new.0 c.before.before.exponential-rest.ensures) (omega (arith, long g))
 
 exponential_rest_requires_2 : tie.Need-exponential-rest-requires-2
 exponential_rest_requires_2 c κs = search rules

@@ -3,7 +3,7 @@ use Rattle.std.proofs.Common.{◌≡◌, ℕ, ◌+◌, ◌-◌, length, ◌∙�
 use lib.Ieee.{Float}
 use borrow.Rule.Slice.PartMut.{mid_len}
 use Rattle.samples.specs.At.{exponential_over}
-use Rattle.runs.proofs.Filling.{Filled, none_filled, some_more, rest_filled, filled-length_lem, all-filled_lem}
+use Rattle.runs.proofs.Filling.{Filled, none_filled, some_more, rest_filled, filled-length, all-filled}
 use Rattle.runs.proofs.exponential_parts.Statement.{statement}
 use Rattle.runs.proofs.exponential_parts.Tie as tie
 
@@ -20,7 +20,7 @@ abbrev sample : tie.Start invariant_loop decreases_loop → Float → Float
 sample s = let a = s.args in exponential_over a.start a.duration a.«from» a.l
 
 kept : (c : tie.At-loop invariant_loop decreases_loop) → length c.loop.out ≡ length (start c).args.out.now
-kept c = let s = start c in filled-length_lem (sample s) s.args.dt s.args.time c.loop.invariant
+kept c = let s = start c in filled-length (sample s) s.args.dt s.args.time c.loop.invariant
 
 part : (i : ℕ) → i + 128 - i ≡ 128
 part i = omega arith
@@ -91,13 +91,13 @@ same_length : tie.Need-same-length invariant_loop decreases_loop
 same_length c =
     let a = c.before.before.before.before.before in
     let s = start a in
-    filled-length_lem (sample s) s.args.dt s.args.time (rest_filled (sample s) s.args.dt s.args.time a.loop.invariant c.before.before.exponential-finite2.new.0 c.before.before.exponential-finite2.ensures)
+    filled-length (sample s) s.args.dt s.args.time (rest_filled (sample s) s.args.dt s.args.time a.loop.invariant c.before.before.exponential-finite2.new.0 c.before.before.exponential-finite2.ensures)
 
 returns : tie.Need-returns invariant_loop decreases_loop
 returns c =
     let a = c.before.before.before.before.before in
     let s = start a in
-    all-filled_lem (sample s) s.args.dt s.args.time (rest_filled (sample s) s.args.dt s.args.time a.loop.invariant c.before.before.exponential-finite2.new.0 c.before.before.exponential-finite2.ensures) (omega (arith, kept a, a.loop.invariant.within))
+    all-filled (sample s) s.args.dt s.args.time (rest_filled (sample s) s.args.dt s.args.time a.loop.invariant c.before.before.exponential-finite2.new.0 c.before.before.exponential-finite2.ensures) (omega (arith, kept a, a.loop.invariant.within))
 
 pub exponential_parts_spec : {M : Type 1} → statement M
 exponential_parts_spec =

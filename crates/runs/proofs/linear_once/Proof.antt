@@ -3,7 +3,7 @@ use Rattle.std.proofs.Common.{◌≡◌, ℕ, ◌+◌, ◌-◌, length, ◌∙�
 use lib.Ieee.{Float}
 use borrow.Rule.Slice.PartMut.{mid_len}
 use Rattle.samples.specs.At.{linear_at}
-use Rattle.runs.proofs.Filling.{Filled, none_filled, some_more, rest_filled, filled-length_lem, all-filled_lem}
+use Rattle.runs.proofs.Filling.{Filled, none_filled, some_more, rest_filled, filled-length, all-filled}
 use Rattle.runs.proofs.linear_once.Statement.{statement}
 use Rattle.runs.proofs.linear_once.Tie as tie
 
@@ -20,7 +20,7 @@ abbrev sample : tie.Start invariant_loop decreases_loop → Float → Float
 sample s = let a = s.args in linear_at a.start-time a.duration a.«c» a.a
 
 kept : (c : tie.At-loop invariant_loop decreases_loop) → length c.loop.out ≡ length (start c).args.out.now
-kept c = let s = start c in filled-length_lem (sample s) s.args.dt s.args.time c.loop.invariant
+kept c = let s = start c in filled-length (sample s) s.args.dt s.args.time c.loop.invariant
 
 sixteen : (i : ℕ) → i + 16 - i ≡ 16
 sixteen i = omega arith
@@ -85,13 +85,13 @@ same_length : tie.Need-same-length invariant_loop decreases_loop
 same_length c =
     let a = c.before.before.before.before.before in
     let s = start a in
-    filled-length_lem (sample s) s.args.dt s.args.time (rest_filled (sample s) s.args.dt s.args.time a.loop.invariant c.before.before.linear-rest.new.0 c.before.before.linear-rest.ensures)
+    filled-length (sample s) s.args.dt s.args.time (rest_filled (sample s) s.args.dt s.args.time a.loop.invariant c.before.before.linear-rest.new.0 c.before.before.linear-rest.ensures)
 
 returns : tie.Need-returns invariant_loop decreases_loop
 returns c =
     let a = c.before.before.before.before.before in
     let s = start a in
-    all-filled_lem (sample s) s.args.dt s.args.time (rest_filled (sample s) s.args.dt s.args.time a.loop.invariant c.before.before.linear-rest.new.0 c.before.before.linear-rest.ensures) (omega (arith, kept a, a.loop.invariant.within))
+    all-filled (sample s) s.args.dt s.args.time (rest_filled (sample s) s.args.dt s.args.time a.loop.invariant c.before.before.linear-rest.new.0 c.before.before.linear-rest.ensures) (omega (arith, kept a, a.loop.invariant.within))
 
 pub linear_once_spec : {M : Type 1} → statement M
 linear_once_spec =

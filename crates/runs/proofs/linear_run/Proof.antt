@@ -2,7 +2,7 @@
 use Rattle.std.proofs.Common.{◌≡◌, ◌-◌, length, arith, rules}
 use lib.Ieee.{Float}
 use Rattle.samples.specs.At.{linear_at}
-use Rattle.runs.proofs.Filling.{Filled, none_filled, one_more, filled-length_lem, all-filled_lem}
+use Rattle.runs.proofs.Filling.{Filled, none_filled, one_more, filled-length, all-filled}
 use Rattle.runs.proofs.linear_run.Statement.{statement}
 use Rattle.runs.proofs.linear_run.Tie as tie
 
@@ -16,7 +16,7 @@ abbrev sample : tie.Start invariant_loop decreases_loop → Float → Float
 sample s = let a = s.args in linear_at a.start-time a.duration a.start-value a.diff
 
 kept : (c : tie.At-loop invariant_loop decreases_loop) → length c.loop.out ≡ length c.before.before.args.out.now
-kept c = let s = c.before.before in filled-length_lem (sample s) s.args.dt s.args.time c.loop.invariant
+kept c = let s = c.before.before in filled-length (sample s) s.args.dt s.args.time c.loop.invariant
 
 loop_holds : tie.Need-loop-init invariant_loop decreases_loop
 loop_holds c = let a = c.before.args in none_filled (sample c.before) a.dt a.time a.out.now
@@ -48,7 +48,7 @@ same_length c = kept c.before
 returns : tie.Need-returns invariant_loop decreases_loop
 returns c =
     let s = c.before.before.before in
-    all-filled_lem (sample s) s.args.dt s.args.time c.before.loop.invariant (omega (arith, kept c.before))
+    all-filled (sample s) s.args.dt s.args.time c.before.loop.invariant (omega (arith, kept c.before))
 
 pub linear_run_spec : {M : Type 1} → statement M
 linear_run_spec =

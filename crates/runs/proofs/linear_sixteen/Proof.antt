@@ -9,7 +9,7 @@ use Rattle.runs.specs.Passes.{each, phase_sum}
 use Rattle.runs.specs.Rising.{Rises, Spans}
 use Rattle.runs.proofs.Ascent.{sixteen_within}
 use Rattle.runs.proofs.Filling.{run_length}
-use Rattle.runs.proofs.Passing.{each-run_lem}
+use Rattle.runs.proofs.Passing.{each-run}
 use Rattle.runs.proofs.linear_sixteen.Statement.{statement}
 use Rattle.runs.proofs.linear_sixteen.Tie as tie
 
@@ -37,7 +37,7 @@ samples : (f : tie.After-phases-from) (xs out : List Float) → xs ≡ ramp f �
 unfolding linear_at phase_sum
 samples f xs out e o =
     let a = (start f).args in
-    o ∙ ap (each (phase_sum a.«c» a.a)) e ∙ each-run_lem (phase_sum a.«c» a.a) (phase_of a.start-time a.duration) a.dt 16 a.time
+    o ∙ ap (each (phase_sum a.«c» a.a)) e ∙ each-run (phase_sum a.«c» a.a) (phase_of a.start-time a.duration) a.dt 16 a.time
 
 phases_from_requires : tie.Need-phases-from-requires
 phases_from_requires c κs = search rules

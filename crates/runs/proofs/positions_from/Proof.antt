@@ -2,7 +2,7 @@
 use Rattle.std.proofs.Common.{◌≡◌, ◌-◌, length, refl, ◌∙◌, arith, rules}
 use lib.Ieee.{Float}
 use Rattle.runs.specs.Rising.{position_of}
-use Rattle.runs.proofs.Filling.{Filled, none_filled, one_more, all-filled_lem}
+use Rattle.runs.proofs.Filling.{Filled, none_filled, one_more, all-filled}
 use Rattle.runs.proofs.positions_from.Statement.{statement}
 use Rattle.runs.proofs.positions_from.Tie as tie
 
@@ -45,7 +45,7 @@ returns c =
     let s = c.before.before in
     let l = c.before.loop in
     let e : l.i ≡ 16 = omega (arith, long s, l.invariant.within, c.loop-test) in
-    (all-filled_lem (sample s) s.args.dt s.args.time l.invariant (omega (arith, long s, e)) ∙ rw (long s), l.invariant.next ∙ rw e)
+    (all-filled (sample s) s.args.dt s.args.time l.invariant (omega (arith, long s, e)) ∙ rw (long s), l.invariant.next ∙ rw e)
 
 pub positions_from_spec : {M : Type 1} → statement M
 positions_from_spec = tie.close (tie.spec invariant_loop decreases_loop loop_holds mul_ps element_write_ps add_i loop_less loop_again returns)

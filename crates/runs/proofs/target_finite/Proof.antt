@@ -6,9 +6,9 @@ use Rattle.rules.specs.Samples.{phase_of}
 use Rattle.rules.specs.Walk.{from_start}
 use Rattle.samples.specs.At.{target_at}
 use Rattle.runs.specs.Passes.{each, timed, begun, held_at}
-use Rattle.runs.proofs.Begun.{run-begun_lem}
+use Rattle.runs.proofs.Begun.{run-begun}
 use Rattle.runs.proofs.Factors.{factor}
-use Rattle.runs.proofs.Passing.{each-run_lem, timed-run_lem, prefix_length, read_back, room, as_many}
+use Rattle.runs.proofs.Passing.{each-run, timed-run, prefix_length, read_back, room, as_many}
 use Rattle.runs.proofs.target_finite.Statement.{statement}
 use Rattle.runs.proofs.target_finite.Tie as tie
 
@@ -89,7 +89,7 @@ module _ (t : tie.After-target-over) where
   whole =
       t.target-over.ensures
       ∙ ap (each sample) (read_back (phases f) (start f).args.dt (n f) (start f).args.time _ _ (few f) f.phases-of.ensures.0)
-      ∙ each-run_lem sample (phases f) (start f).args.dt (n f) (start f).args.time
+      ∙ each-run sample (phases f) (start f).args.dt (n f) (start f).args.time
       ∙ ap (λ (k : ℕ). run (λ u. sample (phases f u)) (start f).args.dt k (start f).args.time) (as_came f)
 
 returns_2 : tie.Need-returns-2
@@ -99,7 +99,7 @@ returns_2 c =
     let a = (start (f t)).args in
     let begins : begun a.start-time a.dt (length a.out.now) a.time ≡ true =
     ap (λ (k : ℕ). begun a.start-time a.dt k a.time) (sym (as_came (f t)) ∙ prefix_length _ _ (few (f t))) ∙ sym (f t).phases-of.ensures.1 ∙ c.if2.true in
-    (whole t ∙ sym (run-begun_lem a.start-time a.dt a.intrinsic (λ u. sample t (phases (f t) u)) (length a.out.now) a.time begins), at_end_lem (f t))
+    (whole t ∙ sym (run-begun a.start-time a.dt a.intrinsic (λ u. sample t (phases (f t) u)) (length a.out.now) a.time begins), at_end_lem (f t))
 
 hold_before_requires : tie.Need-hold-before-requires
 hold_before_requires c κs = search rules
@@ -113,7 +113,7 @@ returns_3 c =
     let t = c.before.before.before.before.before.before.before.before in
     let a = (start (f t)).args in (
       c.before.before.hold-before.ensures ∙ ap (λ (l : List Float). timed (held_at a.start-time a.intrinsic) a.dt l a.time) (whole t)
-          ∙ timed-run_lem (held_at a.start-time a.intrinsic) a.dt (λ u. sample t (phases (f t) u)) (length a.out.now) a.time,
+          ∙ timed-run (held_at a.start-time a.intrinsic) a.dt (λ u. sample t (phases (f t) u)) (length a.out.now) a.time,
       at_end_lem (f t),
     )
 

@@ -4,7 +4,7 @@ use lib.Ieee.{Float, binary32, fits, is_nan}
 use Rattle.rules.specs.Numbers.{fused}
 use Rattle.runs.specs.Passes.{each, every}
 use Rattle.runs.proofs.Factors.{factor, all_fit}
-use Rattle.runs.proofs.Passing.{each-each_lem}
+use Rattle.runs.proofs.Passing.{each-each}
 use Rattle.runs.proofs.target_over.Statement.{statement}
 use Rattle.runs.proofs.target_over.Tie as tie
 
@@ -32,7 +32,7 @@ returns c =
     let f = d.before.before.before.before.before in
     let a = (start f).args in
     let sum : Float → Float = λ (v : Float). fused binary32 a.a v a.«c» in
-    d.faded-any.ensures ∙ ap (each sum) f.factors-of.ensures ∙ each-each_lem sum factor a.xs.now
+    d.faded-any.ensures ∙ ap (each sum) f.factors-of.ensures ∙ each-each sum factor a.xs.now
 
 pub target_over_spec : {M : Type 1} → statement M
 target_over_spec =

@@ -4,7 +4,7 @@ use lib.Ieee.{Float}
 use borrow.Rule.Slice.PartMut.{mid_len}
 use Rattle.rules.specs.Walk.{from_start}
 use Rattle.samples.specs.At.{target_at}
-use Rattle.runs.proofs.Filling.{Filled, none_filled, some_more, rest_filled, filled-length_lem, all-filled_lem}
+use Rattle.runs.proofs.Filling.{Filled, none_filled, some_more, rest_filled, filled-length, all-filled}
 use Rattle.runs.proofs.target_parts.Statement.{statement}
 use Rattle.runs.proofs.target_parts.Tie as tie
 
@@ -22,7 +22,7 @@ abbrev sample : tie.Start invariant_loop decreases_loop → Float → Float
 sample s = let a = s.args in from_start a.start a.intrinsic (target_at a.start a.constant a.«c» a.a)
 
 kept : (c : tie.At-loop invariant_loop decreases_loop) → length c.loop.out ≡ length (start c).args.out.now
-kept c = let s = start c in filled-length_lem (sample s) s.args.dt s.args.time c.loop.invariant
+kept c = let s = start c in filled-length (sample s) s.args.dt s.args.time c.loop.invariant
 
 part : (i : ℕ) → i + 128 - i ≡ 128
 part i = omega arith
@@ -93,13 +93,13 @@ same_length : tie.Need-same-length invariant_loop decreases_loop
 same_length c =
     let a = c.before.before.before.before.before in
     let s = start a in
-    filled-length_lem (sample s) s.args.dt s.args.time (rest_filled (sample s) s.args.dt s.args.time a.loop.invariant c.before.before.target-finite2.new.0 c.before.before.target-finite2.ensures.0)
+    filled-length (sample s) s.args.dt s.args.time (rest_filled (sample s) s.args.dt s.args.time a.loop.invariant c.before.before.target-finite2.new.0 c.before.before.target-finite2.ensures.0)
 
 returns : tie.Need-returns invariant_loop decreases_loop
 returns c =
     let a = c.before.before.before.before.before in
     let s = start a in
-    (all-filled_lem (sample s) s.args.dt s.args.time (rest_filled (sample s) s.args.dt s.args.time a.loop.invariant c.before.before.target-finite2.new.0 c.before.before.target-finite2.ensures.0) (omega (arith, kept a, a.loop.invariant.within)), c.before.before.target-finite2.ensures.1)
+    (all-filled (sample s) s.args.dt s.args.time (rest_filled (sample s) s.args.dt s.args.time a.loop.invariant c.before.before.target-finite2.new.0 c.before.before.target-finite2.ensures.0) (omega (arith, kept a, a.loop.invariant.within)), c.before.before.target-finite2.ensures.1)
 
 pub target_parts_spec : {M : Type 1} → statement M
 target_parts_spec =

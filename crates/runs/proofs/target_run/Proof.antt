@@ -3,7 +3,7 @@ use Rattle.std.proofs.Common.{◌≡◌, ◌-◌, length, arith, rules}
 use lib.Ieee.{Float}
 use Rattle.rules.specs.Walk.{from_start}
 use Rattle.samples.specs.At.{target_at}
-use Rattle.runs.proofs.Filling.{Filled, none_filled, one_more, filled-length_lem, all-filled_lem}
+use Rattle.runs.proofs.Filling.{Filled, none_filled, one_more, filled-length, all-filled}
 use Rattle.runs.proofs.target_run.Statement.{statement}
 use Rattle.runs.proofs.target_run.Tie as tie
 
@@ -17,7 +17,7 @@ abbrev sample : tie.Start invariant_loop decreases_loop → Float → Float
 sample s = let a = s.args in from_start a.start-time a.intrinsic (target_at a.start-time a.time-constant a.end-value a.diff)
 
 kept : (c : tie.At-loop invariant_loop decreases_loop) → length c.loop.out ≡ length c.before.before.args.out.now
-kept c = let s = c.before.before in filled-length_lem (sample s) s.args.dt s.args.time c.loop.invariant
+kept c = let s = c.before.before in filled-length (sample s) s.args.dt s.args.time c.loop.invariant
 
 loop_holds : tie.Need-loop-init invariant_loop decreases_loop
 loop_holds c = let a = c.before.args in none_filled (sample c.before) a.dt a.time a.out.now
@@ -49,7 +49,7 @@ same_length c = kept c.before
 returns : tie.Need-returns invariant_loop decreases_loop
 returns c =
     let s = c.before.before.before in
-    all-filled_lem (sample s) s.args.dt s.args.time c.before.loop.invariant (omega (arith, kept c.before))
+    all-filled (sample s) s.args.dt s.args.time c.before.loop.invariant (omega (arith, kept c.before))
 
 pub target_run_spec : {M : Type 1} → statement M
 target_run_spec =

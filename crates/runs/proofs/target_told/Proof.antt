@@ -6,7 +6,7 @@ use Rattle.samples.specs.At.{target_at}
 use Rattle.phases.specs.Once.{Once}
 use Rattle.phases.proofs.Seen.{seen}
 use Rattle.runs.specs.Rising.{Rises}
-use Rattle.runs.proofs.Filling.{run-same_lem}
+use Rattle.runs.proofs.Filling.{run-same}
 use Rattle.runs.proofs.Later.{not_before}
 use Rattle.runs.proofs.target_told.Statement.{statement}
 use Rattle.runs.proofs.target_told.Tie as tie
@@ -63,7 +63,7 @@ returns c = λ t v.
     let r : Rises a.start-time a.constant a.time a.dt = record { steady = steady.is-steady-for.ensures begun.before.if1.true; started = begun.is-begun.ensures g.before.before.before.before.if2.true } in
     let sample = target_at a.start-time a.constant a.«c» a.a in
     g.target-shown.ensures t
-    ∙ run-same_lem sample (from_start a.start-time v sample) a.dt (length a.out.now) a.time
+    ∙ run-same sample (from_start a.start-time v sample) a.dt (length a.out.now) a.time
     (λ k h. rw (not_before a.start-time a.constant a.time a.dt (subst T (sym s.well-formed.1.1.0.1) tt) (subst T (sym s.well-formed.1.1.1.1.1.1.0.1) tt) (subst T (sym s.well-formed.1.1.1.1.1.1.1.0.1) tt) r k))
 
 returns_2 : tie.Need-returns-2

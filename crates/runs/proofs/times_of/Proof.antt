@@ -3,7 +3,7 @@ use Rattle.std.proofs.Common.{◌≡◌, ℕ, ◌-◌, length, sym, refl, ap, �
 use lib.Ieee.{Float}
 use Rattle.runs.specs.Passes.{begun}
 use Rattle.runs.proofs.Begun.{and_true, and_false, begun_last}
-use Rattle.runs.proofs.Filling.{Filled, none_filled, one_more, filled-length_lem, all-filled_lem}
+use Rattle.runs.proofs.Filling.{Filled, none_filled, one_more, filled-length, all-filled}
 use Rattle.runs.proofs.times_of.Statement.{statement}
 use Rattle.runs.proofs.times_of.Tie as tie
 
@@ -17,7 +17,7 @@ abbrev own : Float → Float
 own t = t
 
 kept : (c : tie.At-loop invariant_loop decreases_loop) → length c.loop.ts ≡ length c.before.args.ts.now
-kept c = let s = c.before in filled-length_lem own s.args.dt s.args.time c.loop.invariant.0
+kept c = let s = c.before in filled-length own s.args.dt s.args.time c.loop.invariant.0
 
 loop_holds : tie.Need-loop-init invariant_loop decreases_loop
 unfolding begun
@@ -52,7 +52,7 @@ returns c =
     let s = c.before.before in
     let l = c.before.loop in
     let e : l.i ≡ length s.args.ts.now = omega (arith, kept c.before, l.invariant.0.within) in
-    (all-filled_lem own s.args.dt s.args.time c.before.loop.invariant.0 (omega (arith, kept c.before)), l.invariant.1 ∙ ap (λ (n : ℕ). begun s.args.start-time s.args.dt n s.args.time) e)
+    (all-filled own s.args.dt s.args.time c.before.loop.invariant.0 (omega (arith, kept c.before)), l.invariant.1 ∙ ap (λ (n : ℕ). begun s.args.start-time s.args.dt n s.args.time) e)
 
 pub times_of_spec : {M : Type 1} → statement M
 times_of_spec =

@@ -1,7 +1,7 @@
 -- `samples::decay` meets its contract. Assumes nothing.
 use Rattle.std.proofs.Common.{◌∙◌, rules}
 use lib.Ieee.{of_bits}
-use Rattle.samples.proofs.Fading.{decay_gone, steps_few, decay-left_lem}
+use Rattle.samples.proofs.Fading.{decay_gone, steps_few, decay-left}
 use Rattle.samples.proofs.decay.Statement.{statement}
 use Rattle.samples.proofs.decay.Tie as tie
 
@@ -20,7 +20,7 @@ returns_2 : tie.Need-returns-2
 unfolding of_bits
 returns_2 c =
     let w = c.before in
-    c.decay-steps.ensures ∙ rw w.whole.ensures (decay-left_lem w.before.before.args.y w.before.if1.false)
+    c.decay-steps.ensures ∙ rw w.whole.ensures (decay-left w.before.before.args.y w.before.if1.false)
 
 pub decay_spec : {M : Type 1} → statement M
 decay_spec = tie.close (tie.spec returns whole_requires decay_steps_requires returns_2)

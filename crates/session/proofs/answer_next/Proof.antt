@@ -1,7 +1,7 @@
 -- `session::answer_next` meets its contract: what is ensured of each kind of line. Assumes nothing.
 use mathlib.Core.Path.{refl}
 use native.Mathlib.Omega.{arith}
-use Rattle.text.proofs.Writing.{put-nothing_lem}
+use Rattle.text.proofs.Writing.{put-nothing}
 use Rattle.desk.proofs.Turns.{said}
 use Rattle.lines.proofs.Taking.{line_in}
 use Rattle.session.specs.Session.{next_turn}
@@ -65,7 +65,7 @@ returns_3 : tie.Need-returns-3
 unfolding next_turn
 returns_3 c =
     let a = c.before.before.before.before.before.before.before in
-    by_next _ c.enum-told2.given.1 (said _ _ _ a.args.desk.lent _ _ a.requires.0 refl a.requires.0.lent refl (put-nothing_lem _ _) (omega arith))
+    by_next _ c.enum-told2.given.1 (said _ _ _ a.args.desk.lent _ _ a.requires.0 refl a.requires.0.lent refl (put-nothing _ _) (omega arith))
 
 pub answer_next_spec : {M : Type 1} → statement M
 answer_next_spec =

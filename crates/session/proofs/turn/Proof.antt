@@ -3,7 +3,7 @@ use mathlib.Core.Path.{sym}
 use Prim.Native.Nat.{zero-le}
 use native.Mathlib.Omega.{arith}
 use lib.Seq.{length-take-le}
-use Rattle.lines.proofs.Taking.{left-within_lem}
+use Rattle.lines.proofs.Taking.{left-within}
 use borrow.Author.Rules.{rules}
 use Rattle.session.proofs.turn.Statement.{statement}
 use Rattle.session.proofs.turn.Tie as tie
@@ -48,7 +48,7 @@ make_room_requires : tie.Need-make-room-requires
 make_room_requires c κs = search rules
 
 read_more_requires : tie.Need-read-more-requires
-read_more_requires c κs = (left-within_lem _ _ c.before.before.before.make-room.ensures c.before.before.before.before.before.before.before.before.before.before.before.before.before.before.before.answer-lines.ensures.0.lines).inside
+read_more_requires c κs = (left-within _ _ c.before.before.before.make-room.ensures c.before.before.before.before.before.before.before.before.before.before.before.before.before.before.before.answer-lines.ensures.0.lines).inside
 
 add_t33 : tie.Need-overflow-add-t33
 add_t33 c = record { fits = omega (arith, c.before.before.read_more.ensures, c.before.before.before.before.before.before.make-room.auto.0, c.before.before.before.before.before.before.before.before.before.before.before.before.before.before.before.before.before.before.before.before.before.before.before.before.before.before.before.before.before.well-formed.1.0.0) }
@@ -71,7 +71,7 @@ same_length_10 c = search rules
 returns_2 : tie.Need-returns-2
 returns_2 c =
     let r = c.before.before.before.before.before.before.before.before.before.before.before.before.before.before.before.before.before.before.answer-lines.ensures.0 in
-    let w = left-within_lem _ _ c.before.before.before.before.before.before.make-room.ensures r.lines in
+    let w = left-within _ _ c.before.before.before.before.before.before.make-room.ensures r.lines in
     record {
       desk = r.desk;
       lines = record { ordered = omega (arith, w.ordered); inside = omega (arith, c.before.before.read_more.ensures, c.before.before.read_more.auto.0) };

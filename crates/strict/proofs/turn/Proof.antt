@@ -1,6 +1,6 @@
 -- `strict::turn` meets its contract: what is left of the input, and what came behind it. Assumes nothing.
 use native.Mathlib.Omega.{arith}
-use Rattle.lines.proofs.Taking.{left-within_lem}
+use Rattle.lines.proofs.Taking.{left-within}
 use borrow.Author.Rules.{rules}
 use Rattle.strict.proofs.turn.Statement.{statement}
 use Rattle.strict.proofs.turn.Tie as tie
@@ -17,7 +17,7 @@ make_room_requires : tie.Need-make-room-requires
 make_room_requires c κs = search rules
 
 read_more_requires : tie.Need-read-more-requires
-read_more_requires c κs = (left-within_lem _ _ c.before.before.before.make-room.ensures c.before.before.before.before.before.before.before.write-lines.ensures.lines).inside
+read_more_requires c κs = (left-within _ _ c.before.before.before.make-room.ensures c.before.before.before.before.before.before.before.write-lines.ensures.lines).inside
 
 add_t17 : tie.Need-overflow-add-t17
 add_t17 c = search rules
@@ -31,7 +31,7 @@ same_length_2 c = search rules
 returns : tie.Need-returns
 returns c =
     let r = c.before.before.before.before.before.before.before.before.before.before.write-lines.ensures in
-    let w = left-within_lem _ _ c.before.before.before.before.before.before.make-room.ensures r.lines in
+    let w = left-within _ _ c.before.before.before.before.before.before.make-room.ensures r.lines in
     let m = c.before.before.read_more in
     record {
       lines = record { ordered = omega (arith, w.ordered); inside = omega (arith, m.ensures, m.auto.0) };

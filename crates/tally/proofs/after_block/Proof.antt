@@ -3,7 +3,7 @@ use mathlib.Core.Path.{ap, ◌∙◌}
 use Rattle.costs.specs.declared.Totals.{Totals}
 use Rattle.costs.specs.Costs.{plus}
 use Rattle.tally.specs.Tally.{kept}
-use Rattle.tally.proofs.Kept.{answered-parts_lem, refused_parts}
+use Rattle.tally.proofs.Kept.{answered-parts, refused_parts}
 use borrow.Author.Rules.{rules}
 use Rattle.tally.proofs.after_block.Statement.{statement}
 use Rattle.tally.proofs.after_block.Tie as tie
@@ -42,7 +42,7 @@ returns c =
     let a = c.before.before.before.before.before.before.args in
     c.plus.ensures
     ∙ ap (λ (u : Totals). kept (plus a.t u))
-    (answered-parts_lem a.steps a.before a.after c.before.before.before.before.enum_told.given.1 c.before.before.before.more.ensures c.before.before.more2.ensures c.before.more3.ensures)
+    (answered-parts a.steps a.before a.after c.before.before.before.before.enum_told.given.1 c.before.before.before.more.ensures c.before.before.more2.ensures c.before.more3.ensures)
 
 returns_2 : tie.Need-returns-2
 returns_2 c =

@@ -6,7 +6,7 @@ use native.Mathlib.Omega.{arith}
 use lib.ListN.{take, drop}
 use Rattle.wording.specs.Plain.{spaced, block_fields}
 use Rattle.wording.specs.Walked.{Ran, Inside}
-use Rattle.wording.proofs.Steps.{a_next, no_next, places, part_length, ran-same_lem, ran-after_lem, inside_same, block_alone, block_with, length_for_lem, room_left, room_for}
+use Rattle.wording.proofs.Steps.{a_next, no_next, places, part_length, ran-same, ran-after, inside_same, block_alone, block_with, length_for_lem, room_left, room_for}
 use borrow.Author.Rules.{rules}
 use Rattle.wording.proofs.put_block.Statement.{statement}
 use Rattle.wording.proofs.put_block.Tie as tie
@@ -120,7 +120,7 @@ unfolding spaced
 put_numbers_requires_2 c κs =
     let p = places _ _ c.before.before.before.before.before.before.before.before.before.before.before.before.before.before.before.before.before.next_word.ensures.1 c.before.before.before.before.before.before.before.before.before.before.before.before.before.before.before.begin.given.1 in
     let long = part_length c.before.before.before.before.before.before.before.before.before.before.before.before.before.before.before.before.before.before.before.before.args.line.now c.before.before.before.before.before.before.before.before.before.before.before.before.before.before.before.begin.given.0.0 c.before.before.before.before.before.before.before.before.before.before.before.before.before.before.before.begin.given.0.1.0 p.2 in
-    (p.2, omega (arith, c.before.before.before.before.before.before.before.before.before.before.before.put-spaced.ensures.place, c.before.before.before.put-length_lem.ensures.place, length_for_lem (take (c.before.before.before.before.before.before.before.before.before.before.before.before.before.before.before.begin.given.0.1.0 - c.before.before.before.before.before.before.before.before.before.before.before.before.before.before.before.begin.given.0.0) (drop c.before.before.before.before.before.before.before.before.before.before.before.before.before.before.before.begin.given.0.0 c.before.before.before.before.before.before.before.before.before.before.before.before.before.before.before.before.before.before.before.before.args.line.now))))
+    (p.2, omega (arith, c.before.before.before.before.before.before.before.before.before.before.before.put-spaced.ensures.place, c.before.before.before.put-length.ensures.place, length_for_lem (take (c.before.before.before.before.before.before.before.before.before.before.before.before.before.before.before.begin.given.0.1.0 - c.before.before.before.before.before.before.before.before.before.before.before.before.before.before.before.begin.given.0.0) (drop c.before.before.before.before.before.before.before.before.before.before.before.before.before.before.before.begin.given.0.0 c.before.before.before.before.before.before.before.before.before.before.before.before.before.before.before.before.before.before.before.before.args.line.now))))
 
 same_length : tie.Need-same-length
 same_length c = search rules
@@ -132,9 +132,9 @@ returns_2 c =
     let q = places _ _ c.before.before.before.before.before.before.before.before.before.before.before.before.next-word2.ensures.1 c.before.before.before.before.before.before.before.before.before.before.first.given.1 in
     let long = part_length c.before.before.before.before.before.before.before.before.before.before.before.before.before.before.before.before.before.before.before.before.before.before.before.before.args.line.now c.before.before.before.before.before.before.before.before.before.before.before.before.before.before.before.before.before.before.before.begin.given.0.0 c.before.before.before.before.before.before.before.before.before.before.before.before.before.before.before.before.before.before.before.begin.given.0.1.0 p.2 in
     let more = part_length c.before.before.before.before.before.before.before.before.before.before.before.before.before.before.before.before.before.before.before.before.before.before.before.before.args.line.now c.before.before.before.before.before.before.before.before.before.before.first.given.0.0 c.before.before.before.before.before.before.before.before.before.before.first.given.0.1.0 q.2 in (
-      ran-same_lem _ _ _ _ _ (sym (block_with _ (a_next _ _ c.before.before.before.before.before.before.before.before.before.before.before.before.before.before.before.before.before.before.before.before.before.next_word.ensures.0 c.before.before.before.before.before.before.before.before.before.before.before.before.before.before.before.before.before.before.before.begin.given.1) _ (a_next _ _ c.before.before.before.before.before.before.before.before.before.before.before.before.next-word2.ensures.0 c.before.before.before.before.before.before.before.before.before.before.first.given.1)))
-          (ran-after_lem _ _ _ _ c.before.before.before.before.before.before.before.before.before.before.before.before.before.before.before.put-spaced.ensures (room_for _ _ _ _ _ _ _ _ p long c.before.before.before.before.before.before.before.before.before.before.before.before.before.before.before.put-spaced.ensures.place c.before.before.before.before.before.before.before.before.before.before.before.before.before.before.before.before.before.before.before.before.before.before.before.before.requires.1)
-          (ran-after_lem _ _ _ _ c.before.before.before.before.before.before.put-spaced2.ensures (le_trans (room_left _ _ _ _ _ _ _ _ _ _ _ _ p q long more c.before.before.before.before.before.before.before.before.before.before.before.before.before.before.before.put-spaced.ensures.place c.before.before.before.before.before.before.put-spaced2.ensures.place c.before.before.before.before.before.before.before.before.before.before.before.before.before.before.before.before.before.before.before.before.before.before.before.before.requires.1).1 (le_of_eq (search rules))) c.before.before.put-numbers.ensures.0)),
+      ran-same _ _ _ _ _ (sym (block_with _ (a_next _ _ c.before.before.before.before.before.before.before.before.before.before.before.before.before.before.before.before.before.before.before.before.before.next_word.ensures.0 c.before.before.before.before.before.before.before.before.before.before.before.before.before.before.before.before.before.before.before.begin.given.1) _ (a_next _ _ c.before.before.before.before.before.before.before.before.before.before.before.before.next-word2.ensures.0 c.before.before.before.before.before.before.before.before.before.before.first.given.1)))
+          (ran-after _ _ _ _ c.before.before.before.before.before.before.before.before.before.before.before.before.before.before.before.put-spaced.ensures (room_for _ _ _ _ _ _ _ _ p long c.before.before.before.before.before.before.before.before.before.before.before.before.before.before.before.put-spaced.ensures.place c.before.before.before.before.before.before.before.before.before.before.before.before.before.before.before.before.before.before.before.before.before.before.before.before.requires.1)
+          (ran-after _ _ _ _ c.before.before.before.before.before.before.put-spaced2.ensures (le_trans (room_left _ _ _ _ _ _ _ _ _ _ _ _ p q long more c.before.before.before.before.before.before.before.before.before.before.before.before.before.before.before.put-spaced.ensures.place c.before.before.before.before.before.before.put-spaced2.ensures.place c.before.before.before.before.before.before.before.before.before.before.before.before.before.before.before.before.before.before.before.before.before.before.before.before.requires.1).1 (le_of_eq (search rules))) c.before.before.put-numbers.ensures.0)),
       inside_same _ c.before.before.before.before.before.before.put-spaced2.new.0 c.before.before.before.before.before.before.before.before.before.before.before.before.before.before.before.before.before.before.before.before.before.before.before.before.args.out.now _ (search rules) c.before.before.put-numbers.ensures.1,
     )
 
@@ -146,10 +146,10 @@ unfolding spaced
 returns_3 c =
     let p = places _ _ c.before.before.before.before.before.before.before.before.before.before.before.before.before.before.before.before.before.before.before.before.next_word.ensures.1 c.before.before.before.before.before.before.before.before.before.before.before.before.before.before.before.before.before.before.begin.given.1 in
     let long = part_length c.before.before.before.before.before.before.before.before.before.before.before.before.before.before.before.before.before.before.before.before.before.before.before.args.line.now c.before.before.before.before.before.before.before.before.before.before.before.before.before.before.before.before.before.before.begin.given.0.0 c.before.before.before.before.before.before.before.before.before.before.before.before.before.before.before.before.before.before.begin.given.0.1.0 p.2 in (
-      ran-same_lem _ _ _ _ _ (sym (block_alone _ (a_next _ _ c.before.before.before.before.before.before.before.before.before.before.before.before.before.before.before.before.before.before.before.before.next_word.ensures.0 c.before.before.before.before.before.before.before.before.before.before.before.before.before.before.before.before.before.before.begin.given.1) (no_next _ _ c.before.before.before.before.before.before.before.before.before.before.before.next-word2.ensures.0 c.before.before.before.before.before.before.before.before.before.enum-told2.given.1)))
-          (ran-after_lem _ _ _ _ c.before.before.before.before.before.before.before.before.before.before.before.before.before.before.put-spaced.ensures (omega (arith, c.before.before.before.before.before.before.before.before.before.before.before.before.before.before.put-spaced.ensures.place))
-          (ran-after_lem _ _ _ _ c.before.before.before.before.before.before.put-length_lem.ensures (omega (arith, c.before.before.before.before.before.before.before.before.before.before.before.before.before.before.put-spaced.ensures.place, c.before.before.before.before.before.before.put-length_lem.ensures.place, length_for_lem (take (c.before.before.before.before.before.before.before.before.before.before.before.before.before.before.before.before.before.before.begin.given.0.1.0 - c.before.before.before.before.before.before.before.before.before.before.before.before.before.before.before.before.before.before.begin.given.0.0) (drop c.before.before.before.before.before.before.before.before.before.before.before.before.before.before.before.before.before.before.begin.given.0.0 c.before.before.before.before.before.before.before.before.before.before.before.before.before.before.before.before.before.before.before.before.before.before.before.args.line.now)))) c.before.before.put-numbers2.ensures.0)),
-      inside_same _ c.before.before.before.before.before.before.put-length_lem.new.0 c.before.before.before.before.before.before.before.before.before.before.before.before.before.before.before.before.before.before.before.before.before.before.before.args.out.now _ (search rules) c.before.before.put-numbers2.ensures.1,
+      ran-same _ _ _ _ _ (sym (block_alone _ (a_next _ _ c.before.before.before.before.before.before.before.before.before.before.before.before.before.before.before.before.before.before.before.before.next_word.ensures.0 c.before.before.before.before.before.before.before.before.before.before.before.before.before.before.before.before.before.before.begin.given.1) (no_next _ _ c.before.before.before.before.before.before.before.before.before.before.before.next-word2.ensures.0 c.before.before.before.before.before.before.before.before.before.enum-told2.given.1)))
+          (ran-after _ _ _ _ c.before.before.before.before.before.before.before.before.before.before.before.before.before.before.put-spaced.ensures (omega (arith, c.before.before.before.before.before.before.before.before.before.before.before.before.before.before.put-spaced.ensures.place))
+          (ran-after _ _ _ _ c.before.before.before.before.before.before.put-length.ensures (omega (arith, c.before.before.before.before.before.before.before.before.before.before.before.before.before.before.put-spaced.ensures.place, c.before.before.before.before.before.before.put-length.ensures.place, length_for_lem (take (c.before.before.before.before.before.before.before.before.before.before.before.before.before.before.before.before.before.before.begin.given.0.1.0 - c.before.before.before.before.before.before.before.before.before.before.before.before.before.before.before.before.before.before.begin.given.0.0) (drop c.before.before.before.before.before.before.before.before.before.before.before.before.before.before.before.before.before.before.begin.given.0.0 c.before.before.before.before.before.before.before.before.before.before.before.before.before.before.before.before.before.before.before.before.before.before.before.args.line.now)))) c.before.before.put-numbers2.ensures.0)),
+      inside_same _ c.before.before.before.before.before.before.put-length.new.0 c.before.before.before.before.before.before.before.before.before.before.before.before.before.before.before.before.before.before.before.before.before.before.before.args.out.now _ (search rules) c.before.before.put-numbers2.ensures.1,
     )
 
 pub put_block_spec : {M : Type 1} → statement M

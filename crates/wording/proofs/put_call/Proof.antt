@@ -2,10 +2,10 @@
 use mathlib.Core.Path.{sym, ap, ◌∙◌}
 use native.Mathlib.Omega.{arith}
 use Rattle.text.proofs.Writing.{put_then}
-use Rattle.decimal.proofs.Written.{put-nothing_lem}
+use Rattle.decimal.proofs.Written.{put-nothing}
 use Rattle.wording.specs.Plain.{translated}
 use Rattle.wording.specs.Walked.{Wrote, Room}
-use Rattle.wording.proofs.Steps.{a_next, no_next, places, part_length, ran_to, ran-unread_lem, inside_to, no_call, no_end, a_call}
+use Rattle.wording.proofs.Steps.{a_next, no_next, places, part_length, ran_to, ran-unread, inside_to, no_call, no_end, a_call}
 use borrow.Author.Rules.{rules}
 use Rattle.wording.proofs.put_call.Statement.{statement}
 use Rattle.wording.proofs.put_call.Tie as tie
@@ -27,7 +27,7 @@ enum_told c = search rules
 
 returns : tie.Need-returns
 unfolding Wrote Room translated
-returns c = ((_, ap translated (no_next _ _ c.before.before.next_word.ensures.0 c.enum_told.given.1), put-nothing_lem _ _), omega arith)
+returns c = ((_, ap translated (no_next _ _ c.before.before.next_word.ensures.0 c.enum_told.given.1), put-nothing _ _), omega arith)
 
 sub_put_word : tie.Need-overflow-sub-put-word
 sub_put_word c =
@@ -85,7 +85,7 @@ same_length c = search rules
 
 returns_2 : tie.Need-returns-2
 unfolding Wrote Room
-returns_2 c = (no_call _ (a_next _ _ c.before.before.before.before.before.before.before.before.before.before.before.before.before.before.before.before.next_word.ensures.0 c.before.before.before.before.before.before.before.before.before.before.before.before.before.before.from.given.1) c.before.before.before.before.before.before.form_of.ensures (ran-unread_lem _ _ _ _ _ c.before.before.before.before.put-form.ensures.0 c.enum-told2.given.1), tt)
+returns_2 c = (no_call _ (a_next _ _ c.before.before.before.before.before.before.before.before.before.before.before.before.before.before.before.before.next_word.ensures.0 c.before.before.before.before.before.before.before.before.before.before.before.before.before.before.from.given.1) c.before.before.before.before.before.before.form_of.ensures (ran-unread _ _ _ _ _ c.before.before.before.before.put-form.ensures.0 c.enum-told2.given.1), tt)
 
 next_word_requires_2 : tie.Need-next-word-requires-2
 next_word_requires_2 c κs = (inside_to _ _ c.before.before.before.before.before.put-form.ensures.1 c.before.next.given.1).0

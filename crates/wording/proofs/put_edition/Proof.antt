@@ -2,10 +2,10 @@
 use mathlib.Core.Path.{refl, sym, ◌∙◌}
 use mathlib.Core.List.{[]}
 use native.Mathlib.Omega.{arith}
-use Rattle.text.proofs.Writing.{put-nothing_lem}
+use Rattle.text.proofs.Writing.{put-nothing}
 use borrow.Author.Tests.{not-true, not-false}
 use Rattle.wording.specs.Walked.{Ran, Inside}
-use Rattle.wording.proofs.Steps.{a_next, no_next, places, ran-same_lem, passed_inside, no_edition, not_edition, an_edition}
+use Rattle.wording.proofs.Steps.{a_next, no_next, places, ran-same, passed_inside, no_edition, not_edition, an_edition}
 use borrow.Author.Rules.{rules}
 use Rattle.wording.proofs.put_edition.Statement.{statement}
 use Rattle.wording.proofs.put_edition.Tie as tie
@@ -28,7 +28,7 @@ returns : tie.Need-returns
 unfolding Ran Inside
 returns c =
     let start = c.before.before.before.before.before in
-    (([], no_edition (no_next _ _ c.before.before.next_word.ensures.0 c.enum_told.given.1), put-nothing_lem _ _), (start.requires.0, omega arith))
+    (([], no_edition (no_next _ _ c.before.before.next_word.ensures.0 c.enum_told.given.1), put-nothing _ _), (start.requires.0, omega arith))
 
 sub_same : tie.Need-overflow-sub-same
 sub_same c =
@@ -71,7 +71,7 @@ returns_3 c =
     let known = c.before.before.before.before.before.before.before.before.before in
     let p = places _ _ known.before.before.next_word.ensures.1 known.begin.given.1 in
     let is = an_edition _ (a_next _ _ known.before.before.next_word.ensures.0 known.begin.given.1) (sym c.before.before.before.before.before.same.ensures ∙ not-false _ c.before.before.before.before.if1.false) in (
-      ran-same_lem _ _ _ _ _ (sym is) c.before.before.put-fields.ensures.0,
+      ran-same _ _ _ _ _ (sym is) c.before.before.put-fields.ensures.0,
       passed_inside _ _ _ _ _ (omega arith) c.before.before.put-fields.ensures.1,
     )
 

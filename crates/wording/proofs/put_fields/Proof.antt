@@ -6,7 +6,7 @@ use native.Mathlib.Omega.{arith}
 use lib.ListN.{length}
 use Rattle.text.specs.Put.{Put}
 use Rattle.text.proofs.Writing.{put_then}
-use Rattle.decimal.proofs.Written.{put-nothing_lem}
+use Rattle.decimal.proofs.Written.{put-nothing}
 use Rattle.wording.specs.Plain.{words_at, in_front, fields}
 use Rattle.wording.specs.Walked.{Ran, Passed}
 use Rattle.wording.proofs.Steps.{a_next, no_next, places, field_short, wrote_to, wrote_unread, at_first, no_word_left, no_number_there, field_more, at_last, part_length}
@@ -27,7 +27,7 @@ abbrev decreases_loop : tie.decreases_loop
 decreases_loop out₀ at kind n line from next₀ to₀ i₀ out next to i = n - i
 
 loop_holds : tie.Need-loop-init invariant_loop decreases_loop
-loop_holds c = (search rules, search rules, refl, search rules, (_, at_first _ _ _, put-nothing_lem _ _))
+loop_holds c = (search rules, search rules, refl, search rules, (_, at_first _ _ _, put-nothing _ _))
 
 next_word_requires : tie.Need-next-word-requires invariant_loop decreases_loop
 next_word_requires c κs = search rules

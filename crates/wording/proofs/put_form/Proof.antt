@@ -2,7 +2,7 @@
 use mathlib.Core.Path.{sym}
 use native.Mathlib.Omega.{arith}
 use Rattle.wording.specs.Walked.{Ran, Inside}
-use Rattle.wording.proofs.Steps.{ran-same_lem, ran-after_lem, ran_to, ran-unread_lem, passed_to, inside_same, unknown, formed_none, formed_then}
+use Rattle.wording.proofs.Steps.{ran-same, ran-after, ran_to, ran-unread, passed_to, inside_same, unknown, formed_none, formed_then}
 use borrow.Author.Rules.{rules}
 use Rattle.wording.proofs.put_form.Statement.{statement}
 use Rattle.wording.proofs.put_form.Tie as tie
@@ -37,7 +37,7 @@ same_length c = search rules
 returns_2 : tie.Need-returns-2
 unfolding Ran Inside
 returns_2 c =
-    (formed_none _ c.before.before.before.before.before.before.before.form.given.1 (ran-unread_lem _ _ _ _ _ c.before.before.before.before.put-fields.ensures.0 c.enum-told2.given.1), tt)
+    (formed_none _ c.before.before.before.before.before.before.before.form.given.1 (ran-unread _ _ _ _ _ c.before.before.before.before.put-fields.ensures.0 c.enum-told2.given.1), tt)
 
 put_tail_requires : tie.Need-put-tail-requires
 put_tail_requires c κs =
@@ -52,8 +52,8 @@ returns_3 c =
     let s = c.before.before.before.before.before.before.before.before.before.before.before.before.before.before.before.before in
     let p = passed_to _ _ _ c.before.before.before.before.before.before.before.before.before.put-fields.ensures.1 c.before.before.before.before.before.next.given.1 in
     let v = ran_to _ c.before.before.before.before.before.before.before.before.before.put-fields.ensures.0 c.before.before.before.before.before.next.given.1 in (
-      ran-same_lem _ _ _ _ _ (sym (formed_then _ c.before.before.before.before.before.before.before.before.before.before.before.before.form.given.1 v.1))
-          (ran-after_lem _ _ _ _ v.2 (omega arith) c.before.before.put-tail.ensures.0),
+      ran-same _ _ _ _ _ (sym (formed_then _ c.before.before.before.before.before.before.before.before.before.before.before.before.form.given.1 v.1))
+          (ran-after _ _ _ _ v.2 (omega arith) c.before.before.put-tail.ensures.0),
       inside_same _ c.before.before.before.before.before.before.before.before.before.put-fields.new.0 s.args.out.now _ (search rules) c.before.before.put-tail.ensures.1,
     )
 

@@ -2,7 +2,7 @@
 use mathlib.Core.Path.{sym}
 use native.Mathlib.Omega.{arith}
 use Rattle.wording.specs.Walked.{Ran, Inside}
-use Rattle.wording.proofs.Steps.{ran-same_lem, ran-after_lem, ran_to, ran-unread_lem, passed_to, inside_same, made_none, made_then}
+use Rattle.wording.proofs.Steps.{ran-same, ran-after, ran_to, ran-unread, passed_to, inside_same, made_none, made_then}
 use borrow.Author.Rules.{rules}
 use Rattle.wording.proofs.put_made.Statement.{statement}
 use Rattle.wording.proofs.put_made.Tie as tie
@@ -25,7 +25,7 @@ same_length c = search rules
 
 returns : tie.Need-returns
 unfolding Ran Inside
-returns c = (made_none _ (ran-unread_lem _ _ _ _ _ c.before.before.before.before.put-fields.ensures.0 c.enum_told.given.1), tt)
+returns c = (made_none _ (ran-unread _ _ _ _ _ c.before.before.before.before.put-fields.ensures.0 c.enum_told.given.1), tt)
 
 put_edition_requires : tie.Need-put-edition-requires
 put_edition_requires c κs =
@@ -42,7 +42,7 @@ returns_2 c =
     let s = read.before.before.before.before in
     let p = passed_to _ _ _ read.put-fields.ensures.1 known.next.given.1 in
     let v = ran_to _ read.put-fields.ensures.0 known.next.given.1 in (
-      ran-same_lem _ _ _ _ _ (sym (made_then _ v.1)) (ran-after_lem _ _ _ _ v.2 (omega arith) c.before.before.put-edition.ensures.0),
+      ran-same _ _ _ _ _ (sym (made_then _ v.1)) (ran-after _ _ _ _ v.2 (omega arith) c.before.before.put-edition.ensures.0),
       inside_same _ read.put-fields.new.0 s.args.out.now _ (search rules) c.before.before.put-edition.ensures.1,
     )
 

@@ -6,7 +6,7 @@ use Rattle.text.specs.Digits.{decimal_of}
 use Rattle.text.proofs.Writing.{put_then, length_decimal}
 use Rattle.wording.specs.declared.Kind.TheVariants as Kind
 use Rattle.wording.specs.Plain.{words_at, in_front, spaced, fields, numbers}
-use Rattle.wording.proofs.Steps.{ran-same_lem, ran-after_lem, passed_inside}
+use Rattle.wording.proofs.Steps.{ran-same, ran-after, passed_inside}
 use borrow.Author.Rules.{rules}
 use Rattle.wording.proofs.put_numbers.Statement.{statement}
 use Rattle.wording.proofs.put_numbers.Tie as tie
@@ -37,8 +37,8 @@ unfolding numbers spaced
 returns c =
     let s = c.before.before.before.before.before.before.before.before.before.before.before.before.before.before.before in
     let ws = words_at s.args.line.now s.args.from in (
-      ran-same_lem _ _ _ _ _ (ap (λ (n : ℕ). in_front (spaced (decimal_of n)) (fields Kind.Value n ws)) c.before.before.before.before.before.before.before.before.before.before.before.before.count-words.ensures)
-          (ran-after_lem _ _ _ _ (put_then c.before.before.before.before.before.before.before.before.before.before.put_byte.ensures c.before.before.before.before.before.before.put_count.ensures (omega (arith, c.before.before.before.before.before.before.before.before.before.before.put_byte.ensures.place))) (omega (arith, c.before.before.before.before.before.before.before.before.before.before.put_byte.ensures.place, c.before.before.before.before.before.before.put_count.ensures.place, length_decimal c.before.before.before.before.before.before.before.before.before.before.before.before.count-words.result))
+      ran-same _ _ _ _ _ (ap (λ (n : ℕ). in_front (spaced (decimal_of n)) (fields Kind.Value n ws)) c.before.before.before.before.before.before.before.before.before.before.before.before.count-words.ensures)
+          (ran-after _ _ _ _ (put_then c.before.before.before.before.before.before.before.before.before.before.put_byte.ensures c.before.before.before.before.before.before.put_count.ensures (omega (arith, c.before.before.before.before.before.before.before.before.before.before.put_byte.ensures.place))) (omega (arith, c.before.before.before.before.before.before.before.before.before.before.put_byte.ensures.place, c.before.before.before.before.before.before.put_count.ensures.place, length_decimal c.before.before.before.before.before.before.before.before.before.before.before.before.count-words.result))
           c.before.before.put-fields.ensures.0),
       passed_inside _ _ _ _ _ (omega (arith, c.before.before.before.before.before.before.before.before.before.before.put_byte.ensures.place, c.before.before.before.before.before.before.put_count.ensures.place, length_decimal c.before.before.before.before.before.before.before.before.before.before.before.before.count-words.result)) c.before.before.put-fields.ensures.1,
     )

@@ -3,7 +3,7 @@ use mathlib.Core.Path.{◌≡◌, sym, ap}
 use native.Mathlib.Omega.{arith}
 use Rattle.wording.specs.declared.Tail.{Tail}
 use Rattle.wording.specs.Plain.{words_at, tail_of}
-use Rattle.wording.proofs.Steps.{ran-same_lem, passed_inside}
+use Rattle.wording.proofs.Steps.{ran-same, passed_inside}
 use borrow.Author.Rules.{rules}
 use Rattle.wording.proofs.put_tail.Statement.{statement}
 use Rattle.wording.proofs.put_tail.Tie as tie
@@ -45,7 +45,7 @@ returns : tie.Need-returns
 unfolding tail_of
 returns c =
     let s = c.before.before.before.before.before.before.before.before.before in (
-      ran-same_lem _ _ _ _ _ (ap (λ (t : Tail). tail_of t (words_at s.args.line.now s.args.from)) (sym c.before.before.before.before.before.tail.given.1)) c.before.before.put-fields.ensures.0,
+      ran-same _ _ _ _ _ (ap (λ (t : Tail). tail_of t (words_at s.args.line.now s.args.from)) (sym c.before.before.before.before.before.tail.given.1)) c.before.before.put-fields.ensures.0,
       passed_inside _ _ _ _ _ (omega arith) c.before.before.put-fields.ensures.1,
     )
 
@@ -56,7 +56,7 @@ returns_2 : tie.Need-returns-2
 unfolding tail_of
 returns_2 c =
     let s = c.before.before.before.before.before.before.before.before in (
-      ran-same_lem _ _ _ _ _ (ap (λ (t : Tail). tail_of t (words_at s.args.line.now s.args.from)) (sym c.before.before.before.before.enum_told.given.1)) c.before.before.put-numbers.ensures.0,
+      ran-same _ _ _ _ _ (ap (λ (t : Tail). tail_of t (words_at s.args.line.now s.args.from)) (sym c.before.before.before.before.enum_told.given.1)) c.before.before.put-numbers.ensures.0,
       c.before.before.put-numbers.ensures.1,
     )
 
@@ -67,7 +67,7 @@ returns_3 : tie.Need-returns-3
 unfolding tail_of
 returns_3 c =
     let s = c.before.before.before.before.before.before.before.before in (
-      ran-same_lem _ _ _ _ _ (ap (λ (t : Tail). tail_of t (words_at s.args.line.now s.args.from)) (sym c.before.before.before.before.enum-told2.given.1)) c.before.before.put-block.ensures.0,
+      ran-same _ _ _ _ _ (ap (λ (t : Tail). tail_of t (words_at s.args.line.now s.args.from)) (sym c.before.before.before.before.enum-told2.given.1)) c.before.before.put-block.ensures.0,
       c.before.before.put-block.ensures.1,
     )
 
@@ -78,7 +78,7 @@ returns_4 : tie.Need-returns-4
 unfolding tail_of
 returns_4 c =
     let s = c.before.before.before.before.before.before.before.before in (
-      ran-same_lem _ _ _ _ _ (ap (λ (t : Tail). tail_of t (words_at s.args.line.now s.args.from)) (sym c.before.before.before.before.enum-told3.given.1)) c.before.before.put-made.ensures.0,
+      ran-same _ _ _ _ _ (ap (λ (t : Tail). tail_of t (words_at s.args.line.now s.args.from)) (sym c.before.before.before.before.enum-told3.given.1)) c.before.before.put-made.ensures.0,
       c.before.before.put-made.ensures.1,
     )
 

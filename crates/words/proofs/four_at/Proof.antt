@@ -7,7 +7,7 @@ use mir.Syntax.{w8}
 use mir.Val.{Fits}
 use borrow.Author.Rules.{rules}
 use Rattle.words.proofs.Bytes.{are_bytes}
-use Rattle.words.proofs.Turns.{four_bytes, four_bytes_lem, four_small}
+use Rattle.words.proofs.Turns.{four_bytes, four_bytes, four_small}
 use Rattle.words.proofs.four_at.Statement.{statement}
 use Rattle.words.proofs.four_at.Tie as tie
 
@@ -67,7 +67,7 @@ add_result_3 : tie.Need-overflow-add-result-3
 add_result_3 c = omega (arith, total c.before.before.before.before c.shared-slice-known4.given)
 
 returns : tie.Need-returns
-returns c = sym (four_bytes_lem _ _ c.before.before.before.before.requires)
+returns c = sym (four_bytes _ _ c.before.before.before.before.requires)
 
 pub four_at_spec : {M : Type 1} → statement M
 four_at_spec =

@@ -9,7 +9,7 @@ use borrow.Author.Rules.{rules}
 use Rattle.text.specs.Put.{put}
 use Rattle.words.specs.Words.{bytes_of}
 use Rattle.words.proofs.Bytes.{length_bytes}
-use Rattle.words.proofs.Turns.{put-turn_lem, put-over_lem}
+use Rattle.words.proofs.Turns.{put-turn, put-over}
 use Rattle.words.proofs.put_number.Statement.{statement}
 use Rattle.words.proofs.put_number.Tie as tie
 
@@ -40,7 +40,7 @@ loop_less c = search rules
 loop_again : tie.Need-loop-preserved invariant_loop decreases_loop
 loop_again c =
     let l = c.before.loop in
-    (search rules, search rules, l.invariant.2 ∙ put-turn_lem _ _ _ _ _ c.loop-test.true (omega arith))
+    (search rules, search rules, l.invariant.2 ∙ put-turn _ _ _ _ _ c.loop-test.true (omega arith))
 
 add_result : tie.Need-overflow-add-result invariant_loop decreases_loop
 add_result c = search rules
@@ -51,7 +51,7 @@ same_length c = search rules
 returns : tie.Need-returns invariant_loop decreases_loop
 returns c =
     let l = c.before.loop in
-    record { bytes = sym (l.invariant.2 ∙ put-over_lem _ _ _ _ _ c.loop-test.false); place = rw length_bytes }
+    record { bytes = sym (l.invariant.2 ∙ put-over _ _ _ _ _ c.loop-test.false); place = rw length_bytes }
 
 pub put_number_spec : {M : Type 1} → statement M
 put_number_spec =

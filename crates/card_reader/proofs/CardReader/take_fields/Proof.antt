@@ -15,7 +15,7 @@ use Rattle.words.proofs.Bytes.{are_bytes, bytes_drop}
 use Rattle.card.specs.Card.{is_accepted, field_length, is_whole, taken}
 use Rattle.card.proofs.Fields.{whole_parts}
 use Rattle.card_reader.specs.Reader.{reader_of, SoundReader}
-use Rattle.card_reader.proofs.Taking.{taken-turn_lem, taken_waits, taken_stops, unfinished}
+use Rattle.card_reader.proofs.Taking.{taken-turn, taken_waits, taken_stops, unfinished}
 use Rattle.card_reader.proofs.CardReader.take_fields.Statement.{statement}
 use Rattle.card_reader.proofs.CardReader.take_fields.Tie as tie
 
@@ -109,7 +109,7 @@ loop_again c =
     let does = c.before.before.before.before.field-turn.ensures in (
       (inside c).0,
       does.sound,
-      l.loop.inv.2 ∙ taken-turn_lem l.before.before.before.args.bytes.now l.loop.used _ (on (turn c)).0 (on (turn c)).1 (size c) (rw (left l) at does.reader),
+      l.loop.inv.2 ∙ taken-turn l.before.before.before.args.bytes.now l.loop.used _ (on (turn c)).0 (on (turn c)).1 (size c) (rw (left l) at does.reader),
     )
 
 -- ---- behind the loop: it does not

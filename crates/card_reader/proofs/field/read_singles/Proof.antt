@@ -7,7 +7,7 @@ use native.Mathlib.Omega.{arith}
 use lib.ListN.{length, take, length-set}
 use borrow.Author.Rules.{rules}
 use Rattle.words.specs.Words.{singles_at}
-use Rattle.card_reader.proofs.Singles.{singles_from, read-turn_lem, read-over_lem}
+use Rattle.card_reader.proofs.Singles.{singles_from, read-turn, read-over}
 use Rattle.card_reader.proofs.field.read_singles.Statement.{statement}
 use Rattle.card_reader.proofs.field.read_singles.Tie as tie
 
@@ -48,7 +48,7 @@ loop_again c =
     let l = c.before.before.loop in (
       simp length-set (omega arith),
       simp length-set l.invariant.1,
-      l.invariant.2 ∙ rw c.single-at.ensures (read-turn_lem a.bytes.now a.at (length a.values.now) l.values l.i (omega arith) c.before.loop-test.true),
+      l.invariant.2 ∙ rw c.single-at.ensures (read-turn a.bytes.now a.at (length a.values.now) l.values l.i (omega arith) c.before.loop-test.true),
     )
 
 same_length : tie.Need-same-length invariant_loop decreases_loop
@@ -58,7 +58,7 @@ returns : tie.Need-returns invariant_loop decreases_loop
 returns c =
     let a = c.before.before.before.before.args in
     let l = c.before.loop in
-    sym (l.invariant.2 ∙ read-over_lem a.bytes.now a.at (length a.values.now) l.values l.i (omega arith) (omega arith))
+    sym (l.invariant.2 ∙ read-over a.bytes.now a.at (length a.values.now) l.values l.i (omega arith) (omega arith))
 
 pub read_singles_spec : {M : Type 1} → statement M
 read_singles_spec =

@@ -6,7 +6,7 @@ use lib.ListN.{length, length-append}
 use lib.Seq.{length-take-le, take_at}
 use borrow.Author.Rules.{rules}
 use Rattle.words.specs.Words.{singles_at}
-use Rattle.words.proofs.Bytes.{length-singles_lem}
+use Rattle.words.proofs.Bytes.{length-singles}
 use Rattle.card.specs.Card.{numbers_in}
 use Rattle.card.proofs.Fields.{whole_parts, curve_room}
 use Rattle.card_reader.proofs.Called.{does_curve}
@@ -53,7 +53,7 @@ returns c =
     let bytes = n.before.before.before.before.before.args.bytes.now in
     let numbers = singles_at bytes 19 (numbers_in bytes) in
     does_curve bytes n.before.before.before.before.before.requires.2 n.before.before.double-at.ensures n.before.double-at2.ensures refl
-    (c.before.before.schedule-long.ensures numbers (omega (arith, length-singles_lem bytes 19 (numbers_in bytes), count n, w.before.if1.true)) (rw (count n) at w.worst-of.ensures))
+    (c.before.before.schedule-long.ensures numbers (omega (arith, length-singles bytes 19 (numbers_in bytes), count n, w.before.if1.true)) (rw (count n) at w.worst-of.ensures))
 
 array_borrow_prefix_values : tie.Need-array-borrow-prefix-values
 array_borrow_prefix_values c = search rules
@@ -74,7 +74,7 @@ long : (c : tie.After-read-singles) → length c.read-singles.new.1.1.0 ≡ (c.b
 long c =
     let n = c.before.before.before in
     let bytes = n.before.before.before.before.before.args.bytes.now in
-    ap length (numbers c) ∙ length-singles_lem bytes 19 (numbers_in bytes) ∙ sym (count n)
+    ap length (numbers c) ∙ length-singles bytes 19 (numbers_in bytes) ∙ sym (count n)
 
 array_share_prefix_values : tie.Need-array-share-prefix-values
 array_share_prefix_values c = rw (length-append c.before.read-singles.new.1.1.0 _) (omega (arith, long c.before))

@@ -3,7 +3,7 @@ use Rattle.std.proofs.Common.{◌≡◌, ℕ, ◌-◌, ◌^◌, ◌≤◌, List,
 use Rattle.text.specs.Digits.{number_from, as_number}
 use Rattle.text.specs.Words.{up_to}
 use Rattle.text.proofs.Reading.{turn, stop}
-use Rattle.decimal.proofs.Reading.{over, all-counted_lem}
+use Rattle.decimal.proofs.Reading.{over, all-counted}
 use Rattle.decimal.proofs.read.counted.Statement.{statement}
 use Rattle.decimal.proofs.read.counted.Tie as tie
 use Rattle.decimal.proofs.read.counted.Reads as reads
@@ -61,7 +61,7 @@ returns_3 c =
     let l = c.before.loop in
     let w = c.before.before.before.args.word.now in
     let e : drop l.i w ≡ [] = drop_of_length-le w c.loop-test.false in
-    sym (ap as_number (l.invariant.2 ∙ ap (λ (cs : List ℕ). up_to (2 ^ 53) (number_from 10 l.v cs)) e ∙ all-counted_lem 10 (2 ^ 53) (omega arith) (lit< tt) _ l.invariant.1))
+    sym (ap as_number (l.invariant.2 ∙ ap (λ (cs : List ℕ). up_to (2 ^ 53) (number_from 10 l.v cs)) e ∙ all-counted 10 (2 ^ 53) (omega arith) (lit< tt) _ l.invariant.1))
 
 pub counted_spec : {M : Type 1} → statement M
 counted_spec =

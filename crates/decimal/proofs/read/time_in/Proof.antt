@@ -2,7 +2,7 @@
 use Rattle.std.proofs.Common.{sym, ap, ◌∙◌, rules}
 use lib.Ieee.{binary64}
 use Rattle.text.specs.Floats.{as_double}
-use Rattle.decimal.proofs.Reading.{plain_none, plain_bits, plain_number, held-double_lem}
+use Rattle.decimal.proofs.Reading.{plain_none, plain_bits, plain_number, held-double}
 use Rattle.decimal.proofs.read.time_in.Statement.{statement}
 use Rattle.decimal.proofs.read.time_in.Tie as tie
 use Rattle.decimal.proofs.read.time_in.Reads as reads
@@ -36,7 +36,7 @@ named_in_requires : tie.Need-named-in-requires
 named_in_requires c κs = search rules
 
 returns_3 : tie.Need-returns-3
-returns_3 c = c.named_in.ensures ∙ ap as_double (sym (held-double_lem _) ∙ plain_number binary64 _ c.before.before.before.if1.false c.before.if2.false)
+returns_3 c = c.named_in.ensures ∙ ap as_double (sym (held-double _) ∙ plain_number binary64 _ c.before.before.before.if1.false c.before.if2.false)
 
 pub time_in_spec : {M : Type 1} → statement M
 time_in_spec =

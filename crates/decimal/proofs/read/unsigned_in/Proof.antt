@@ -7,7 +7,7 @@ use Rattle.text.proofs.Said.{is_number, no_number}
 use Rattle.decimal.specs.declared.read.Tens.{Tens}
 use Rattle.decimal.specs.declared.read.Tens.TheVariants as Tens
 use Rattle.decimal.specs.Decimals.{digits_in, tens_in, scaled, unsigned_in}
-use Rattle.decimal.proofs.Reading.{digits_below, point_is, unsigned_by, scaled-same_lem}
+use Rattle.decimal.proofs.Reading.{digits_below, point_is, unsigned_by, scaled-same}
 use Rattle.decimal.proofs.read.unsigned_in.Statement.{statement}
 use Rattle.decimal.proofs.read.unsigned_in.Tie as tie
 use Rattle.decimal.proofs.read.unsigned_in.Reads as reads
@@ -58,11 +58,11 @@ digits c = is_number _ (sym c.before.before.before.digits_in.ensures ∙ c.befor
 numbers : (c : tie.After-tens-in) (t : Tens) → c.tens-in.result ≡ t
     → unsigned_in c.before.before.before.before.before.before.before.before.before.before.before.before.args.minus c.before.before.before.before.before.before.before.before.before.before.before.before.args.word.now ≡ scaled c.before.before.before.before.before.before.before.before.before.before.before.before.args.minus c.before.before.places_behind.result (some c.before.before.before.before.d.given.0.0) t
 numbers c t e =
-    parts c.before.before.before.before.before.before.before ∙ scaled-same_lem _ (sym c.before.before.places_behind.ensures) (digits c.before.before.before) (sym c.tens-in.ensures ∙ e)
+    parts c.before.before.before.before.before.before.before ∙ scaled-same _ (sym c.before.before.places_behind.ensures) (digits c.before.before.before) (sym c.tens-in.ensures ∙ e)
 
 returns : tie.Need-returns
 unfolding as_double scaled
-returns c = sym (ap as_double (parts c.before.before.before ∙ scaled-same_lem _ refl (no_number _ (sym c.before.before.digits_in.ensures ∙ c.enum_told.given.1)) refl))
+returns c = sym (ap as_double (parts c.before.before.before ∙ scaled-same _ refl (no_number _ (sym c.before.before.digits_in.ensures ∙ c.enum_told.given.1)) refl))
 
 places_behind_requires : tie.Need-places-behind-requires
 places_behind_requires c κs = search rules

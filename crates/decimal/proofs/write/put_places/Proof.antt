@@ -2,7 +2,7 @@
 use Rattle.std.proofs.Common.{◌≡◌, ◌≤◌, length, sym, ◌∙◌, arith, rules}
 use Rattle.text.proofs.Writing.{put_same, put_then}
 use Rattle.decimal.specs.Shown.{places_text}
-use Rattle.decimal.proofs.Written.{put-nothing_lem, put_from, no_places, fewer_places, all_places}
+use Rattle.decimal.proofs.Written.{put-nothing, put_from, no_places, fewer_places, all_places}
 use Rattle.decimal.proofs.write.put_places.Statement.{statement}
 use Rattle.decimal.proofs.write.put_places.Tie as tie
 use Rattle.decimal.proofs.write.put_places.Reads as reads
@@ -51,7 +51,7 @@ same_length_2 c = search rules
 returns_2 : tie.Need-returns-2 invariant_loop decreases_loop
 returns_2 c =
     let l = c.before.loop in
-    put_same (sym (l.invariant.3 ∙ no_places _ _ c.loop-test.false)) (put_from l.invariant.2 (put-nothing_lem _ _))
+    put_same (sym (l.invariant.3 ∙ no_places _ _ c.loop-test.false)) (put_from l.invariant.2 (put-nothing _ _))
 
 pub put_places_spec : {M : Type 1} → statement M
 put_places_spec =

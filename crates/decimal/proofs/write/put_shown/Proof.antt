@@ -2,7 +2,7 @@
 use Rattle.std.proofs.Common.{sym, ap, ◌∙◌, arith, rules}
 use Rattle.text.proofs.Writing.{put_same, put_then}
 use Rattle.decimal.specs.Shown.{shown_text}
-use Rattle.decimal.proofs.Written.{put-nothing_lem, length_sign}
+use Rattle.decimal.proofs.Written.{put-nothing, length_sign}
 use Rattle.decimal.proofs.write.put_shown.Statement.{statement}
 use Rattle.decimal.proofs.write.put_shown.Tie as tie
 use Rattle.decimal.proofs.write.put_shown.Reads as reads
@@ -65,7 +65,7 @@ returns_3 c = put_same (ap shown_text (sym c.before.before.before.before.before.
 
 returns_4 : tie.Need-returns-4
 unfolding shown_text
-returns_4 c = put_same (ap shown_text (sym c.enum-told2.given.1)) (put-nothing_lem _ _)
+returns_4 c = put_same (ap shown_text (sym c.enum-told2.given.1)) (put-nothing _ _)
 
 pub put_shown_spec : {M : Type 1} → statement M
 put_shown_spec =

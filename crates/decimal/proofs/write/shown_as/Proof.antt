@@ -1,7 +1,7 @@
 -- `decimal::write::shown_as` meets its contract: by the exponent. Assumes nothing.
 use Rattle.std.proofs.Common.{◌≡◌, ℕ, ◌-◌, ◌*◌, ◌^◌, ◌<◌, ◌≤◌, ◌⊎◌, sym, ap, ◌∙◌, inl, inr, ⊎_elim, zero-mul, arith, pow_pos, rules}
 use Rattle.decimal.specs.Shown.{shown_as}
-use Rattle.decimal.proofs.Showing.{zero_shown, huge_shown, whole-shown_lem, parted_shown}
+use Rattle.decimal.proofs.Showing.{zero_shown, huge_shown, whole-shown, parted_shown}
 use Rattle.decimal.proofs.write.shown_as.Statement.{statement}
 use Rattle.decimal.proofs.write.shown_as.Tie as tie
 use Rattle.decimal.proofs.write.shown_as.Reads as reads
@@ -20,7 +20,7 @@ shl_t6 : tie.Need-overflow-shl-t6
 shl_t6 c = search rules
 
 returns_3 : tie.Need-returns-3
-returns_3 c = whole-shown_lem _ _ c.before.before.before.requires.0 _ (omega arith) c.if3.true c.before.if2.false
+returns_3 c = whole-shown _ _ c.before.before.before.requires.0 _ (omega arith) c.if3.true c.before.if2.false
 
 sub_parted : tie.Need-overflow-sub-parted
 sub_parted c = search rules

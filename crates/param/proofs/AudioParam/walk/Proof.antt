@@ -4,7 +4,7 @@ use native.Mathlib.Omega.{arith}
 use lib.ListN.{length, take}
 use lib.Seq.{length-take-le}
 use Rattle.laws.proofs.Rows.{ceiling_most}
-use Rattle.param.proofs.Plays.{walk_given, values_stand, behind-same_lem, walks}
+use Rattle.param.proofs.Plays.{walk_given, values_stand, behind-same, walks}
 use borrow.Author.Rules.{rules}
 use Rattle.param.proofs.AudioParam.walk.Statement.{statement}
 use Rattle.param.proofs.AudioParam.walk.Tie as tie
@@ -55,7 +55,7 @@ returns c =
     let values = walked.new.1.1.1.0 in
     let filled = walked.ensures.filled in
     let mixed = c.before.before.before.mix-values.ensures _ (walk_given start.args.self f _ walked.ensures) (values_stand _ values _ filled) in
-    walks start.args.self f _ output _ walked.ensures (mixed ∙ behind-same_lem start.args.self.bounds f _ _ values output (walked.ensures.whole ∙ long start)) (c.says-one.ensures _ refl)
+    walks start.args.self f _ output _ walked.ensures (mixed ∙ behind-same start.args.self.bounds f _ _ values output (walked.ensures.whole ∙ long start)) (c.says-one.ensures _ refl)
 
 pub walk_spec : {M : Type 1} → statement M
 walk_spec =

@@ -1,0 +1,16 @@
+-- `mix_one` meets its contract: the first i places are mixed. Assumes nothing.
+use mathlib.Core.Path.{◌≡◌, sym, ◌∙◌}
+use Prim.Native.Nat.{◌-◌}
+use native.Mathlib.Omega.{arith}
+use borrow.Author.Rules.{rules}
+use lib.ListN.{length, replicate, length-replicate}
+use Rattle.rules.specs.Mix.{mixed_all}
+use Rattle.laws.proofs.Within.{mixed-length}
+use Rattle.mix.proofs.Writes.{Writes, begins, goes_on, ends, one_at}
+use Rattle.mix.proofs.mix_one.Given as goal
+
+abbrev pub invariant-loop-i : goal.invariant-loop-i
+invariant-loop-i l = Writes (mixed_all l.bounds l.input (replicate (length l.input) l.value)) (length l.input) l.initial.output l.i l.output
+
+abbrev pub decreases-loop-i : goal.decreases-loop-i
+decreases-loop-i l = (length l.input) - l.i
