@@ -11,10 +11,10 @@ use lib.Ieee.Scale.{finite, round_same}
 use Rattle.rules.specs.Numbers.{narrowed}
 use Rattle.rounding_laws.proofs.Decode.{narrowed_value, moved}
 use borrow.Author.Rules.{rules}
-use Rattle.rounding.proofs.narrow_whole.Statement.{statement}
-use Rattle.rounding.proofs.narrow_whole.Tie as tie
+use Rattle.rounding.proofs.narrow_whole.Goals as goal
+use Rattle.rounding.proofs.narrow_whole.Goals.{After-finite64}
 
-fine : (c : tie.After-finite64) → c.finite64.result ≡ true → finite c.before.args.x ≡ true
+fine : (c : After-finite64) → c.finite64.result ≡ true → finite c.args.x ≡ true
 fine c h = sym c.finite64.ensures ∙ h
 
 lead : (m j : ℕ) → (2 ^ 52 ≤ m) ⊎ (j ≡ 0) → (2 ^ 63 ≤ m * 2048) ⊎ (j ≤ 896)
@@ -42,53 +42,32 @@ neither (inf true) h k l = absurd (true≢false k)
 neither (inf false) h k l = absurd (true≢false l)
 neither (fin s m e) h k l = absurd (true≢false h)
 
-finite64_requires : tie.Need-finite64-requires
-finite64_requires c κs = search rules
+pub parts64-p-requires : goal.parts64-p-requires
+parts64-p-requires c = subst T (sym (fine c.before c.if-finite64.true)) tt
 
-parts64_requires : tie.Need-parts64-requires
-parts64_requires c κs = subst T (sym (fine c.before c.if1.true)) tt
+pub pack32-requires : goal.pack32-requires
+pack32-requires c = lead c.parts64-p.result.m c.parts64-p.result.j c.parts64-p.ensures.lead
 
-mul_pack32 : tie.Need-overflow-mul-pack32
-mul_pack32 c = search rules
-
-pack32_requires : tie.Need-pack32-requires
-pack32_requires c κs = lead c.before.parts64.result.m c.before.parts64.result.j c.before.parts64.ensures.lead
-
-float_from_bits_result : tie.Need-float-from-bits-result
+pub float_from_bits-result : goal.float_from_bits-result
 unfolding nan_bits
-float_from_bits_result c = tt
+float_from_bits-result c = tt
 
-float_from_bits_result_2 : tie.Need-float-from-bits-result-2
+pub float_from_bits-result-then-x-2 : goal.float_from_bits-result-then-x-2
 unfolding nan_bits
-float_from_bits_result_2 c = tt
+float_from_bits-result-then-x-2 c = tt
 
-returns : tie.Need-returns
-returns c =
-    let p = c.before.before.parts64 in
+pub returns-then-finite64 : goal.returns-then-finite64
+returns-then-finite64 c =
+    let p = c.parts64-p in
     c.pack32.ensures
     ∙ round_same binary32 p.result.neg (p.result.m * 2048 * 2 ^ p.result.j) (2 ^ 1085) (p.result.m * 2 ^ p.result.j) (2 ^ 1074) (pow_pos 1085) (pow_pos 1074) (moved p.result.m 2048 (2 ^ p.result.j) (2 ^ 1074) (2 ^ 1085) refl)
-    ∙ sym (narrowed_value c.before.before.before.before.before.args.x p.result.neg (p.result.m * 2 ^ p.result.j) (2 ^ 1074) (pow_pos 1074) p.ensures.value)
+    ∙ sym (narrowed_value c.args.x p.result.neg (p.result.m * 2 ^ p.result.j) (2 ^ 1074) (pow_pos 1074) p.ensures.value)
 
-returns_2 : tie.Need-returns-2
-returns_2 c = let k = c.before.before in minus k.before.args.x (sym k.finite64.ensures ∙ c.before.if1.false) c.if2.true
+pub returns-then-x : goal.returns-then-x
+returns-then-x c = minus c.args.x (sym c.finite64.ensures ∙ c.if-finite64.false) c.if-x.true
 
-returns_3 : tie.Need-returns-3
-returns_3 c = let k = c.before.before.before in plus k.before.args.x (sym k.finite64.ensures ∙ c.before.before.if1.false) c.if3.true
+pub returns-then-x-2 : goal.returns-then-x-2
+returns-then-x-2 c = plus c.args.x (sym c.finite64.ensures ∙ c.if-finite64.false) c.if-x-2.true
 
-returns_4 : tie.Need-returns-4
-returns_4 c = let k = c.before.before.before in neither k.before.args.x (sym k.finite64.ensures ∙ c.before.before.if1.false) c.before.if2.false c.if3.false
-
-pub narrow_whole_spec : {M : Type 1} → statement M
-narrow_whole_spec =
-    tie.close
-    (tie.spec
-    finite64_requires
-    parts64_requires
-    mul_pack32
-    pack32_requires
-    float_from_bits_result
-    float_from_bits_result_2
-    returns
-    returns_2
-    returns_3
-    returns_4)
+pub returns-else-x-2 : goal.returns-else-x-2
+returns-else-x-2 c = neither c.args.x (sym c.finite64.ensures ∙ c.if-finite64.false) c.if-x.false c.if-x-2.false
