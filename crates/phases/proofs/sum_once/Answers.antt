@@ -18,20 +18,20 @@ use Rattle.rounding_laws.proofs.Fuse.{fused_fits}
 use Rattle.rounding_laws.proofs.Wide.{Parts, parts_of_lem, mul_no_nan, add_no_nan, pattern_finite}
 use Rattle.rounding_laws.proofs.Exact.{field, field_grid, zero_value, short_parts, zero_parts}
 use Rattle.phases.proofs.Once.{field_bound, InRange, once_law}
-use Rattle.phases.proofs.sum_once.Statement.{statement}
-use Rattle.phases.proofs.sum_once.Tie as tie
+use Rattle.phases.proofs.sum_once.Goals as goal
+use Rattle.phases.proofs.sum_once.Goals.{Start}
 
 -- the sum's pattern, rounded
 abbrev cut : ℕ → ℕ
 cut b = b + 268435455 + b / 2 ^ 29 % 2 - (b + 268435455 + b / 2 ^ 29 % 2) % 2 ^ 29
 
-abbrev whole_sum : tie.Start → Float
+abbrev whole_sum : Start → Float
 whole_sum a = add binary64 (mul binary64 a.args.a a.args.y) a.args.c
 
-abbrev n_of : tie.Start → ℕ
+abbrev n_of : Start → ℕ
 n_of a = to_bits binary64 (whole_sum a)
 
-below : (a : tie.Start) → n_of a < 2 ^ 64
+below : (a : Start) → n_of a < 2 ^ 64
 below a = to_bits-lt binary64 (whole_sum a) (add-fits binary64 (mul binary64 a.args.a a.args.y) a.args.c)
 
 in_fits : (n : ℕ) → n < 2 ^ 64 → InRange n → n + 268435456 < 2 ^ 64
@@ -54,9 +54,9 @@ second_le e h fc z p q r s = omega arith
 bound_le : (h f : ℕ) → 950 ≤ h → f + 2 ≤ h → f ≤ h - 875 + 873
 bound_le h f p q = omega arith
 
-module _ (a : tie.Start) where
+module _ (a : Start) where
   abbrev s : Served a.args.a a.args.c a.args.y
-  s = a.requires.1
+  s = a.requires.served
 
   abbrev o : Once a.args.a a.args.c s.bx
   o = s.once
@@ -77,18 +77,18 @@ module _ (a : tie.Start) where
       less n h = omega arith
 
   sum_no_nan : T (not (is_nan (whole_sum a)))
-  sum_no_nan = add_no_nan binary64 (mul binary64 a.args.a a.args.y) a.args.c (mul_no_nan binary64 a.args.a a.args.y a.pre.0.2 fine) a.pre.0.3
+  sum_no_nan = add_no_nan binary64 (mul binary64 a.args.a a.args.y) a.args.c (mul_no_nan binary64 a.args.a a.args.y a.requires.t.2 fine) a.requires.t.3
 
   both : InRange (n_of a) × (of_bits binary64 (cut (n_of a)) ≡ fused binary32 a.args.a a.args.y a.args.c)
   both =
       let h = o.high in
       let X = take o.few in
       let Y = parts_of_lem a.args.y fit fine in
-      let Z = parts_of_lem a.args.c a.pre.0.1 a.pre.0.3 in
+      let Z = parts_of_lem a.args.c a.requires.t.1 a.requires.t.3 in
       once_law a.args.a a.args.y a.args.c X.0 Y Z (h - 875)
-      (field_bound a.args.a a.pre.0.0 a.pre.0.2 X.0 (h - 875) (bound_le h (field a.args.a) o.least o.over))
+      (field_bound a.args.a a.requires.t.0 a.requires.t.2 X.0 (h - 875) (bound_le h (field a.args.a) o.least o.over))
       (field_bound a.args.y fit fine Y 150 up)
-      (field_bound a.args.c a.pre.0.1 a.pre.0.3 Z (h - 875) (bound_le h (field a.args.c) o.least o.over_c))
+      (field_bound a.args.c a.requires.t.1 a.requires.t.3 Z (h - 875) (bound_le h (field a.args.c) o.least o.over_c))
       (first_le (h - 875) h o.grid X.0.j Y.j (s.bx / 2 ^ 52) (field a.args.y) refl o.least o.room X.1 s.from (field_grid a.args.y fit fine Y))
       (pick Z o.third) (from h o.least) (to h o.most)
     where
@@ -96,10 +96,10 @@ module _ (a : tie.Start) where
       less f h p q = omega arith
 
       take : ((to_bits binary64 a.args.a % 2 ^ 63 ≡ 0) × (o.grid ≤ 1196)) ⊎ ((897 ≤ field a.args.a) × ((o.grid ≡ field a.args.a) ⊎ ((o.grid ≡ field a.args.a + 16) × (to_bits binary64 a.args.a % 2 ^ 45 ≡ 0)))) → (P : Parts a.args.a) × (o.grid ≤ P.j + 897)
-      take (inl w) = let P = zero_parts a.args.a a.pre.0.0 a.pre.0.2 w.0 in (P.0, le_trans w.1 (le_of_eq (sym (ap (λ (y : ℕ). y + 897) P.1))))
-      take (inr (l, inl e)) = let P = parts_of_lem a.args.a a.pre.0.0 a.pre.0.2 in (P, le_trans (le_of_eq e) (field_grid a.args.a a.pre.0.0 a.pre.0.2 P))
+      take (inl w) = let P = zero_parts a.args.a a.requires.t.0 a.requires.t.2 w.0 in (P.0, le_trans w.1 (le_of_eq (sym (ap (λ (y : ℕ). y + 897) P.1))))
+      take (inr (l, inl e)) = let P = parts_of_lem a.args.a a.requires.t.0 a.requires.t.2 in (P, le_trans (le_of_eq e) (field_grid a.args.a a.requires.t.0 a.requires.t.2 P))
       take (inr (l, inr w)) =
-          let P = short_parts a.args.a (fits_widens a.args.a a.pre.0.0) w.1 l (less (field a.args.a) o.high o.over o.most) in
+          let P = short_parts a.args.a (fits_widens a.args.a a.requires.t.0) w.1 l (less (field a.args.a) o.high o.over o.most) in
           (P.0, le_trans (le_of_eq w.0) P.1)
 
       from : (h : ℕ) → 950 ≤ h → 75 ≤ h - 875
@@ -109,40 +109,25 @@ module _ (a : tie.Start) where
       to h p = omega arith
 
       pick : (Z : Parts a.args.c) → (to_bits binary64 a.args.c % 2 ^ 63 ≡ 0) ⊎ (o.high ≤ field a.args.c + 29) → (Z.m * 2 ^ Z.j ≡ 0) ⊎ (o.high - 875 + 874 ≤ Z.j + 925)
-      pick Z (inl z) = inl (zero_value a.args.c a.pre.0.1 z Z)
-      pick Z (inr z) = inr (second_le (o.high - 875) o.high (field a.args.c) Z.j refl o.least z (field_grid a.args.c a.pre.0.1 a.pre.0.3 Z))
+      pick Z (inl z) = inl (zero_value a.args.c a.requires.t.1 z Z)
+      pick Z (inr z) = inr (second_le (o.high - 875) o.high (field a.args.c) Z.j refl o.least z (field_grid a.args.c a.requires.t.1 a.requires.t.3 Z))
 
-float_to_bits_n : tie.Need-float-to-bits-n
-float_to_bits_n c = sum_no_nan c
+pub float_to_bits-n : goal.float_to_bits-n
+float_to_bits-n c = sum_no_nan c
 
-add_r : tie.Need-overflow-add-r
-add_r c = omega (arith, in_fits (n_of c) (below c) (both c).0)
+pub overflow_add-r : goal.overflow_add-r
+overflow_add-r c = omega (arith, in_fits (n_of c) (below c) (both c).0)
 
-add_r_2 : tie.Need-overflow-add-r-2
-add_r_2 c = omega (arith, in_fits (n_of c) (below c) (both c).0)
+pub overflow_add-r-2 : goal.overflow_add-r-2
+overflow_add-r-2 c = omega (arith, in_fits (n_of c) (below c) (both c).0)
 
-sub_result : tie.Need-overflow-sub-result
-sub_result c = search rules
+pub float_from_bits-result : goal.float_from_bits-result
+float_from_bits-result c = in_nan (n_of c) (below c) (both c).0
 
-float_from_bits_result : tie.Need-float-from-bits-result
-float_from_bits_result c = in_nan (n_of c) (below c) (both c).0
+pub float_to_float-result : goal.float_to_float-result
+float_to_float-result c =
+    let s = (goal.at.float_to_float-result c).Start in
+    cast_ok (cut (n_of s)) (fused binary32 c.args.a c.args.y c.args.c) (both s).1 (fused_fits binary32 c.args.a c.args.y c.args.c) (in_nan (n_of s) (below s) (both s).0)
 
-float_to_float_result : tie.Need-float-to-float-result
-float_to_float_result c =
-    let s = c.before in
-    cast_ok (cut (n_of s)) (fused binary32 s.args.a s.args.y s.args.c) (both s).1 (fused_fits binary32 s.args.a s.args.y s.args.c) (in_nan (n_of s) (below s) (both s).0)
-
-returns : tie.Need-returns
-returns c = (both c.before).1
-
-pub sum_once_spec : {M : Type 1} → statement M
-sum_once_spec =
-    tie.close
-    (tie.spec
-    float_to_bits_n
-    add_r
-    add_r_2
-    sub_result
-    float_from_bits_result
-    float_to_float_result
-    returns)
+pub returns : goal.returns
+returns c = (both (goal.at.returns c).Start).1

@@ -16,8 +16,8 @@ use Rattle.rounding_laws.proofs.Fuse.{fused_zero}
 use Rattle.rounding_laws.proofs.Value.{zero_exp}
 use Rattle.rounding_laws.proofs.Wide.{parts_of_lem}
 use borrow.Author.Rules.{rules}
-use Rattle.phases.proofs.sum_at_zero.Statement.{statement}
-use Rattle.phases.proofs.sum_at_zero.Tie as tie
+use Rattle.phases.proofs.sum_at_zero.Goals as goal
+use Rattle.phases.proofs.sum_at_zero.Goals.{Start}
 
 -- a zero: 0 with a sign
 some : (m k : ℕ) → 0 < k → suc m * k * 1 ≡ 0 → ⊥
@@ -52,25 +52,22 @@ sum_is a c f g p q s =
     fused_zero binary32 A.s s C.s (A.m * 2 ^ A.j) 0 (C.m * 2 ^ C.j) (2 ^ 149) 1 (pow_pos 149) (zero-lt-suc 0) a (fin s 0 (pos 0)) c A.value (refl, refl)
     (subst (λ (d : ℕ). HasValue c C.s (C.m * 2 ^ C.j) d) (sym (mul-one (2 ^ 149))) C.value) (mul-zero (A.m * 2 ^ A.j))
 
-zeros : (c : tie.Start) → (s : Bool) × (c.args.x ≡ fin s 0 (pos 0))
-zeros c = zero_is c.args.x (subst T (sym c.well-formed.1.0.1) tt) c.requires.1
+zeros : (c : Start) → (s : Bool) × (c.args.x ≡ fin s 0 (pos 0))
+zeros c = zero_is c.args.x (subst T (sym c.well_formed.1.0.1) tt) c.requires.plus_zero_value
 
-float_to_float_result : tie.Need-float-to-float-result
-float_to_float_result c = let s = c.before in and_i (fits binary32 s.args.a) (not (is_nan s.args.a)) s.requires.0.0 (finite_no_nan s.args.a s.requires.0.2)
+pub float_to_float-result : goal.float_to_float-result
+float_to_float-result c = and_i (fits binary32 c.args.a) (not (is_nan c.args.a)) c.requires.t.0 (finite_no_nan c.args.a c.requires.t.2)
 
-float_to_float_result_2 : tie.Need-float-to-float-result-2
-float_to_float_result_2 c = let z = zeros c.before.before in subst (λ (v : Float). T (fits binary32 v && not (is_nan v))) (sym z.1) (held z.0)
+pub float_to_float-result-2 : goal.float_to_float-result-2
+float_to_float-result-2 c = let z = zeros (goal.at.float_to_float-result-2 c).Start in subst (λ (v : Float). T (fits binary32 v && not (is_nan v))) (sym z.1) (held z.0)
 
-float_to_float_result_3 : tie.Need-float-to-float-result-3
-float_to_float_result_3 c = let s = c.before.before.before in and_i (fits binary32 s.args.c) (not (is_nan s.args.c)) s.requires.0.1 (finite_no_nan s.args.c s.requires.0.3)
+pub float_to_float-result-3 : goal.float_to_float-result-3
+float_to_float-result-3 c = and_i (fits binary32 c.args.c) (not (is_nan c.args.c)) c.requires.t.1 (finite_no_nan c.args.c c.requires.t.3)
 
-returns : tie.Need-returns
+pub returns : goal.returns
 returns c =
-    let s = c.before.before.before in
+    let s = (goal.at.returns c).Start in
     let z = zeros s in
-    let a = s.args in
-    let p = s.requires.0 in
+    let a = c.args in
+    let p = c.requires.t in
     ap (λ (v : Float). add binary32 (mul binary32 a.a v) a.c) z.1 ∙ sum_is a.a a.c p.0 p.1 p.2 p.3 z.0 ∙ ap (λ (v : Float). fused binary32 a.a v a.c) (narrowed_zero z.0) ∙ ap (λ (v : Float). fused binary32 a.a (narrowed v) a.c) (sym z.1)
-
-pub sum_at_zero_spec : {M : Type 1} → statement M
-sum_at_zero_spec = tie.close (tie.spec float_to_float_result float_to_float_result_2 float_to_float_result_3 returns)

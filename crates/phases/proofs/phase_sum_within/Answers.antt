@@ -11,11 +11,11 @@ use lib.Ieee.Bits.{to_bits-of_bits}
 use Rattle.rules.specs.Numbers.{narrowed, fused}
 use Rattle.phases.specs.Once.{Once, Served}
 use Rattle.phases.proofs.Phase.{cut, cut_small, cut_nan, phase_is, phase_nan, phase_fits}
-use Rattle.phases.proofs.phase_sum_within.Statement.{statement}
-use Rattle.phases.proofs.phase_sum_within.Tie as tie
+use Rattle.phases.proofs.phase_sum_within.Goals as goal
+use Rattle.phases.proofs.phase_sum_within.Goals.{Start}
 
-held : (c : tie.Start) → T (fits binary64 c.args.x)
-held c = subst T (sym c.well-formed.1.0.1) tt
+held : (c : Start) → T (fits binary64 c.args.x)
+held c = subst T (sym c.well_formed.1.0.1) tt
 
 cut_field : (b x : ℕ) → b ≤ 1023 * 2 ^ 52 → x ≤ b → x / 2 ^ 52 ≤ cut b % 2 ^ 63 / 2 ^ 52
 cut_field b x hi h = go (b / 2 ^ 29) (cut b) (cut_small b hi) (omega arith) (omega arith)
@@ -23,7 +23,7 @@ cut_field b x hi h = go (b / 2 ^ 29) (cut b) (cut_small b hi) (omega arith) (ome
     go : (d n : ℕ) → n ≤ 1023 * 2 ^ 52 → d * 2 ^ 29 ≤ n → x / 2 ^ 52 ≤ d / 2 ^ 23 → x / 2 ^ 52 ≤ n % 2 ^ 63 / 2 ^ 52
     go d n l g k = omega arith
 
-module _ (a : tie.Start) where
+module _ (a : Start) where
   abbrev b : ℕ
   b = to_bits binary64 a.args.x
 
@@ -31,13 +31,13 @@ module _ (a : tie.Start) where
   phase = of_bits binary64 (cut b)
 
   abbrev o : Once a.args.a a.args.c a.args.bx
-  o = a.pre.1.0
+  o = a.requires.once.0
 
   abbrev least : 898 * 2 ^ 52 ≤ b
-  least = le_trans o.first a.pre.1.1.0
+  least = le_trans o.first a.requires.once.1.0
 
   abbrev most : b ≤ 1023 * 2 ^ 52
-  most = a.pre.1.1.1
+  most = a.requires.once.1.1
 
   is : phase ≡ narrowed a.args.x
   is = phase_is a.args.x (held a) least most
@@ -54,32 +54,27 @@ module _ (a : tie.Start) where
         bx = a.args.bx;
         once = o;
         fit = phase_fits a.args.x (held a) least most;
-        from = subst (λ (n : ℕ). a.args.bx / 2 ^ 52 ≤ n % 2 ^ 63 / 2 ^ 52) (sym bits) (cut_field b a.args.bx most a.pre.1.1.0);
+        from = subst (λ (n : ℕ). a.args.bx / 2 ^ 52 ≤ n % 2 ^ 63 / 2 ^ 52) (sym bits) (cut_field b a.args.bx most a.requires.once.1.0);
         upto = subst (λ (n : ℕ). n ≤ 1023 * 2 ^ 52) (sym bits) (cut_small b most);
       }
 
-float_to_bits_b : tie.Need-float-to-bits-b
-float_to_bits_b c = c.requires.1.1.2
+pub float_to_bits-b : goal.float_to_bits-b
+float_to_bits-b c = c.requires.once.1.2
 
-add_q : tie.Need-overflow-add-q
-add_q c = let l = c.requires.1.1.1 in search rules
+pub overflow_add-q : goal.overflow_add-q
+overflow_add-q c = search rules
 
-add_q_2 : tie.Need-overflow-add-q-2
-add_q_2 c = let l = c.requires.1.1.1 in search rules
+pub overflow_add-q-2 : goal.overflow_add-q-2
+overflow_add-q-2 c = search rules
 
-sub_sum_once : tie.Need-overflow-sub-sum-once
-sub_sum_once c = search rules
+pub float_from_bits-q : goal.float_from_bits-q
+float_from_bits-q c = cut_nan c.args.x (held c) (least c) (most c)
 
-float_from_bits_sum_once : tie.Need-float-from-bits-sum-once
-float_from_bits_sum_once c = cut_nan c.args.x (held c) (least c) (most c)
+pub sum_once-requires : goal.sum_once-requires
+sum_once-requires c = record {
+    t = c.requires.t;
+    served = served c;
+  }
 
-sum_once_requires : tie.Need-sum-once-requires
-sum_once_requires c κs = (c.requires.0, served c)
-
-returns : tie.Need-returns
-returns c = let s = c.before in c.sum_once.ensures ∙ ap (λ (v : Float). fused binary32 s.args.a v s.args.c) (is s)
-
-pub phase_sum_within_spec : {M : Type 1} → statement M
-phase_sum_within_spec =
-    tie.close
-    (tie.spec float_to_bits_b add_q add_q_2 sub_sum_once float_from_bits_sum_once sum_once_requires returns)
+pub returns : goal.returns
+returns c = let s = (goal.at.returns c).Start in c.sum_once.ensures ∙ ap (λ (v : Float). fused binary32 c.args.a v c.args.c) (is s)
