@@ -13,7 +13,7 @@ use Rattle.lines.specs.declared.Lines.{Lines}
 use Rattle.lines.specs.declared.Next.{Next}
 use Rattle.lines.specs.declared.Next.TheVariants as Next
 use Rattle.lines.specs.declared.Taken.{Taken}
-use Rattle.bytes.specs.Bytes.{slice}
+use Rattle.scan.specs.Bytes.{slice}
 use Rattle.text.proofs.Splitting.{index_le}
 use Rattle.text.proofs.Writing.{length-put}
 use Rattle.lines.specs.Lines.{Within, LineIn, line_end, next_of, last_of, is_long, left_of, moved_of}
