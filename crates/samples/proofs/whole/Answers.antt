@@ -3,8 +3,7 @@ use Rattle.std.proofs.Common.{◌≡◌, ℕ, ◌-◌, ◌*◌, ◌/◌, ◌%◌
 use lib.Ieee.{of_bits}
 use Rattle.rounding_laws.proofs.Cut.{no_nan_eq}
 use Rattle.phases.proofs.Quick.{bits, lifts, whole_lifted}
-use Rattle.samples.proofs.whole.Statement.{statement}
-use Rattle.samples.proofs.whole.Tie as tie
+use Rattle.samples.proofs.whole.Goals as goal
 
 -- what the tests say of the pattern
 tests : (b : ℕ) → 2115 * 2 ^ 51 ≤ b → b < 1058 * 2 ^ 52 → (b % 2 ^ 18 ≡ 0 → ⊥)
@@ -14,25 +13,15 @@ tests b l h n = (omega arith, (λ z. n (omega arith)), omega arith, omega arith)
 same : (b : ℕ) → 2115 * 2 ^ 51 ≤ b → (b - 2115 * 2 ^ 51) / 2 ^ 18 ≡ (b - 1057 * 2 ^ 52) / 2 ^ 18 - 2 ^ 33
 same b l = omega arith
 
-float_to_bits_b : tie.Need-float-to-bits-b
-float_to_bits_b c = no_nan_eq _ c.if1.true
+pub float_to_bits-b : goal.float_to_bits-b
+float_to_bits-b c = no_nan_eq _ c.if-v.true
 
-returns : tie.Need-returns
+pub returns-then-b-ne0 : goal.returns-then-b-ne0
 unfolding of_bits
-returns c =
-    let t = c.before.before.before in
-    let x = t.before.args.x in
-    let l = c.before.before.if2.true in
-    let h = c.before.if3.true in
-    let s = tests (bits x) l h c.if4.true in
+returns-then-b-ne0 c =
+    let x = c.args.x in
+    let l = c.if-b-ge4762556605944299520.true in
+    let h = c.if-b-lt4764808405757984768.true in
+    let s = tests (bits x) l h c.if-b-ne0.true in
     same (bits x) l
-    ∙ whole_lifted x ((bits x - 1057 * 2 ^ 52) / 2 ^ 18) (lifts x (record { some = no_nan_eq _ t.if1.true; lo = s.0; hi = h; apart = s.1 })) s.2 s.3
-
-whole_of_requires : tie.Need-whole-of-requires
-whole_of_requires c κs = search rules
-
-returns_2 : tie.Need-returns-2
-returns_2 c = search rules
-
-pub whole_spec : {M : Type 1} → statement M
-whole_spec = tie.close (tie.spec float_to_bits_b returns whole_of_requires returns_2)
+    ∙ whole_lifted x ((bits x - 1057 * 2 ^ 52) / 2 ^ 18) (lifts x (record { some = no_nan_eq _ c.if-v.true; lo = s.0; hi = h; apart = s.1 })) s.2 s.3
