@@ -2,7 +2,7 @@
 use Rattle.std.proofs.Common.{not, T, sym, ap, ◌∙◌, subst, rules}
 use lib.Ieee.{Float, binary32, fits, is_nan}
 use Rattle.rules.specs.Numbers.{fused}
-use Rattle.runs.specs.Passes.{each, every}
+use Rattle.runs.specs.Passes.{each, Every}
 use Rattle.runs.proofs.Factors.{factor, all_fit}
 use Rattle.runs.proofs.Passing.{each-each}
 use Rattle.runs.proofs.target_over.Statement.{statement}
@@ -18,7 +18,7 @@ faded_any_requires : tie.Need-faded-any-requires
 faded_any_requires c κs =
     let f = c.before.before.before.before in
     let s = start f in
-    ((s.pre.0.0 ∙ sym f.factors-of.auto.0, subst (every (λ v. T (fits binary32 v) × T (not (is_nan v)))) (sym f.factors-of.ensures) (all_fit s.args.xs.now)), s.pre.1)
+    ((s.pre.0.0 ∙ sym f.factors-of.auto.0, subst (Every (λ v. T (fits binary32 v) × T (not (is_nan v)))) (sym f.factors-of.ensures) (all_fit s.args.xs.now)), s.pre.1)
 
 same_length : tie.Need-same-length
 same_length c = search rules
