@@ -5,7 +5,7 @@ use lib.Seq.{take-length}
 use lib.Ieee.{Float, Format, binary64}
 use borrow.Author.Rules.{part_to_end}
 use borrow.Author.Tests.{lt-leb}
-use Rattle.bytes.specs.Bytes.{index_of, index_after, slice}
+use Rattle.scan.specs.Bytes.{index_of, index_after, slice}
 use Rattle.text.specs.Digits.{are_digits, value_from, number_from, number_in}
 use Rattle.text.specs.Floats.{float_in}
 use Rattle.text.specs.Words.{up_to, count_in}

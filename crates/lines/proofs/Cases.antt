@@ -1,8 +1,8 @@
 -- The cases of the definitions, by the tests that lead to them. Assumes nothing.
-use mathlib.Core.Path.{◌≡◌, refl, sym, ap, ◌∙◌}
+use mathlib.Core.Path.{◌≡◌, refl}
 use mathlib.Core.Bool.{Bool, true, false, cond}
 use mathlib.Core.List.{List}
-use Prim.Native.Nat.{ℕ, ◌+◌, ◌-◌, ◌≤◌, ◌<◌}
+use Prim.Native.Nat.{ℕ, ◌+◌, ◌-◌, ◌≤◌}
 use native.Mathlib.Omega.{arith}
 use lib.Arith.{lt_of_le-ne}
 use lib.Dec.{eqb}
@@ -11,9 +11,8 @@ use borrow.Author.Tests.{eq-eqb, ne_eqb, eqb-false}
 use Rattle.text.specs.Put.{put}
 use Rattle.lines.specs.declared.Lines.{Lines}
 use Rattle.lines.specs.declared.Next.{Next}
-use Rattle.lines.specs.declared.Next.TheVariants as Next
 use Rattle.lines.specs.declared.Taken.{Taken}
-use Rattle.bytes.specs.Bytes.{slice}
+use Rattle.scan.specs.Bytes.{slice}
 use Rattle.text.proofs.Splitting.{index_le}
 use Rattle.text.proofs.Writing.{length-put}
 use Rattle.lines.specs.Lines.{Within, LineIn, line_end, next_of, last_of, is_long, left_of, moved_of}

@@ -7,7 +7,6 @@ use lib.Arith.{lt_of_le-ne}
 use lib.ListN.{length}
 use Rattle.lines.specs.declared.Lines.{Lines}
 use Rattle.lines.specs.declared.Next.{Next}
-use Rattle.lines.specs.declared.Next.TheVariants as Next
 use Rattle.lines.specs.declared.Taken.{Taken}
 use Rattle.lines.specs.Lines.{Within, LineIn, next_of, left_of, moved_of}
 use Rattle.lines.proofs.Cases.{next_in, left_in}

@@ -4,7 +4,6 @@ use Rattle.scan.specs.Bytes.{index_of, slice}
 use Rattle.text.specs.Put.{put}
 use Rattle.lines.specs.declared.Lines.{Lines}
 use Rattle.lines.specs.declared.Next.{Next}
-use Rattle.lines.specs.declared.Next.TheVariants as Next
 use Rattle.lines.specs.declared.Taken.{Taken}
 
 -- the bytes that are not yet taken lie in the buffer

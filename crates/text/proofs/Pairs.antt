@@ -3,7 +3,7 @@ use mathlib.Core.Path.{◌≡◌, refl, sym, ap, ◌∙◌, subst}
 use mathlib.Core.Bool.{Bool, true, false, cond}
 use mathlib.Core.List.{List, [], ◌∷◌, ◌++◌, append-nil}
 use mathlib.Core.Option.{Option, none, some}
-use Prim.Native.Nat.{ℕ, zero, suc, ◌+◌, ◌-◌, ◌*◌, ◌/◌, ◌^◌, ◌≤◌, ◌<◌}
+use Prim.Native.Nat.{ℕ, suc, ◌+◌, ◌-◌, ◌*◌, ◌/◌, ◌≤◌, ◌<◌}
 use native.Mathlib.Nat.{add-sub_cancel_left}
 use native.Mathlib.Numerals.{add-one}
 use native.Mathlib.Omega.{arith}
@@ -16,9 +16,7 @@ use Rattle.text.specs.Words.{Word, same_word, beside, taken}
 use Rattle.text.specs.Put.{Put}
 use Rattle.text.specs.Hex.{before, pairs_in, bytes_in, Sized, sized, bytes_up_to, bytes_text, sized_at}
 use Rattle.text.specs.declared.read.Number.{Number}
-use Rattle.text.specs.declared.read.Number.TheVariants as Number
 use Rattle.text.proofs.Writing.{put-nothing, put_same, put_then, length_digits}
-use Rattle.text.proofs.Back.{bits_back}
 
 -- ---- read
 

@@ -1,6 +1,6 @@
 -- Bit patterns and NaN, for every format: a NaN is read from any NaN pattern, and written as the one that `to_bits` gives. Assumes nothing.
 use mathlib.Core.Path.{◌≡◌, refl, sym, ap, ◌∙◌, subst}
-use mathlib.Core.Bool.{Bool, true, false, not}
+use mathlib.Core.Bool.{true, false, not}
 use Prim.Native.Nat.{ℕ, ◌*◌, ◌%◌, ◌≤◌, ◌<◌}
 use lib.Dec.{T}
 use borrow.Author.Tests.{lt-ltb, le-ltb}

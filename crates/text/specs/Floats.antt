@@ -5,9 +5,7 @@ use Rattle.std.specs.Float.{Format, binary32, binary64}
 use Rattle.std.specs.Float.Ieee.{of_bits, to_bits}
 use Rattle.text.specs.Digits.{bits_in, digits_of}
 use Rattle.text.specs.declared.read.Single.{Single}
-use Rattle.text.specs.declared.read.Single.TheVariants as Single
 use Rattle.text.specs.declared.read.Double.{Double}
-use Rattle.text.specs.declared.read.Double.TheVariants as Double
 
 abbrev pub digits_for : Format → ℕ
 digits_for binary32 = 8

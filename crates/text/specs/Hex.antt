@@ -4,9 +4,7 @@ use Rattle.std.proofs.Math.Option.{Option, none, some}
 use Rattle.text.specs.Digits.{bits_in, digits_of}
 use Rattle.text.specs.Words.{Word, same_word, words_from}
 use Rattle.text.specs.declared.read.Number.{Number}
-use Rattle.text.specs.declared.read.Number.TheVariants as Number
 use Rattle.text.specs.declared.words.NextCount.{NextCount}
-use Rattle.text.specs.declared.words.NextCount.TheVariants as NextCount
 
 -- ---- read
 

@@ -1,15 +1,11 @@
 -- A line as its words, "separated by one space", and a word taken off them as a number.
 use Rattle.std.specs.Prelude.{Bool, true, false, cond, ◌&&◌, List, [], ◌∷◌, ℕ, ◌+◌, leb, eqb, length, drop, Float}
 use Rattle.std.proofs.Math.Option.{Option, none, some}
-use Rattle.std.specs.Float.{Format}
 use Rattle.scan.specs.Bytes.{index_of}
 use Rattle.text.specs.Digits.{number_in}
 use Rattle.text.specs.declared.words.NextCount.{NextCount}
-use Rattle.text.specs.declared.words.NextCount.TheVariants as NextCount
 use Rattle.text.specs.declared.words.NextSingle.{NextSingle}
-use Rattle.text.specs.declared.words.NextSingle.TheVariants as NextSingle
 use Rattle.text.specs.declared.words.NextDouble.{NextDouble}
-use Rattle.text.specs.declared.words.NextDouble.TheVariants as NextDouble
 
 abbrev pub Word : Type 0
 Word = List ℕ

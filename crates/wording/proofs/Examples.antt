@@ -4,7 +4,7 @@ use mathlib.Core.Option.{none, some}
 use Prim.Native.String.{String}
 use lib.Ieee.{round, of_bits, to_bits}
 use Rattle.rules.specs.Numbers.{narrowed}
-use Rattle.bytes.specs.Bytes.{index_of}
+use Rattle.scan.specs.Bytes.{index_of}
 use Rattle.text.specs.Digits.{digit_of, are_digits, value_from, number_from, number_in, bits_in, glyph_of, digits_of, places_of, decimal_of}
 use Rattle.text.specs.Floats.{float_of, float_in, float_text}
 use Rattle.text.specs.Words.{same_word, joined, up_to, count_in, is_over}

@@ -11,7 +11,7 @@ use lib.Dec.{leb}
 use lib.ListN.{length, take, drop, length-drop}
 use lib.Seq.{length-take-le, take-length}
 use lib.Ieee.{Float, Format, binary32, binary64}
-use Rattle.bytes.specs.Bytes.{index_of, slice}
+use Rattle.scan.specs.Bytes.{index_of, slice}
 use Rattle.text.specs.Digits.{number_in}
 use Rattle.text.specs.Floats.{digits_for, float_text}
 use Rattle.text.specs.Put.{put, Put}

@@ -228,7 +228,7 @@ module _ (bs : List ℕ) where
       rw (single_bytes_back bs at h (omega arith) (subst T (sym (finite_number (single_at bs at) parts.0)) tt), singles_bytes_back (at + 4) n h (omega arith) parts.1, more, take-add 4 (4 * n) (drop at bs), drop-drop 4 at bs)
 
 pub singles_back : (xs : List Float) (rest : List ℕ) → AreSingles xs → singles_at (numbers_bytes xs ++ rest) 0 (length xs) ≡ xs
-unfolding singles_at numbers_bytes AreSingles
+unfolding singles_at numbers_bytes AreSingles single_bytes bytes_of
 singles_back [] rest h = refl
 singles_back (x ∷ xs) rest h =
     let four : 4 ≡ length (single_bytes x) + 0 = unfold single_bytes in omega (arith, length_bytes 4 (to_bits binary32 x)) in

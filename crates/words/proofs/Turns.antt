@@ -35,15 +35,15 @@ word_turn k bs at i some h room =
 abbrev pub four_bytes : List ℕ → ℕ → ℕ
 four_bytes bs at = get_or bs at 0 + 0x100 * get_or bs (at + 1) 0 + 0x1_0000 * get_or bs (at + 2) 0 + 0x100_0000 * get_or bs (at + 3) 0
 
-pub four_bytes : (bs : List ℕ) (at : ℕ) → at + 4 ≤ length bs → word_at 4 bs at ≡ four_bytes bs at
-four_bytes bs at h =
+pub four_bytes_lem : (bs : List ℕ) (at : ℕ) → at + 4 ≤ length bs → word_at 4 bs at ≡ four_bytes bs at
+four_bytes_lem bs at h =
     let two : at + 2 ≡ at + 1 + 1 = omega arith in
     let three : at + 3 ≡ at + 1 + 1 + 1 = omega arith in
     rw (two, three)
     (omega (arith, word_next 3 bs at (omega arith), word_next 2 bs (at + 1) (omega arith), word_next 1 bs (at + 1 + 1) (omega arith), word_next 0 bs (at + 1 + 1 + 1) (omega arith), no_word bs (at + 1 + 1 + 1 + 1)))
 
 pub four_small : (bs : List ℕ) (at : ℕ) → AreBytes bs → at + 4 ≤ length bs → four_bytes bs at < 2 ^ 32
-four_small bs at h room = rw (four_bytes bs at room) at (word_at_small 4 bs at h)
+four_small bs at h room = rw (four_bytes_lem bs at room) at (word_at_small 4 bs at h)
 
 word_append : (bs cs : List ℕ) → word_in (bs ++ cs) ≡ word_in bs + 256 ^ length bs * word_in cs
 unfolding word_in

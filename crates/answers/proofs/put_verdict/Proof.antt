@@ -58,7 +58,7 @@ same_length_2 c = search rules
 returns_2 : tie.Need-returns-2
 unfolding verdict_text
 returns_2 c = (
-  put_same (ap (λ (n : ℕ). (114 ∷ 101 ∷ 102 ∷ 117 ∷ 115 ∷ 101 ∷ 100 ∷ []) ++ (32 ∷ decimal_of n)) c.before.before.before.number_of_lem.ensures ∙ ap verdict_text (sym c.before.before.before.before.before.before.before.before.before.before.before.verdict.given.1))
+  put_same (ap (λ (n : ℕ). (114 ∷ 101 ∷ 102 ∷ 117 ∷ 115 ∷ 101 ∷ 100 ∷ []) ++ (32 ∷ decimal_of n)) c.before.before.before.number_of.ensures ∙ ap verdict_text (sym c.before.before.before.before.before.before.before.before.before.before.before.verdict.given.1))
       (put_then c.before.before.before.before.before.before.before.put-word2.ensures c.before.before.put-count-behind.ensures.0 (omega arith)),
   omega arith,
 )

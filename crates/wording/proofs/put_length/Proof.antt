@@ -38,21 +38,21 @@ same_length c = search rules
 
 returns : tie.Need-returns
 unfolding length_for capped_at
-returns c = put_same (ap spaced (sym (ap (capped_at _) (is_number _ (sym c.before.before.before.before.before.before.before.before.count_in_lem.ensures ∙ c.before.before.before.before.before.before.n.given.1)) ∙ rw (le-leb _ 4096 c.before.before.before.before.if1.true)))) c.before.before.put-spaced.ensures
+returns c = put_same (ap spaced (sym (ap (capped_at _) (is_number _ (sym c.before.before.before.before.before.before.before.before.count_in.ensures ∙ c.before.before.before.before.before.before.n.given.1)) ∙ rw (le-leb _ 4096 c.before.before.before.before.if1.true)))) c.before.before.put-spaced.ensures
 
 same_length_2 : tie.Need-same-length-2
 same_length_2 c = search rules
 
 returns_2 : tie.Need-returns-2
 unfolding length_for capped_at
-returns_2 c = put_same (ap spaced (sym (ap (capped_at _) (is_number _ (sym c.before.before.before.before.before.before.before.before.before.count_in_lem.ensures ∙ c.before.before.before.before.before.before.before.n.given.1)) ∙ rw (lt-leb _ 4096 c.before.before.before.before.before.if1.false)))) c.before.before.put-spaced2.ensures
+returns_2 c = put_same (ap spaced (sym (ap (capped_at _) (is_number _ (sym c.before.before.before.before.before.before.before.before.before.count_in.ensures ∙ c.before.before.before.before.before.before.before.n.given.1)) ∙ rw (lt-leb _ 4096 c.before.before.before.before.before.if1.false)))) c.before.before.put-spaced2.ensures
 
 same_length_3 : tie.Need-same-length-3
 same_length_3 c = search rules
 
 returns_3 : tie.Need-returns-3
 unfolding length_for capped_at
-returns_3 c = put_same (ap spaced (sym (ap (capped_at _) (no_number _ (sym c.before.before.before.before.before.before.count_in_lem.ensures ∙ c.before.before.before.before.enum_told.given.1))))) c.before.before.put-spaced3.ensures
+returns_3 c = put_same (ap spaced (sym (ap (capped_at _) (no_number _ (sym c.before.before.before.before.before.before.count_in.ensures ∙ c.before.before.before.before.enum_told.given.1))))) c.before.before.put-spaced3.ensures
 
 pub put_length_spec : {M : Type 1} → statement M
 put_length_spec =

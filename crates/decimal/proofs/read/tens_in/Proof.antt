@@ -45,11 +45,11 @@ returns_2 : tie.Need-returns-2
 unfolding tens_of
 returns_2 c =
     sym (tens_by _ _ c.before.before.before.before.before.before.if1.false (part_to_end c.before.before.before.before.before.before.before.before.args.word.now 1) _ _ c.before.before.before.before.sign_of.ensures none
-    (no_number _ (sym c.before.before.count_in_lem.ensures ∙ c.enum_told.given.1)))
+    (no_number _ (sym c.before.before.count_in.ensures ∙ c.enum_told.given.1)))
 
 -- a number was read
 read : (c : tie.After-known-told) → tens_in c.before.before.before.before.before.before.before.before.before.args.word.now ≡ tens_of c.before.before.before.before.before.sign_of.result.minus (some c.before.n.given.0.0)
-read c = tens_by _ _ c.before.before.before.before.before.before.before.if1.false (part_to_end c.before.before.before.before.before.before.before.before.before.args.word.now 1) _ _ c.before.before.before.before.before.sign_of.ensures (some _) (is_number _ (sym c.before.before.before.count_in_lem.ensures ∙ c.before.n.given.1))
+read c = tens_by _ _ c.before.before.before.before.before.before.before.if1.false (part_to_end c.before.before.before.before.before.before.before.before.before.args.word.now 1) _ _ c.before.before.before.before.before.sign_of.ensures (some _) (is_number _ (sym c.before.before.before.count_in.ensures ∙ c.before.n.given.1))
 
 returns_3 : tie.Need-returns-3
 unfolding tens_of
