@@ -4,11 +4,9 @@ use Rattle.block.proofs.Mixes.{first_at, silent_first}
 use native.Mathlib.Omega.{arith}
 use Rattle.block.proofs.first_of.Goals as goal
 
--- src/lib.rt:108:9
 pub returns-then-input-eq0 : goal.returns-then-input-eq0
 unfolding of_bits
 returns-then-input-eq0 c = silent_first _ (omega arith)
 
--- src/lib.rt:104:1
 pub returns : goal.returns
 returns c = first_at _ (omega arith)

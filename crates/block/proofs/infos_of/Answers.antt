@@ -2,7 +2,6 @@
 use Rattle.rules.specs.Block.{infos_of}
 use Rattle.block.proofs.infos_of.Goals as goal
 
--- src/lib.rt:68:1
 pub returns : goal.returns
 unfolding infos_of
 returns c is os = rw (c.fused64.ensures, c.taken_time-time.ensures)
