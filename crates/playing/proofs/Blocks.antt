@@ -8,7 +8,6 @@ use lib.ListN.{length, length-append}
 use borrow.Author.Tests.{leb-true, leb-false}
 use Rattle.rules.specs.declared.Refusal.{Refusal}
 use Rattle.rules.specs.declared.Verdict.{Verdict}
-use Rattle.rules.specs.declared.Verdict.TheVariants as Verdict
 use Rattle.rules.specs.Queue.{Waiting, head_of}
 use Rattle.rules.specs.Refusals.{block_rows}
 use Rattle.rules.specs.Walk.{Walked}
@@ -16,7 +15,7 @@ use Rattle.rules.specs.Block.{Param, Call, Answer, answered, answered_as, answer
 use Rattle.playing.specs.Play.{State, waiting, answer_to, after, after_all, played, apart}
 use Rattle.playing.specs.Demand.{enough, two_wait, while_two_wait}
 use Rattle.playing.proofs.Walks.{Alike, rendered_alike}
-use Rattle.playing.proofs.States.{bare, SoundState, queue_length, walk_over, answered_is, answered_waits, refused_leaves, after_sound, by_verdict}
+use Rattle.playing.proofs.States.{bare, SoundState, queue_length, walk_over, said_over, answered_is, answered_waits, refused_leaves, after_sound, by_verdict}
 
 -- the same parameter, and behind the shared events a waits in s and b in t
 pub record Beside (a b shared : List Waiting) (s t : State) : Type 0 where
@@ -64,14 +63,16 @@ module _ (a b shared : List Waiting) (s t : State) (h : Beside a b shared s t) (
       let p : Param = bare s in
       let l : Walked = walk_over p (shared ++ a) c in
       let r : Walked = walk_over p (shared ++ b) c in
-      let left : waiting (after s c) ≡ l.queue = rw h.first at (answered_waits s c e h.sound_first) in
-      let right : waiting (after t c) ≡ r.queue = rw (← h.same, h.second) at (answered_waits t c d h.sound_second) in
+      let left : waiting (after s c) ≡ l.queue = answered_waits s c e h.sound_first ∙ ap (λ (ws : List Waiting). (walk_over p ws c).queue) h.first in
+      let right : waiting (after t c) ≡ r.queue =
+      answered_waits t c d h.sound_second ∙ ap₂ (λ (q : Param) (ws : List Waiting). (walk_over q ws c).queue) (sym h.same) h.second in
       let n : length (after s c).param.queue ≡ length l.queue = queue_length (after s c) ∙ ap length left in
       let both = rendered_alike a b (infos_of p.rate c) p.intrinsic p.last shared (omega arith) in
       let k : Alike a b l r = both.0 in
-      let x = answered_is s c e in
-      let y = answered_is t c d in
-      let said : apart (answer_to s c) ≡ apart (answer_to t c) = rw (x, y, ← h.same, h.first, h.second) (heard-same p c _ _ l r both.1 k.same) in
+      let x : answer_to s c ≡ said_over p (shared ++ a) c = answered_is s c e ∙ ap (λ (ws : List Waiting). said_over p ws c) h.first in
+      let y : answer_to t c ≡ said_over p (shared ++ b) c =
+      answered_is t c d ∙ ap₂ (λ (q : Param) (ws : List Waiting). said_over q ws c) (sym h.same) h.second in
+      let said : apart (answer_to s c) ≡ apart (answer_to t c) = rw (x, y) (heard-same p c _ _ l r both.1 k.same) in
       record {
         shared = k.shared;
         left =

@@ -9,7 +9,6 @@ use lib.IntN.{pos, negsuc}
 use lib.Ieee.{Float, fin, nan}
 use Rattle.rules.specs.declared.MaybeTime.TheVariants as MaybeTime
 use Rattle.rules.specs.declared.Event.{Event}
-use Rattle.rules.specs.declared.Event.TheVariants as Event
 use Rattle.rules.specs.declared.Refusal.TheVariants as Refusal
 use Rattle.rules.specs.declared.Verdict.TheVariants as Verdict
 use Rattle.rules.specs.Queue.{alone}

@@ -8,10 +8,8 @@ use lib.Ieee.{Float}
 use borrow.Author.Tests.{not-true}
 use Rattle.rules.specs.declared.MaybeTime.{MaybeTime}
 use Rattle.rules.specs.declared.Event.{Event}
-use Rattle.rules.specs.declared.Event.TheVariants as Event
 use Rattle.rules.specs.declared.LastEvent.{LastEvent}
 use Rattle.rules.specs.declared.Verdict.{Verdict}
-use Rattle.rules.specs.declared.Verdict.TheVariants as Verdict
 use Rattle.rules.specs.Numbers.{plus_zero, is_negative, is_zero, taken_time}
 use Rattle.rules.specs.Queue.{Waiting, head_of, events_of, those, filed_under, curve_end, lasts_to, goes_at, is_before, cancelled, is_ramp, has_started, loses_head, returned, value_after_cancel}
 use Rattle.rules.specs.Refusals.{lowest, cancel_rows}

@@ -8,14 +8,13 @@ use lib.ListN.{length, take, drop, take-append-drop}
 use lib.Ieee.{Float}
 use Rattle.rules.specs.declared.Refusal.{Refusal}
 use Rattle.rules.specs.declared.Verdict.{Verdict}
-use Rattle.rules.specs.declared.Verdict.TheVariants as Verdict
 use Rattle.rules.specs.Numbers.{store_length}
 use Rattle.rules.specs.Queue.{Waiting, events_of, numbers_of, lengths_of, attached}
 use Rattle.rules.specs.Block.{Param, Call, Answer, with_queue, answered, answered_as, verdict_of}
 use Rattle.laws.proofs.Store.{numbers-length, numbers-attached, attached-numbers, read_back, packed_back, packed-length}
 use Rattle.playing.specs.Play.{State, waiting, loaded, tidied, left_by, answer_to, after, after_all, played, store_told, told, is_answered, any_answered}
 use Rattle.playing.specs.Demand.{Holds, with_store}
-use Rattle.playing.proofs.States.{SoundState, waiting_fit, queue_is, answered_is, answered_tidy, refused_leaves, after_sound, by_verdict}
+use Rattle.playing.proofs.States.{SoundState, waiting_fit, queue_is, said_over, answered_is, answered_tidy, refused_leaves, after_sound, by_verdict}
 use Rattle.playing.proofs.Blocks.{Beside, same_verdict}
 
 -- the same events wait in both
@@ -38,7 +37,10 @@ module _ (ws : List Waiting) (s t : State) (h : Twins ws s t) (c : Call) where
   answered_twin : verdict_of s.param s.store c ≡ Verdict.Answered → Twin s t c
   unfolding after
   answered_twin e =
-      let d : answer_to t c ≡ answer_to s c = rw (answered_is s c e, answered_is t c (same_verdict h c ∙ e), h.same, h.first, h.second) in
+      let d : answer_to t c ≡ answer_to s c =
+      answered_is t c (same_verdict h c ∙ e)
+      ∙ ap₂ (λ (q : Param) (ws : List Waiting). said_over q ws c) (sym h.same) (h.second ∙ sym h.first)
+      ∙ sym (answered_is s c e) in
       let same_left : after t c ≡ after s c = ap left_by d in
       let k : SoundState (after s c) = after_sound s c h.sound_first in
       record {

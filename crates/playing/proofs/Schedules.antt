@@ -9,16 +9,13 @@ use lib.ListN.{length}
 use lib.Ieee.{Float}
 use Rattle.rules.specs.declared.Event.{Event}
 use Rattle.rules.specs.declared.LastEvent.{LastEvent}
-use Rattle.rules.specs.declared.LastEvent.TheVariants as LastEvent
 use Rattle.rules.specs.declared.Refusal.{Refusal}
 use Rattle.rules.specs.declared.Bounds.{Bounds}
 use Rattle.rules.specs.declared.AutomationRate.{AutomationRate}
 use Rattle.rules.specs.declared.Verdict.{Verdict}
-use Rattle.rules.specs.declared.Verdict.TheVariants as Verdict
 use Rattle.rules.specs.Numbers.{store_length, taken_time}
 use Rattle.rules.specs.Queue.{Waiting, length_of, head_of, lengths_of, loses_head, returned, value_after_cancel, loses_curve, value_after_hold}
-use Rattle.rules.specs.Refusals.{making_rows, lowest}
-use Rattle.rules.specs.Block.{Param, Called, Command, set, step, linear, exponential, target, curve, cancel, hold, with_queue, scheduled_as, called_as, called, made, made_as}
+use Rattle.rules.specs.Block.{Param, Called, Command, set, step, linear, exponential, target, curve, cancel, hold, with_queue, scheduled_as, called_as, called, made}
 use Rattle.laws.specs.Fits.{AllFit}
 use Rattle.laws.specs.Sound.{Sound}
 use Rattle.laws.specs.Apart.{are_apart}

@@ -5,11 +5,10 @@ use native.Mathlib.Omega.{arith}
 use lib.ListN.{length}
 use Rattle.rules.specs.declared.Refusal.{Refusal}
 use Rattle.rules.specs.declared.Verdict.{Verdict}
-use Rattle.rules.specs.declared.Verdict.TheVariants as Verdict
 use Rattle.rules.specs.Numbers.{store_length}
 use Rattle.rules.specs.Queue.{Waiting, events_of}
 use Rattle.rules.specs.Walk.{Walked}
-use Rattle.rules.specs.Block.{Param, Call, with_queue, answer_of, verdict_of, rendered, infos_of}
+use Rattle.rules.specs.Block.{Param, Call, Answer, with_queue, answer_of, verdict_of, rendered, infos_of}
 use Rattle.laws.specs.Fits.{AllFit}
 use Rattle.laws.specs.Sound.{Sound}
 use Rattle.laws.proofs.Events.{events_length, events_attached}
@@ -46,6 +45,10 @@ by_verdict (Verdict.Refused why) f g = g why refl
 
 abbrev pub walk_over : Param → List Waiting → Call → Walked
 walk_over p ws c = rendered (infos_of p.rate c) p.intrinsic p.last ws
+
+-- what an answered block says of such a parameter
+abbrev pub said_over : Param → List Waiting → Call → Answer
+said_over p ws c = answer_of p ws c (walk_over p ws c)
 
 module _ (s : State) (c : Call) where
   module _ (fine : verdict_of s.param s.store c ≡ Verdict.Answered) where

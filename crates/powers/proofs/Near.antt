@@ -1,9 +1,9 @@
 -- The estimate is the falling power or up to 20 more. Assumes nothing.
-use mathlib.Core.Path.{◌≡◌, refl, sym, ap, ◌∙◌, subst}
+use mathlib.Core.Path.{◌≡◌, sym, ap, ◌∙◌, subst}
 use mathlib.Core.Bool.{Bool, true, false, cond, ◌&&◌}
 use mathlib.Core.List.{List, [], ◌∷◌, ◌++◌}
 use Prim.Native.Nat.{ℕ, zero, suc, ◌+◌, ◌-◌, ◌*◌, ◌/◌, ◌%◌, ◌^◌, ◌≤◌, ◌<◌}
-use native.Mathlib.Nat.{le_refl, le_trans, le_of_eq, le_of_lt, mul_comm, mul_assoc, mul_left_comm, mul_right_comm, mul-one, one-mul, add-mul, add_comm, zero-add, mul-add, mul-le-mul, mul-le-mul_left, mul-le-mul_right, div-mul-le_self, lt-div-mul-add, le_of_mul-le-mul_right}
+use native.Mathlib.Nat.{le_refl, le_trans, le_of_eq, le_of_lt, mul_comm, mul_assoc, mul_left_comm, one-mul, add-mul, add_comm, zero-add, mul-add, mul-le-mul, mul-le-mul_left, mul-le-mul_right, div-mul-le_self, lt-div-mul-add, le_of_mul-le-mul_right}
 use native.Mathlib.Omega.{arith}
 use lib.Dec.{leb, eqb, lit<, lit≤}
 use lib.ListN.{length, take, drop, get_or, length-append, get_or-append}
@@ -13,7 +13,7 @@ use Rattle.rules.specs.Kernels.{table, falling_from, falling}
 use Rattle.kernels.proofs.Powers.{both}
 use Rattle.kernels.proofs.Roots.{table_is}
 use Rattle.powers.specs.Estimates.{product_from, taken_first, taken_off, entries, estimates_from, estimates}
-use Rattle.powers.proofs.Digits.{falling-append, falling_last, product_last, entry_at, entries-length}
+use Rattle.powers.proofs.Digits.{falling-append, product_last, entry_at, entries-length}
 
 -- ---- floored at each digit, or not at all
 

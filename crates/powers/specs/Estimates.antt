@@ -1,5 +1,5 @@
 -- The table by which a falling power is estimated: three parts of 256 numbers, for eight digits each.
-use Rattle.std.specs.Prelude.{cond, List, [], ◌∷◌, ◌++◌, ℕ, zero, suc, ◌+◌, ◌-◌, ◌*◌, ◌/◌, ◌%◌, ◌^◌, eqb, length, take, drop}
+use Rattle.std.specs.Prelude.{cond, List, [], ◌∷◌, ◌++◌, ℕ, zero, suc, ◌-◌, ◌*◌, ◌/◌, ◌%◌, ◌^◌, eqb, length, take, drop}
 use Rattle.rules.specs.Kernels.{table, falling_from}
 
 -- what the digits of a multiply by, not floored: c_j for a set one, 2 ^ 32 for another

@@ -9,7 +9,6 @@ use lib.Seq.{drop-cons}
 use lib.Ieee.{Float, nan}
 use Rattle.rules.specs.declared.Refusal.{Refusal}
 use Rattle.rules.specs.declared.Verdict.{Verdict}
-use Rattle.rules.specs.declared.Verdict.TheVariants as Verdict
 use Rattle.rules.specs.Numbers.{is_finite}
 use Rattle.rules.specs.Refusals.{Row, row, lowest, all_finite}
 use Rattle.refusals.specs.Rows.{with_row}

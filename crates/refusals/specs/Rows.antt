@@ -2,7 +2,6 @@
 use Rattle.std.specs.Prelude.{Bool, [], ◌∷◌}
 use Rattle.rules.specs.declared.Refusal.{Refusal}
 use Rattle.rules.specs.declared.Verdict.{Verdict}
-use Rattle.rules.specs.declared.Verdict.TheVariants as Verdict
 use Rattle.rules.specs.Refusals.{row, lowest}
 
 -- one more row, below those that say v: a refusal that is given stays

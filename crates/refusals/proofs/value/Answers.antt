@@ -1,0 +1,11 @@
+-- `value` meets its contract: a row for each refusal, in the order of their ranks. Assumes nothing.
+use Rattle.rules.specs.Refusals.{value_rows}
+use Rattle.refusals.proofs.Rows.{said, said_lowest, one_finite, more_finite}
+use Rattle.refusals.proofs.value.Goals as goal
+
+pub returns : goal.returns
+unfolding said value_rows
+returns c q inside full =
+    let finite = more_finite _ _ c.is_finite32.ensures (one_finite _ c.is_finite64.ensures) in
+    rw (c.row.ensures, c.row-v-3.ensures, c.row-v-2.ensures, c.row-v.ensures, finite, c.is_negative64.ensures, inside, full)
+    (said_lowest (value_rows q c.args.value c.args.time))
