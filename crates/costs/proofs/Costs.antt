@@ -11,12 +11,10 @@ use Rattle.rules.specs.declared.Bounds.{Bounds}
 use Rattle.rules.specs.declared.AutomationRate.{AutomationRate}
 use Rattle.rules.specs.declared.Event.{Event}
 use Rattle.rules.specs.declared.Verdict.{Verdict}
-use Rattle.rules.specs.declared.Verdict.TheVariants as Verdict
 use Rattle.rules.specs.Numbers.{taken_time}
 use Rattle.rules.specs.Queue.{Waiting, filed_under, place_behind, events_of, attached, inserted, arrived, cancelled, goes_at}
-use Rattle.rules.specs.Refusals.{lowest, making_rows}
 use Rattle.rules.specs.Walk.{Walked}
-use Rattle.rules.specs.Block.{Param, made, made_as, Command, set, step, linear, exponential, target, curve, cancel, hold, Called, called, called_as, scheduled_as, Call, Answer, infos_of, rendered, answer_of, verdict_of, answered}
+use Rattle.rules.specs.Block.{Param, made, Command, set, step, linear, exponential, target, curve, cancel, hold, Called, called, called_as, scheduled_as, Call, Answer, infos_of, rendered, answer_of, verdict_of, answered}
 use Rattle.laws.specs.Sound.{Sound}
 use Rattle.laws.proofs.Events.{events_length, events_attached, events_inserted, events_cancelled, put-length}
 use Rattle.laws.proofs.Store.{attached-length}

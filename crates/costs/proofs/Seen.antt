@@ -5,7 +5,6 @@ use Prim.Native.Nat.{suc, ◌+◌, ◌-◌}
 use native.Mathlib.Omega.{arith}
 use lib.Ieee.{Float}
 use Rattle.rules.specs.declared.Verdict.{Verdict}
-use Rattle.rules.specs.declared.Verdict.TheVariants as Verdict
 use Rattle.rules.specs.Block.{Param, Command, Called, called, Call, Answer, verdict_of, answer_of, answered}
 use Rattle.laws.specs.Sound.{Sound}
 use Rattle.laws.proofs.Answers.{refused_block, answer_is}

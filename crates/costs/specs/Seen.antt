@@ -1,7 +1,6 @@
 -- A call's cost as it is seen from outside: from its verdict, the steps that it reports and how many events wait before and after it. No code reports the walk's counts.
 use Rattle.std.specs.Prelude.{ℕ, suc, ◌-◌}
 use Rattle.rules.specs.declared.Verdict.{Verdict}
-use Rattle.rules.specs.declared.Verdict.TheVariants as Verdict
 use Rattle.costs.specs.declared.Totals.{Totals}
 use Rattle.costs.specs.Costs.{nothing}
 

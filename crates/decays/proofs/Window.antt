@@ -1,6 +1,6 @@
 -- r over 2 ^ (32 + w), rounded to an f32, by an estimate e of r: where no midpoint of two f32 is near. Assumes nothing.
 use mathlib.Core.Path.{◌≡◌, refl, sym, ap, ◌∙◌, subst}
-use mathlib.Core.Logic.{◌⊎◌, inr, ⊎_elim}
+use mathlib.Core.Logic.{inr, ⊎_elim}
 use mathlib.Core.Bool.{Bool, false, not}
 use Prim.Native.Nat.{ℕ, zero, suc, ◌+◌, ◌-◌, ◌*◌, ◌/◌, ◌%◌, ◌^◌, ◌≤◌, ◌<◌}
 use native.Mathlib.Nat.{add_assoc, mul_assoc, mul-one, zero-add, mul-div_cancel, mul-mod_left, mod-eq_of_lt}

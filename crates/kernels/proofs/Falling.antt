@@ -1,11 +1,11 @@
 -- Falling power, as document 01 states it: r^N × 2^a ≤ 2^(32N) < (r+96)^N × 2^a, N = 2^24. By induction on the table: no such power is computed. Assumes nothing.
-use mathlib.Core.Path.{◌≡◌, refl, sym, ap, ap₂, ◌∙◌}
+use mathlib.Core.Path.{◌≡◌, refl, sym, ap, ◌∙◌}
 use mathlib.Core.Logic.{◌≢◌}
 use mathlib.Core.Bool.{Bool, true, false, cond, ◌&&◌}
 use mathlib.Core.List.{List, [], ◌∷◌}
-use Prim.Native.Nat.{ℕ, zero, suc, ◌+◌, ◌-◌, ◌*◌, ◌/◌, ◌%◌, ◌^◌, ◌≤◌, ◌<◌}
+use Prim.Native.Nat.{ℕ, suc, ◌+◌, ◌*◌, ◌/◌, ◌%◌, ◌^◌, ◌≤◌, ◌<◌}
 use native.Mathlib.Omega.{arith}
-use native.Mathlib.Nat.{pow-suc, pow-zero, mul_assoc, mul_comm, mul_left_comm, mul_right_comm, mul-add, add-mul, mul-le-mul, mul-le-mul_left, mul-le-mul_right, le_of_mul-le-mul_right, mul-lt-mul_of_pos_right, lt_of_mul-lt-mul_right, pow-le-pow_left, pow-lt-pow_left, one-le-pow, two-pow-succ, div-mul-le_self, lt-div-mul-add, le_trans, le_of_eq, mod-lt, mod-eq_of_lt, zero-div}
+use native.Mathlib.Nat.{mul_assoc, mul_comm, mul_left_comm, mul_right_comm, mul-add, add-mul, mul-le-mul_left, mul-le-mul_right, le_of_mul-le-mul_right, mul-lt-mul_of_pos_right, lt_of_mul-lt-mul_right, pow-le-pow_left, pow-lt-pow_left, one-le-pow, two-pow-succ, div-mul-le_self, lt-div-mul-add, le_trans, le_of_eq, mod-eq_of_lt, zero-div}
 use lib.Pow.{pow_pos, pow-add, pow_mono, mod-pow-add}
 use lib.Dec.{leb, eqb}
 use lib.ListN.{length}

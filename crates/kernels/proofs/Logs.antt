@@ -1,9 +1,9 @@
 -- Log, as document 01 states it: 2^(a+31N) ≤ m^N < 2^(a+2+31N), N = 2^24. By induction on the digits: no such power is computed. Assumes nothing.
-use mathlib.Core.Path.{◌≡◌, refl, sym, ap, ap₂, ◌∙◌}
+use mathlib.Core.Path.{◌≡◌, refl, sym, ap, ◌∙◌}
 use mathlib.Core.Bool.{Bool, true, false, cond}
-use Prim.Native.Nat.{ℕ, zero, suc, ◌+◌, ◌-◌, ◌*◌, ◌/◌, ◌%◌, ◌^◌, ◌≤◌, ◌<◌}
+use Prim.Native.Nat.{ℕ, zero, suc, ◌+◌, ◌-◌, ◌*◌, ◌/◌, ◌^◌, ◌≤◌, ◌<◌}
 use native.Mathlib.Omega.{arith}
-use native.Mathlib.Nat.{mul-suc, pow-suc, pow-zero, mul_assoc, mul_comm, mul_left_comm, mul_right_comm, mul-add, add-mul, mul-le-mul, mul-le-mul_left, mul-le-mul_right, le_of_mul-le-mul_right, mul-lt-mul_of_pos_right, lt_of_mul-lt-mul_right, pow-le-pow_left, pow-lt-pow_left, one-le-pow, two-pow-succ, div-mul-le_self, lt-div-mul-add, le_trans, le_of_eq}
+use native.Mathlib.Nat.{pow-suc, pow-zero, mul_assoc, mul_comm, mul_left_comm, mul_right_comm, mul-add, add-mul, mul-le-mul, mul-le-mul_left, mul-le-mul_right, mul-lt-mul_of_pos_right, pow-le-pow_left, pow-lt-pow_left, one-le-pow, two-pow-succ, div-mul-le_self, lt-div-mul-add, le_trans, le_of_eq}
 use lib.Pow.{pow_pos, pow-add, pow_mono}
 use lib.Dec.{leb}
 use borrow.Author.Tests.{leb-true, leb-false}

@@ -14,7 +14,6 @@ use Rattle.rules.specs.declared.Bounds.{Bounds}
 use Rattle.rules.specs.declared.Event.{Event}
 use Rattle.rules.specs.declared.Refusal.{Refusal}
 use Rattle.rules.specs.declared.Verdict.{Verdict}
-use Rattle.rules.specs.declared.Verdict.TheVariants as Verdict
 use Rattle.rules.specs.Numbers.{most_events, store_length, ceiling_of, plus_zero}
 use Rattle.rules.specs.Queue.{Waiting, lengths_of, events_of, numbers_of, attached}
 use Rattle.rules.specs.Refusals.{fits_count}

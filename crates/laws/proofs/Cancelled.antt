@@ -6,9 +6,7 @@ use lib.ListN.{take}
 use lib.Ieee as Ieee
 use lib.Ieee.{Float}
 use Rattle.rules.specs.declared.Event.{Event}
-use Rattle.rules.specs.declared.Event.TheVariants as Event
 use Rattle.rules.specs.declared.Verdict.{Verdict}
-use Rattle.rules.specs.declared.Verdict.TheVariants as Verdict
 use Rattle.rules.specs.Numbers.{taken_time}
 use Rattle.rules.specs.Queue.{Waiting, filed_under, curve_end, any, events_of, packed, attached, those, lasts_to, goes_at, cancelled, value_after_cancel}
 use Rattle.rules.specs.Refusals.{lowest, cancel_rows}

@@ -8,9 +8,7 @@ use lib.ListN.{take, drop}
 use lib.Ieee as Ieee
 use lib.Ieee.{Float, binary64}
 use Rattle.rules.specs.declared.MaybeTime.{MaybeTime}
-use Rattle.rules.specs.declared.MaybeTime.TheVariants as MaybeTime
 use Rattle.rules.specs.declared.Event.{Event}
-use Rattle.rules.specs.declared.Event.TheVariants as Event
 use Rattle.rules.specs.Numbers.{is_finite, is_zero}
 use Rattle.rules.specs.Queue.{hold_or, filed_under, put_at}
 use Rattle.rules.specs.Refusals.{is_period}

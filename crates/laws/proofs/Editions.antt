@@ -2,7 +2,6 @@
 use mathlib.Core.Path.{◌≡◌, refl}
 use mathlib.Core.Bool.{true}
 use Rattle.rules.specs.declared.Edition.{Edition}
-use Rattle.rules.specs.declared.Edition.TheVariants as Edition
 use Rattle.rules.specs.Refusals.{is_edition}
 use Rattle.rules.specs.Block.{edition_of}
 use Rattle.laws.specs.Editions.{number_of_edition}

@@ -8,9 +8,7 @@ use lib.ListN.{length, take, drop, get_or, length-append, take-append-drop}
 use lib.Ieee as Ieee
 use lib.Ieee.{Float}
 use Rattle.rules.specs.declared.MaybeTime.{MaybeTime}
-use Rattle.rules.specs.declared.MaybeTime.TheVariants as MaybeTime
 use Rattle.rules.specs.declared.Event.{Event}
-use Rattle.rules.specs.declared.Event.TheVariants as Event
 use Rattle.rules.specs.Queue.{Waiting, alone, hold_or, filed_under, length_of, lengths_of, events_of, attached, put_at, inserted, arrived, those, goes_at, is_before, cancelled, sooner, held_event, held_at, is_ramp, runs_at, held_if_running, last_held, is_later, is_not_later, any_covers, holds_ramp, held_by, held}
 use Rattle.laws.specs.Search.{place_of}
 use Rattle.laws.proofs.Tests.{never, both}

@@ -2,7 +2,7 @@
 -- nothing.
 use mathlib.Core.Path.{◌≡◌, refl, sym, ap, subst}
 use mathlib.Core.Bool.{Bool, true, false, cond, not}
-use mathlib.Core.List.{List, [], ◌∷◌}
+use mathlib.Core.List.{List, ◌∷◌}
 use Prim.Native.Nat.{ℕ, ◌+◌, ◌≤◌, ◌<◌}
 use native.Mathlib.Omega.{arith}
 use lib.ListN.{length}
@@ -10,17 +10,13 @@ use borrow.Author.Tests.{le-leb}
 use lib.Ieee as Ieee
 use lib.Ieee.{Float, binary64}
 use Rattle.rules.specs.declared.MaybeTime.{MaybeTime}
-use Rattle.rules.specs.declared.MaybeTime.TheVariants as MaybeTime
 use Rattle.rules.specs.declared.Event.{Event}
-use Rattle.rules.specs.declared.Event.TheVariants as Event
 use Rattle.rules.specs.declared.Bounds.{Bounds}
 use Rattle.rules.specs.declared.AutomationRate.{AutomationRate}
 use Rattle.rules.specs.declared.Edition.{Edition}
 use Rattle.rules.specs.declared.BlockInfos.{BlockInfos}
 use Rattle.rules.specs.declared.Refusal.{Refusal}
-use Rattle.rules.specs.declared.Refusal.TheVariants as Refusal
 use Rattle.rules.specs.declared.Verdict.{Verdict}
-use Rattle.rules.specs.declared.Verdict.TheVariants as Verdict
 use Rattle.rules.specs.Numbers.{most_events, store_length, ceiling_of, plus_zero, is_finite, is_zero, is_positive, is_negative, taken_time, wide}
 use Rattle.rules.specs.Queue.{Waiting, hold_or, filed_under, covers, is_filed_inside, any_inside, length_of, lengths_of, events_of, attached, inserted, arrived, target_event}
 use Rattle.rules.specs.Refusals.{Row, row, lowest, all_finite, are_bounds, is_period, making_rows}
@@ -36,7 +32,7 @@ use Rattle.laws.proofs.Rows.{Scheduled, Curved, value_answered, exponential_answ
 use Rattle.laws.proofs.Events.{events_attached, events_inserted}
 use Rattle.laws.proofs.Queues.{empty_sound, arrived_sound, cancelled_sound, cancelled_due, held_sound, held_due}
 use Rattle.laws.proofs.Apart.{arrived-apart, cancelled-apart, held-apart}
-use Rattle.laws.proofs.Walks.{later, rendered_leaves}
+use Rattle.laws.proofs.Walks.{rendered_leaves}
 use Rattle.laws.proofs.Leaves.{rest_sound, rendered_last}
 
 -- ---- times of a block

@@ -8,21 +8,17 @@ use lib.ListN.{length}
 use lib.Ieee as Ieee
 use lib.Ieee.{Float, binary64}
 use Rattle.rules.specs.declared.MaybeTime.{MaybeTime}
-use Rattle.rules.specs.declared.MaybeTime.TheVariants as MaybeTime
 use Rattle.rules.specs.declared.Event.{Event}
-use Rattle.rules.specs.declared.Event.TheVariants as Event
 use Rattle.rules.specs.declared.LastEvent.{LastEvent}
-use Rattle.rules.specs.declared.LastEvent.TheVariants as LastEvent
 use Rattle.rules.specs.declared.BlockInfos.{BlockInfos}
-use Rattle.rules.specs.Numbers.{most_events, store_length, is_finite, is_positive, later_of}
+use Rattle.rules.specs.Numbers.{most_events, store_length, is_finite, later_of}
 use Rattle.rules.specs.Queue.{Waiting, hold_or, filed_under, is_ramp, curve_end, length_of, lengths_of, head_of, events_of}
-use Rattle.rules.specs.Refusals.{is_period}
 use Rattle.rules.specs.Walk.{Walk, end_by_next, end_by_hold, counted, with_last, with_turned, fill, with_values, with_intrinsic, consumed, start_of, last_or}
-use Rattle.rules.specs.Block.{target, rests_for, walk_from, values_before, rendered_as, rendered}
+use Rattle.rules.specs.Block.{rests_for, walk_from, values_before, rendered_as, rendered}
 use Rattle.laws.specs.Sound.{is_number, is_from_zero, is_taken_if_any, is_clear, are_clear, reach_of, goes_before, in_order, SoundQueue, is_last_clear}
-use Rattle.laws.proofs.Tests.{both, and}
+use Rattle.laws.proofs.Tests.{and}
 use Rattle.laws.proofs.Order.{not_lt}
-use Rattle.laws.proofs.Results.{add_number, from_zero_number, taken-parts, taken_number}
+use Rattle.laws.proofs.Results.{from_zero_number, taken-parts, taken_number}
 use Rattle.laws.proofs.Clear.{all-parts, all_more, span_taken, exponential_parts, target_parts, curve_parts, clear_number}
 use Rattle.laws.proofs.Reach.{end_number}
 use Rattle.laws.proofs.Ordered.{order_parts}

@@ -2,15 +2,15 @@
 use mathlib.Core.Path.{◌≡◌, refl, sym, ap, ◌∙◌}
 use mathlib.Core.Bool.{Bool, true, false, cond, not, ◌||◌}
 use mathlib.Core.List.{List, [], ◌∷◌, ◌++◌}
-use Prim.Native.Nat.{ℕ, zero, suc, ◌≤◌, ◌<◌}
+use Prim.Native.Nat.{ℕ, zero, suc, ◌<◌}
 use native.Mathlib.Omega.{arith}
 use lib.ListN.{length, take, drop, get_or, drop_of_length-le, take-append-drop}
-use lib.Seq.{drop-cons, take-length, take-suc}
+use lib.Seq.{take-length, take-suc}
 use borrow.Author.Tests.{not-true}
 use lib.Ieee as Ieee
 use lib.Ieee.{Float}
 use Rattle.rules.specs.declared.Event.{Event}
-use Rattle.rules.specs.Queue.{Waiting, alone, filed_under, covers, events_of, has_not_later, place_behind, put_at, arrived, those, lasts_to, goes_at, is_before, cancelled, held_event, held_at, is_ramp, runs_at, held_if_running, last_held, is_later, is_not_later, held_by, held}
+use Rattle.rules.specs.Queue.{Waiting, alone, filed_under, covers, events_of, has_not_later, place_behind, put_at, arrived, those, lasts_to, goes_at, is_before, cancelled, held_event, held_at, runs_at, held_if_running, last_held, is_later, is_not_later, held_by, held}
 use Rattle.laws.specs.Sound.{is_number, is_clear, all, are_clear, reach_of, goes_before, in_order}
 use Rattle.laws.specs.Apart.{is_apart}
 use Rattle.laws.specs.Search.{place_of, is_later_than, first_later, first_going}

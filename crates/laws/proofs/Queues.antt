@@ -10,9 +10,7 @@ use lib.Seq.{take-append_seam, append_snoc}
 use lib.Ieee as Ieee
 use lib.Ieee.{Float, binary64}
 use Rattle.rules.specs.declared.MaybeTime.{MaybeTime}
-use Rattle.rules.specs.declared.MaybeTime.TheVariants as MaybeTime
 use Rattle.rules.specs.declared.Event.{Event}
-use Rattle.rules.specs.declared.Event.TheVariants as Event
 use Rattle.rules.specs.Numbers.{most_events, store_length}
 use Rattle.rules.specs.Queue.{Waiting, hold_or, filed_under, is_ramp, curve_end, any_covers, length_of, lengths_of, events_of, put_at, place_behind, arrived, those, cancelled, sooner, held_event, held_at, runs_at, held_if_running, last_held, is_later, is_not_later, holds_ramp, held_by, held}
 use Rattle.laws.specs.Sound.{is_taken, is_taken_if_any, is_held_by, is_held_from, is_span, is_clear, is_due, all, are_clear, are_due, reach_of, goes_before, in_order, SoundQueue}

@@ -1,15 +1,13 @@
 -- How far events reach: what lies inside a curve is at or after its filed time and before its reach, so that one law serves every event. Assumes nothing.
 use mathlib.Core.Path.{◌≡◌, refl, sym, ◌∙◌}
-use mathlib.Core.Bool.{Bool, true, false, not, ◌&&◌, ◌||◌}
+use mathlib.Core.Bool.{Bool, true, false, not, ◌&&◌}
 use mathlib.Core.List.{List, [], ◌∷◌}
 use Prim.Native.Nat.{ℕ}
 use borrow.Author.Tests.{not-true}
 use lib.Ieee as Ieee
 use lib.Ieee.{Float, binary64}
 use Rattle.rules.specs.declared.MaybeTime.{MaybeTime}
-use Rattle.rules.specs.declared.MaybeTime.TheVariants as MaybeTime
 use Rattle.rules.specs.declared.Event.{Event}
-use Rattle.rules.specs.declared.Event.TheVariants as Event
 use Rattle.rules.specs.Numbers.{is_finite, is_positive, later_of}
 use Rattle.rules.specs.Queue.{hold_or, filed_under, is_ramp, curve_end, is_inside, covers, any, any_covers, lasts_to}
 use Rattle.rules.specs.Refusals.{is_period}

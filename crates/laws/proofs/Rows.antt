@@ -11,13 +11,9 @@ use lib.Ieee.{Float}
 use Rattle.rules.specs.declared.Bounds.{Bounds}
 use Rattle.rules.specs.declared.Event.{Event}
 use Rattle.rules.specs.declared.Edition.{Edition}
-use Rattle.rules.specs.declared.Edition.TheVariants as Edition
 use Rattle.rules.specs.declared.MaybeTime.{MaybeTime}
-use Rattle.rules.specs.declared.MaybeTime.TheVariants as MaybeTime
 use Rattle.rules.specs.declared.Refusal.{Refusal}
-use Rattle.rules.specs.declared.Refusal.TheVariants as Refusal
 use Rattle.rules.specs.declared.Verdict.{Verdict}
-use Rattle.rules.specs.declared.Verdict.TheVariants as Verdict
 use Rattle.rules.specs.Numbers.{most_events, store_length, ceiling_of, is_finite, is_zero, is_positive, is_negative, taken_time}
 use Rattle.rules.specs.Queue.{lengths_of, curve_end, any_covers, any_inside}
 use Rattle.rules.specs.Refusals.{Row, row, number_of, rank_of, lowest, all_finite, is_time, is_period, is_count, fits_count, is_block, is_earlier, is_crossed, making_rows, value_rows, exponential_rows, target_rows, curve_rows, cancel_rows, block_rows}

@@ -1,7 +1,6 @@
 -- The number that a parameter of an edition is made by (02, C-19).
 use Rattle.std.specs.Prelude.{ℕ}
 use Rattle.rules.specs.declared.Edition.{Edition}
-use Rattle.rules.specs.declared.Edition.TheVariants as Edition
 
 unfoldable pub number_of_edition : Edition → ℕ
 number_of_edition Edition.First = 1

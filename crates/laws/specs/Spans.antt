@@ -2,7 +2,6 @@
 use Rattle.std.specs.Prelude.{Bool, false, ◌&&◌, Float}
 use Rattle.std.specs.Float.Ieee as Ieee
 use Rattle.rules.specs.declared.Event.{Event}
-use Rattle.rules.specs.declared.Event.TheVariants as Event
 use Rattle.rules.specs.Queue.{curve_end}
 
 unfoldable pub spans : Float → Event → Bool

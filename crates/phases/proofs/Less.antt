@@ -6,7 +6,7 @@ use native.Mathlib.Nat.{mul_assoc, mul-one}
 use native.Mathlib.Omega.{arith}
 use borrow.Author.Tests.{ltb-true, ltb-false, lt-ltb, le-ltb}
 use lib.Dec.{ltb}
-use lib.IntN.{ℤ, pos, negsuc, sub_ℕ, ◌+ℤ◌, ◌*ℤ◌}
+use lib.IntN.{pos, negsuc, sub_ℕ, ◌+ℤ◌, ◌*ℤ◌}
 use lib.Signed.{mag}
 use lib.Pow.{pow-add}
 use lib.Ieee.{up, down}

@@ -1,12 +1,12 @@
 -- a * y + c of `f32`s in `f64`, where the sizes of a, y and c alone show that the sum is exact, and zero or in the range of `f32`'s normal numbers: nothing of the sum is left to test. Assumes nothing.
 use mathlib.Core.Path.{◌≡◌, refl, sym, ap, ◌∙◌, subst}
 use mathlib.Core.Logic.{◌⊎◌, inl, inr}
-use Prim.Native.Nat.{ℕ, zero, suc, ◌+◌, ◌-◌, ◌*◌, ◌/◌, ◌%◌, ◌^◌, ◌≤◌, ◌<◌, zero-le}
-use native.Mathlib.Nat.{le_refl, le_trans, le_of_eq, le_of_lt, lt_of_lt_of_le, lt_of_le_of_lt, zero-mul, one-mul, mul-pos, mul_comm, mul_assoc, mul_right_comm, mul-le-mul_right, mul-le-mul_left, mul-lt-mul_of_pos_right, lt_of_mul-lt-mul_right, eq_of_mul-eq-mul_right, pow-succ'}
+use Prim.Native.Nat.{ℕ, zero, suc, ◌+◌, ◌-◌, ◌*◌, ◌/◌, ◌%◌, ◌^◌, ◌≤◌, ◌<◌}
+use native.Mathlib.Nat.{le_refl, le_trans, le_of_eq, le_of_lt, lt_of_lt_of_le, lt_of_le_of_lt, zero-mul, one-mul, mul-pos, mul_assoc, mul-le-mul_right, mul-le-mul_left, mul-lt-mul_of_pos_right, lt_of_mul-lt-mul_right, eq_of_mul-eq-mul_right, pow-succ'}
 use native.Mathlib.Omega.{arith}
-use mathlib.Core.Bool.{Bool, true, false, not, cond, beq}
+use mathlib.Core.Bool.{Bool, true, false, beq}
 use lib.IntN.{pos}
-use lib.Dec.{T, leb, lit<, lit≤}
+use lib.Dec.{T, leb, lit<}
 use lib.Pow.{pow-add, pow_pos, pow_mono}
 use lib.Ieee.{Float, fin, Format, binary32, binary64, unlike, round, sum, add, mul, of_bits, to_bits, fits}
 use lib.Ieee.Fits.{fits_widens}

@@ -6,10 +6,9 @@
 use mathlib.Core.Path.{◌≡◌, refl}
 use mathlib.Core.Bool.{true, false}
 use mathlib.Core.List.{List, [], ◌∷◌, ◌++◌}
-use Prim.Native.Nat.{ℕ}
 use lib.ListN.{replicate}
 use lib.IntN.{pos, negsuc}
-use lib.Ieee.{Float, nan, inf, fin}
+use lib.Ieee.{nan, inf, fin}
 use Rattle.rules.specs.declared.MaybeTime.TheVariants as MaybeTime
 use Rattle.rules.specs.declared.LastEvent.TheVariants as LastEvent
 use Rattle.rules.specs.declared.Event.TheVariants as Event
@@ -17,7 +16,7 @@ use Rattle.rules.specs.declared.AutomationRate.TheVariants as Rate
 use Rattle.rules.specs.declared.Edition.TheVariants as Edition
 use Rattle.rules.specs.Queue.{alone}
 use Rattle.rules.specs.Block.{set, step, linear, exponential, target, curve, cancel, hold}
-use Rattle.rules.proofs.Table.{Act, make, make_under, ask, block, lend, look, kind, Said, ok, refused, turned, output, state, of, Case, results, expected, bounds, done, n0, n1, n2, n3, n4, n5, n6, n7, n8, n9, n10, half, minus0, minus1, minus10, mark}
+use Rattle.rules.proofs.Table.{make, make_under, ask, block, lend, look, kind, ok, refused, turned, output, state, of, Case, results, expected, bounds, done, n0, n1, n2, n3, n4, n5, n6, n7, n8, n9, n10, half, minus0, minus1, minus10, mark}
 
 unfoldable pub cases : List Case
 cases =

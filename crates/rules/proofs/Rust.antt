@@ -2,18 +2,16 @@
 -- definitions are held to it, too. The Rust has no steps, no block time and no store: these are not compared here. Under each name stand the calls in plain numbers.
 use mathlib.Core.Path.{◌≡◌, refl}
 use mathlib.Core.Bool.{true, false}
-use mathlib.Core.List.{List, [], ◌∷◌, ◌++◌}
-use Prim.Native.Nat.{ℕ}
-use lib.ListN.{replicate}
+use mathlib.Core.List.{List, [], ◌∷◌}
 use lib.IntN.{pos, negsuc}
-use lib.Ieee.{Float, nan, inf, fin}
+use lib.Ieee.{nan, fin}
 use Rattle.rules.specs.declared.MaybeTime.TheVariants as MaybeTime
 use Rattle.rules.specs.declared.LastEvent.TheVariants as LastEvent
 use Rattle.rules.specs.declared.Event.TheVariants as Event
 use Rattle.rules.specs.declared.AutomationRate.TheVariants as Rate
 use Rattle.rules.specs.Queue.{alone}
 use Rattle.rules.specs.Block.{step, linear, curve, cancel, hold}
-use Rattle.rules.proofs.Table.{Act, make, ask, hear, glance, Said, ok, sounds, seen, Case, results, expected, bounds, done, n0, n1, n2, n3, n4, n5, n6, n7, n8, n9, n10, half, minus0, minus1, minus10}
+use Rattle.rules.proofs.Table.{make, ask, hear, glance, ok, sounds, seen, Case, results, expected, bounds, done, n0, n1, n2, n3, n4, n5, n6, n7, n8, n9, n10, half, minus1, minus10}
 
 unfoldable pub rust : List Case
 rust =

@@ -2,15 +2,15 @@
 use mathlib.Core.Path.{◌≡◌, refl}
 use mathlib.Core.Bool.{true, false}
 use mathlib.Core.List.{List, [], ◌∷◌, ◌++◌}
-use Prim.Native.Nat.{ℕ, ◌^◌}
-use lib.IntN.{pos, negsuc}
+use Prim.Native.Nat.{◌^◌}
+use lib.IntN.{negsuc}
 use lib.Ieee as Ieee
 use lib.Ieee.{Float, nan, fin, binary32}
 use Rattle.rules.specs.declared.AutomationRate.TheVariants as Rate
 use Rattle.rules.specs.Numbers as Numbers
 use Rattle.rules.specs.Kernels as Kernels
 use Rattle.rules.specs.Block.{step, linear, exponential, curve, cancel, hold}
-use Rattle.rules.proofs.Table.{Act, make, ask, play, intrinsic, Said, ok, heard, value, Case, results, expected, bounds, n0, n1, n2, n3, n4, n5, n6, n7, n8, n10, half, minus1, minus10}
+use Rattle.rules.proofs.Table.{Act, make, ask, play, intrinsic, ok, heard, value, Case, results, expected, bounds, n0, n1, n2, n3, n4, n5, n6, n7, n8, n10, half, minus1, minus10}
 
 -- "A-rate, range −10..10, default 0 unless said"
 abbrev usual : Act

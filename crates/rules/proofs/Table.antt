@@ -1,21 +1,18 @@
 -- What the tables are made of: a case is a list of calls and what is said to each; the checker computes both. Definitions only.
-use mathlib.Core.Bool.{Bool, true, false, ◌&&◌}
+use mathlib.Core.Bool.{Bool, true, false}
 use mathlib.Core.List.{List, [], ◌∷◌, ◌++◌}
 use Prim.Native.Nat.{ℕ, zero, suc}
-use lib.Dec.{eqb}
-use lib.ListN.{length, take, drop, replicate}
+use lib.ListN.{take, drop, replicate}
 use lib.IntN.{pos, negsuc}
 use lib.Ieee as Ieee
 use lib.Ieee.{Float, nan, inf, fin}
 use Rattle.rules.specs.declared.Bounds.{Bounds}
 use Rattle.rules.specs.declared.MaybeTime.{MaybeTime}
 use Rattle.rules.specs.declared.LastEvent.{LastEvent}
-use Rattle.rules.specs.declared.LastEvent.TheVariants as LastEvent
 use Rattle.rules.specs.declared.AutomationRate.{AutomationRate}
 use Rattle.rules.specs.declared.AutomationRate.TheVariants as Rate
 use Rattle.rules.specs.declared.Edition.{Edition}
 use Rattle.rules.specs.declared.Verdict.{Verdict}
-use Rattle.rules.specs.declared.Verdict.TheVariants as Verdict
 use Rattle.rules.specs.Numbers as Numbers
 use Rattle.rules.specs.Numbers.{store_length, plus_zero}
 use Rattle.rules.specs.Kernels as Kernels

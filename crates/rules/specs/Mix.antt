@@ -1,5 +1,5 @@
 -- Document 01, "Mix".
-use Rattle.std.specs.Prelude.{Bool, true, false, cond, List, [], ◌∷◌, ℕ, replicate, Float}
+use Rattle.std.specs.Prelude.{cond, List, [], ◌∷◌, ℕ, replicate, Float}
 use Rattle.std.specs.Float.Ieee as Ieee
 use Rattle.std.specs.Float.{binary32}
 use Rattle.rules.specs.declared.Bounds.{Bounds}

@@ -1,16 +1,12 @@
 -- Document 01, "Rendering one block": the five bodies, and the walk over the heads.
-use Rattle.std.specs.Prelude.{Bool, true, false, cond, List, [], ◌∷◌, ℕ, zero, suc, negsuc, Float}
+use Rattle.std.specs.Prelude.{Bool, false, cond, List, [], ◌∷◌, ℕ, suc, negsuc, Float}
 use Rattle.std.specs.Float.Ieee as Ieee
 use Rattle.std.specs.Float.{fin, binary32, binary64}
 use Rattle.rules.specs.declared.MaybeTime.{MaybeTime}
-use Rattle.rules.specs.declared.MaybeTime.TheVariants as MaybeTime
 use Rattle.rules.specs.declared.Event.{Event}
-use Rattle.rules.specs.declared.Event.TheVariants as Event
 use Rattle.rules.specs.declared.Head.{Head}
-use Rattle.rules.specs.declared.Head.TheVariants as Head
 use Rattle.rules.specs.declared.Finished.{Finished}
 use Rattle.rules.specs.declared.LastEvent.{LastEvent}
-use Rattle.rules.specs.declared.LastEvent.TheVariants as LastEvent
 use Rattle.rules.specs.declared.BlockInfos.{BlockInfos}
 use Rattle.rules.specs.Numbers.{plus_zero, is_zero, is_subnormal, magnitude, later_of, end_place, filled}
 use Rattle.rules.specs.Samples.{linear_sample, exponential_sample, ratio_of, is_ratio, target_sample, curve_sample, last_number}

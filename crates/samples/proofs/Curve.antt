@@ -1,5 +1,5 @@
 -- A curve's sample by the tests that lead to it. Assumes nothing.
-use Rattle.std.proofs.Common.{◌≡◌, ℕ, zero, suc, ◌+◌, ◌-◌, ◌^◌, ◌<◌, ◌≤◌, true, false, ◌||◌, List, [], ◌∷◌, length, get_or, sym, refl, ap, ◌∙◌, le_of_suc-le-suc, add-one, arith}
+use Rattle.std.proofs.Common.{◌≡◌, ℕ, zero, suc, ◌+◌, ◌-◌, ◌<◌, ◌≤◌, true, false, List, [], ◌∷◌, length, get_or, refl, ◌∙◌, le_of_suc-le-suc, add-one, arith}
 use lib.Ieee.{Float, nan, binary32, binary64, sub, mul, div, le}
 use Rattle.rules.specs.Numbers.{plus_zero, wide, whole_part, fused, narrowed}
 use Rattle.rules.specs.Samples.{last_number, between, curve_position, curve_sample}

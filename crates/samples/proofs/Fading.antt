@@ -1,5 +1,5 @@
 -- The factor of a target: 0 far out, else by its whole number of steps. Assumes nothing.
-use Rattle.std.proofs.Common.{◌≡◌, ℕ, suc, ◌+◌, ◌-◌, ◌*◌, ◌/◌, ◌%◌, ◌^◌, ◌<◌, ◌≤◌, true, false, pos, sym, arith}
+use Rattle.std.proofs.Common.{◌≡◌, ℕ, suc, ◌+◌, ◌-◌, ◌*◌, ◌/◌, ◌%◌, ◌^◌, ◌<◌, true, false, pos, arith}
 use lib.Ieee.{Float, fin, binary32, binary64, round, mul, le, of_int}
 use Rattle.rules.specs.Numbers.{plus_zero, wide, whole_part, narrowed}
 use Rattle.rules.specs.Kernels.{parts, falling}

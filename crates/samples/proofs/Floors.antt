@@ -1,9 +1,9 @@
 -- P, the whole number next below a float, by the whole part of its magnitude. Assumes nothing.
-use Rattle.std.proofs.Common.{◌≡◌, ℕ, zero, suc, ◌+◌, ◌-◌, ◌*◌, ◌/◌, ◌%◌, ◌^◌, ◌<◌, ◌≤◌, min, Bool, true, false, cond, T, ltb, leb, ℤ, pos, negsuc, neg_ℤ, sym, refl, ap, ◌∙◌, true≢false, zero-le, le_trans, le_of_eq, le-add_right, lt_of_le_of_lt, le_of_lt, zero-lt-suc, add-mul, lt_of_mul-lt-mul_right, mul-pos, le-div_iff_mul-le, zero-mul, mul-one, mul_right_comm, div-mul-le_self, le_of_mul-le-mul_right, arith, ltb-false, ltb-true, lt-ltb, le-leb, leb-false, leb-true}
+use Rattle.std.proofs.Common.{◌≡◌, ℕ, zero, suc, ◌+◌, ◌-◌, ◌*◌, ◌/◌, ◌^◌, ◌<◌, ◌≤◌, min, Bool, true, false, leb, ℤ, pos, neg_ℤ, sym, refl, ap, ◌∙◌, true≢false, le_trans, le_of_eq, le-add_right, lt_of_le_of_lt, le_of_lt, add-mul, lt_of_mul-lt-mul_right, le-div_iff_mul-le, zero-mul, mul-one, mul_right_comm, div-mul-le_self, le_of_mul-le-mul_right, arith, ltb-false, ltb-true, leb-false, leb-true}
 use mathlib.Core.Bool.{false≢true}
 use native.Mathlib.Nat.{lt-div-mul-add, div-eq_of_lt, div-eq_of_lt-le, min-eq_left, min-eq_right, min-le_left}
 use lib.Ieee.{Float, nan, inf, fin, binary64, up, down, neg, lt, ne, round, of_int, to_unsigned}
-use lib.Ieee.Fits.{up_pos, down_pos}
+use lib.Ieee.Fits.{down_pos}
 use lib.Ieee.Compare.{nan_differs}
 use lib.Ieee.Exact.{HasValue}
 use lib.Ieee.Back.{round_whole}

@@ -1,6 +1,5 @@
 -- Every factor of an exponential sample is a value of an f64, so that a product with it is one with the f64 that holds it. Assumes nothing.
-use Rattle.std.proofs.Common.{◌≡◌, ℕ, zero, suc, ◌+◌, ◌-◌, ◌*◌, ◌/◌, ◌%◌, ◌^◌, ◌<◌, ◌≤◌, Bool, true, false, cond, eqb, ltb, leb, ℤ, pos, negsuc, ◌+ℤ◌, sym, refl, ap, ◌∙◌, subst, true≢false, le_trans, le_of_eq, lt_of_le_of_lt, mul-le-mul_right, zero-lt-suc, mul_assoc, mul_comm, mul-pos, zero-mul, mul-one, suc-ne-zero, mul_left_comm, arith, pow_pos, pow-add, ne_eqb, leb-false}
-use lib.IntN.{sub_ℕ}
+use Rattle.std.proofs.Common.{◌≡◌, ℕ, zero, suc, ◌+◌, ◌-◌, ◌*◌, ◌/◌, ◌%◌, ◌^◌, ◌<◌, ◌≤◌, Bool, true, false, cond, eqb, ltb, leb, ℤ, pos, negsuc, ◌+ℤ◌, sym, refl, ap, ◌∙◌, le_of_eq, lt_of_le_of_lt, mul-le-mul_right, zero-lt-suc, mul_assoc, mul_comm, mul-pos, zero-mul, mul-one, suc-ne-zero, mul_left_comm, arith, pow_pos, pow-add, ne_eqb, leb-false}
 use lib.Pow.{pow-lt}
 use lib.Ieee.{Float, nan, inf, fin, Format, binary64, unlike, up, down, round, mul}
 use lib.Ieee.Fits.{up_pos, down_pos}
@@ -11,7 +10,6 @@ use Rattle.rules.specs.Kernels.{parts, falling}
 use Rattle.rules.specs.Samples.{floor_of, power_of, power, factor_of}
 use Rattle.kernels.proofs.Falling.{falling_range}
 use Rattle.samples.specs.At.{held}
-use Rattle.phases.proofs.Less.{sub_value}
 
 -- ---- values equal as numbers have equal products
 

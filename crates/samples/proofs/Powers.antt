@@ -1,9 +1,8 @@
 -- The factor of an exponential sample: as an f64 holds it, and P by the whole part of a float. Assumes nothing.
-use Rattle.std.proofs.Common.{◌≡◌, ℕ, zero, suc, ◌+◌, ◌-◌, ◌*◌, ◌/◌, ◌%◌, ◌^◌, ◌<◌, ◌≤◌, min, Bool, true, false, cond, ◌⊎◌, ℤ, pos, negsuc, ◌+ℤ◌, neg_ℤ, sym, refl, ap, ◌∙◌, subst, inl, inr, ⊎_elim, true≢false, zero-le, one-mul, mul-one, arith, pow_pos, pow-add, le-leb}
-use mathlib.Core.Bool.{false≢true}
+use Rattle.std.proofs.Common.{◌≡◌, ℕ, zero, suc, ◌+◌, ◌-◌, ◌*◌, ◌/◌, ◌%◌, ◌^◌, ◌<◌, ◌≤◌, false, ◌⊎◌, ℤ, pos, negsuc, ◌+ℤ◌, neg_ℤ, sym, refl, ◌∙◌, inl, inr, ⊎_elim, one-mul, arith, pow_pos, pow-add, le-leb}
 use borrow.Author.Tests.{lt-leb}
 use lib.IntN.{sub_ℕ}
-use lib.Ieee.{Float, nan, inf, fin, binary64, up, down, round}
+use lib.Ieee.{inf, fin, binary64, up, down, round}
 use lib.Ieee.Fits.{down_pos}
 use lib.Ieee.Scale.{round_same}
 use Rattle.rules.specs.Numbers.{plus_zero}

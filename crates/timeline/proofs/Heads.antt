@@ -9,9 +9,7 @@ use lib.Ieee.{Float}
 use borrow.Author.Tests.{leb-true}
 use Rattle.rules.specs.declared.MaybeTime.{MaybeTime}
 use Rattle.rules.specs.declared.Event.{Event}
-use Rattle.rules.specs.declared.Event.TheVariants as Event
 use Rattle.rules.specs.declared.Head.{Head}
-use Rattle.rules.specs.declared.Head.TheVariants as Head
 use Rattle.rules.specs.Numbers.{store_length}
 use Rattle.rules.specs.Queue.{Waiting, head_of, length_of, lengths_of, attached}
 use Rattle.laws.specs.Sound.{is_clear, SoundQueue}

@@ -9,7 +9,6 @@ use lib.ListN.{length, take, get_or, set, replicate, length-append, length-set, 
 use lib.Seq.{take_at, take-suc, set_at, append_snoc, set-append_left}
 use lib.Ieee.{nan}
 use Rattle.rules.specs.declared.Event.{Event}
-use Rattle.rules.specs.declared.Event.TheVariants as Event
 use Rattle.rules.specs.Numbers.{most_events}
 use Rattle.rules.specs.Queue.{length_of, lengths_of}
 use Rattle.laws.proofs.Events.{lengths_append, lengths_split}

@@ -11,7 +11,6 @@ use lib.Ieee as Ieee
 use lib.Ieee.{Float}
 use Rattle.rules.specs.declared.Event.{Event}
 use Rattle.rules.specs.declared.Head.{Head}
-use Rattle.rules.specs.declared.Head.TheVariants as Head
 use Rattle.rules.specs.Numbers.{most_events}
 use Rattle.rules.specs.Queue.{filed_under, any, has_not_later, place_behind, put_at, those}
 use Rattle.laws.proofs.Events.{put-length}

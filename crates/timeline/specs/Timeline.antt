@@ -1,9 +1,7 @@
 -- The queue of one parameter: which events wait in it, and the one queue in which given events wait.
 use Rattle.std.specs.Prelude.{◌≡◌, Bool, true, false, List, [], ◌∷◌, ◌++◌, map, ◌-◌, ◌≤◌, set, length, take, replicate, Float}
 use Rattle.rules.specs.declared.Event.{Event}
-use Rattle.rules.specs.declared.Event.TheVariants as Event
 use Rattle.rules.specs.declared.Head.{Head}
-use Rattle.rules.specs.declared.Head.TheVariants as Head
 use Rattle.rules.specs.Numbers.{most_events, plus_zero}
 use Rattle.rules.specs.Queue.{Waiting, alone, is_before, is_not_later}
 use Rattle.timeline.specs.declared.AudioParamEvent.{AudioParamEvent}

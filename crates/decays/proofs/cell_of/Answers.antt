@@ -1,5 +1,4 @@
 -- `decays::cell_of` meets its contract. Assumes nothing.
-use borrow.Author.Rules.{rules}
 use mathlib.Core.Path.{◌≡◌, refl, ◌∙◌}
 use mathlib.Core.Bool.{not}
 use mathlib.Core.Logic.{inl, inr}

@@ -1,5 +1,4 @@
 -- `decays::grown_of` meets its contract. Assumes nothing.
-use borrow.Author.Rules.{rules}
 use native.Mathlib.Omega.{arith}
 use Rattle.decays.proofs.Range.{falling_low}
 use Rattle.decays.proofs.Shown.{missing, factor_low, factor_high, shown_grown}

@@ -1,5 +1,4 @@
 -- `decays::near_of` meets its contract. Assumes nothing.
-use borrow.Author.Rules.{rules}
 use Rattle.decays.proofs.Window.{last_steps, shows_near}
 use Rattle.decays.proofs.near_of.Goals as goal
 

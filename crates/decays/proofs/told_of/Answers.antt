@@ -1,5 +1,4 @@
 -- `decays::told_of` meets its contract. Assumes nothing.
-use borrow.Author.Rules.{rules}
 use Rattle.decays.proofs.told_of.Goals as goal
 
 pub returns-then-u-le234 : goal.returns-then-u-le234

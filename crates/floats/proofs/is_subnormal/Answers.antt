@@ -1,5 +1,4 @@
 -- `floats::is_subnormal` meets its contract. Assumes nothing.
-use borrow.Author.Rules.{rules}
 use lib.Ieee.{of_bits, nan_bits}
 use Rattle.floats.proofs.Compared.{subnormal_below, none_subnormal}
 use Rattle.floats.proofs.is_subnormal.Goals as goal

@@ -1,17 +1,15 @@
 -- `kernels::falling_from` meets its contract: the digits that are left, taken into r, give what all of them gave. Assumes nothing.
-use mathlib.Core.Path.{◌≡◌, refl, sym, ap, ◌∙◌}
-use mathlib.Core.Bool.{Bool, true, false, cond, ◌&&◌}
+use mathlib.Core.Path.{◌≡◌, refl, sym, ◌∙◌}
+use mathlib.Core.Bool.{Bool, true, cond, ◌&&◌}
 use mathlib.Core.List.{List, [], ◌∷◌}
-use mathlib.Core.Logic.{⊎_elim}
 use Prim.Native.Nat.{ℕ, zero, suc, ◌+◌, ◌-◌, ◌*◌, ◌/◌, ◌%◌, ◌^◌, ◌≤◌, ◌<◌}
-use native.Mathlib.Nat.{mul-le-mul, le_trans}
+use native.Mathlib.Nat.{mul-le-mul}
 use native.Mathlib.Numerals.{add-one}
 use native.Mathlib.Omega.{arith}
 use lib.Dec.{leb, eqb}
 use lib.ListN.{length, get_or, drop, length-drop}
 use lib.Seq.{drop-cons}
 use borrow.Author.Tests.{leb-true, ne_eqb}
-use Rattle.rules.specs.Kernels as Kernels
 use Rattle.rules.specs.Kernels.{falling_from}
 use Rattle.kernels.proofs.Powers.{both}
 use Rattle.kernels.proofs.Roots.{roots, table_is}
@@ -86,8 +84,8 @@ loop-j-preserved c =
     let t : l.j < 24 = omega arith in
     let k : 24 ≡ 23 - l.j + suc l.j = omega arith in
     elim c.if-a-j-eq1.branch [
-      then-a-j-eq1 w ↦ (omega arith, rw w.r-is (shrinks l.r (get_or roots l.j 0) l.invariant.1 (small_at roots refl l.j)), rw w.r-is (sym (digit_set roots a l.r l.j (23 - l.j) t k w.if-a-j-eq1.true) ∙ l.invariant.2))
-    | else-a-j-eq1 w ↦ (omega arith, rw w.r-is l.invariant.1, rw w.r-is (sym (digit_clear roots a l.r l.j (23 - l.j) t k w.if-a-j-eq1.false) ∙ l.invariant.2))
+      | then-a-j-eq1 w ↦ (omega arith, rw w.r-is (shrinks l.r (get_or roots l.j 0) l.invariant.1 (small_at roots refl l.j)), rw w.r-is (sym (digit_set roots a l.r l.j (23 - l.j) t k w.if-a-j-eq1.true) ∙ l.invariant.2))
+      | else-a-j-eq1 w ↦ (omega arith, rw w.r-is l.invariant.1, rw w.r-is (sym (digit_clear roots a l.r l.j (23 - l.j) t k w.if-a-j-eq1.false) ∙ l.invariant.2))
     ]
 
 pub returns : goal.returns

@@ -1,5 +1,4 @@
 -- `kernels::falling_power` meets its contract. Assumes nothing.
-use borrow.Author.Rules.{rules}
 use Rattle.rules.specs.Kernels.{falling}
 use Rattle.kernels.proofs.falling_power.Goals as goal
 

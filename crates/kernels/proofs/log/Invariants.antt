@@ -1,12 +1,7 @@
 -- `kernels::log` meets its contract: the digits that are left, read from x behind those of a, give the log. Assumes nothing.
-use mathlib.Core.Path.{◌≡◌, refl, sym, ap, ◌∙◌}
-use Prim.Native.Nat.{ℕ, suc, ◌+◌, ◌-◌, ◌*◌, ◌/◌, ◌^◌, ◌≤◌, ◌<◌}
-use native.Mathlib.Nat.{mul-le-mul, two-pow-succ, add-zero}
-use native.Mathlib.Omega.{arith}
-use lib.Pow.{pow_mono}
-use borrow.Author.Tests.{le-leb, lt-leb}
+use mathlib.Core.Path.{◌≡◌}
+use Prim.Native.Nat.{◌-◌, ◌^◌, ◌≤◌, ◌<◌}
 use Rattle.rules.specs.Kernels.{log_from, log}
-use Rattle.kernels.proofs.Logs.{digit_one, digit_none}
 use Rattle.kernels.proofs.log.Given as goal
 
 abbrev pub invariant-loop-left : goal.invariant-loop-left

@@ -1,6 +1,5 @@
 -- `is_direct` meets its contract. Assumes nothing.
 use mathlib.Core.Bool.{false≢true}
-use borrow.Author.Rules.{rules}
 use Rattle.mix.proofs.is_direct.Goals as goal
 
 pub returns-then-bounds : goal.returns-then-bounds

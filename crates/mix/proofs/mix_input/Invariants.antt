@@ -1,12 +1,9 @@
 -- `mix_input` meets its contract: the first i places are mixed. Assumes nothing.
-use mathlib.Core.Path.{◌≡◌, ◌∙◌}
+use mathlib.Core.Path.{◌≡◌}
 use Prim.Native.Nat.{◌-◌}
-use native.Mathlib.Omega.{arith}
-use borrow.Author.Rules.{rules}
 use lib.ListN.{length}
 use Rattle.rules.specs.Mix.{mixed_all}
-use Rattle.laws.proofs.Within.{mixed-length}
-use Rattle.mix.proofs.Writes.{Writes, begins, goes_on, ends, mixed_at}
+use Rattle.mix.proofs.Writes.{Writes}
 use Rattle.mix.proofs.mix_input.Given as goal
 
 abbrev pub invariant-loop-i : goal.invariant-loop-i

@@ -1,12 +1,10 @@
 -- `mix_one` meets its contract: the first i places are mixed. Assumes nothing.
-use mathlib.Core.Path.{◌≡◌, sym, ◌∙◌}
-use Prim.Native.Nat.{◌-◌}
+use mathlib.Core.Path.{sym, ◌∙◌}
 use native.Mathlib.Omega.{arith}
-use borrow.Author.Rules.{rules}
 use lib.ListN.{length, replicate, length-replicate}
 use Rattle.rules.specs.Mix.{mixed_all}
 use Rattle.laws.proofs.Within.{mixed-length}
-use Rattle.mix.proofs.Writes.{Writes, begins, goes_on, ends, one_at}
+use Rattle.mix.proofs.Writes.{begins, goes_on, ends, one_at}
 use Rattle.mix.proofs.mix_one.Goals as goal
 
 pub loop-i-init : goal.loop-i-init

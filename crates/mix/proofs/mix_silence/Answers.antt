@@ -1,7 +1,6 @@
 -- `mix_silence` meets its contract. Assumes nothing.
 use mathlib.Core.Path.{◌∙◌}
 use lib.ListN.{length, replicate, length-replicate}
-use borrow.Author.Rules.{rules}
 use Rattle.rules.specs.Numbers.{plus_zero}
 use Rattle.rules.specs.Mix.{mixed_all}
 use Rattle.laws.proofs.Within.{mixed-length}

@@ -1,14 +1,9 @@
 -- `mix_silence_any` meets its contract: the first i places are mixed. Assumes nothing.
-use mathlib.Core.Path.{◌∙◌}
 use Prim.Native.Nat.{◌-◌}
-use native.Mathlib.Omega.{arith}
-use borrow.Author.Rules.{rules}
-use lib.ListN.{length, replicate, length-replicate}
-use lib.Ieee as Ieee
+use lib.ListN.{length, replicate}
 use Rattle.rules.specs.Numbers.{plus_zero}
 use Rattle.rules.specs.Mix.{mixed_all}
-use Rattle.laws.proofs.Within.{mixed-length}
-use Rattle.mix.proofs.Writes.{Writes, begins, goes_on, ends, silence_at}
+use Rattle.mix.proofs.Writes.{Writes}
 use Rattle.mix.proofs.mix_silence_any.Given as goal
 
 abbrev pub invariant-loop-i : goal.invariant-loop-i

@@ -1,14 +1,12 @@
 -- `mix_silence_direct` meets its contract: the first i places are mixed, unless a NaN was met. Assumes nothing.
 use mathlib.Core.Path.{sym, ◌∙◌}
-use mathlib.Core.Logic.{inl, inr}
 use mathlib.Core.Bool.{false≢true}
-use Prim.Native.Nat.{◌-◌}
 use native.Mathlib.Omega.{arith}
 use lib.ListN.{length, replicate, length-replicate}
 use Rattle.rules.specs.Numbers.{plus_zero}
 use Rattle.rules.specs.Mix.{mixed_all}
 use Rattle.laws.proofs.Within.{mixed-length}
-use Rattle.mix.proofs.Writes.{Trying, trying_begins, trying_goes_on, trying_ends, silence_at, nan_test}
+use Rattle.mix.proofs.Writes.{trying_begins, trying_goes_on, trying_ends, silence_at, nan_test}
 use Rattle.mix.proofs.mix_silence_direct.Goals as goal
 use Rattle.mix.proofs.mix_silence_direct.Goals.{then-value, else-value}
 
@@ -46,8 +44,8 @@ loop-i-preserved c =
     trying_goes_on (mixed_all c.args.bounds (replicate (length vs) plus_zero) vs) (length vs) c.args.output.now l.i l.output l.told l.invariant c.if-value.told c.silent_value.result (omega arith)
     (λ e.
     elim c.if-value.branch [
-      then-value w ↦ absurd (false≢true (sym w.told-is ∙ e))
-    | else-value w ↦ (sym w.told-is ∙ e, c.silent_value.ensures (nan_test _ ∙ w.if-value.false) ∙ silence_at c.args.bounds vs l.i (omega arith))
+      | then-value w ↦ absurd (false≢true (sym w.told-is ∙ e))
+      | else-value w ↦ (sym w.told-is ∙ e, c.silent_value.ensures (nan_test _ ∙ w.if-value.false) ∙ silence_at c.args.bounds vs l.i (omega arith))
     ])
 
 pub shape_of-output : goal.shape_of-output

@@ -1,7 +1,6 @@
 -- `mix_silence_told` meets its contract. Assumes nothing.
 use mathlib.Core.Path.{refl}
 use mathlib.Core.Bool.{false≢true}
-use borrow.Author.Rules.{rules}
 use Rattle.mix.proofs.mix_silence_told.Goals as goal
 
 pub mix_silence_direct-requires : goal.mix_silence_direct-requires

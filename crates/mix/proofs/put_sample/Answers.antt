@@ -1,10 +1,9 @@
 -- `put_sample` meets its contract: the first i places are written. Assumes nothing.
-use mathlib.Core.Path.{◌≡◌, sym}
-use Prim.Native.Nat.{◌-◌}
+use mathlib.Core.Path.{sym}
 use native.Mathlib.Omega.{arith}
-use lib.ListN.{length, replicate, length-replicate, get_or-replicate}
+use lib.ListN.{replicate, length-replicate, get_or-replicate}
 use Rattle.rules.specs.Numbers.{plus_zero}
-use Rattle.mix.proofs.Writes.{Writes, begins, goes_on, ends}
+use Rattle.mix.proofs.Writes.{begins, goes_on, ends}
 use Rattle.mix.proofs.put_sample.Goals as goal
 
 pub loop-i-init : goal.loop-i-init

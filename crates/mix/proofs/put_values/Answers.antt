@@ -1,9 +1,8 @@
 -- `put_values` meets its contract: the first i places are written. Assumes nothing.
 use mathlib.Core.Path.{refl}
-use Prim.Native.Nat.{◌-◌}
 use native.Mathlib.Omega.{arith}
 use lib.ListN.{length}
-use Rattle.mix.proofs.Writes.{Writes, begins, goes_on, ends, any_default}
+use Rattle.mix.proofs.Writes.{begins, goes_on, ends, any_default}
 use Rattle.mix.proofs.put_values.Goals as goal
 
 pub loop-i-init : goal.loop-i-init

@@ -1,9 +1,7 @@
 -- `put_values` meets its contract: the first i places are written. Assumes nothing.
-use mathlib.Core.Path.{refl}
 use Prim.Native.Nat.{◌-◌}
-use native.Mathlib.Omega.{arith}
 use lib.ListN.{length}
-use Rattle.mix.proofs.Writes.{Writes, begins, goes_on, ends, any_default}
+use Rattle.mix.proofs.Writes.{Writes}
 use Rattle.mix.proofs.put_values.Given as goal
 
 abbrev pub invariant-loop-i : goal.invariant-loop-i

@@ -4,7 +4,6 @@ use mathlib.Core.Bool.{cond}
 use lib.Dec.{T}
 use lib.Ieee as Ieee
 use lib.Ieee.{Float, binary32}
-use borrow.Author.Rules.{rules}
 use Rattle.rules.specs.Numbers.{plus_zero}
 use Rattle.mix.proofs.Silent.{silent}
 use Rattle.mix.proofs.silent_value.Goals as goal

@@ -1,7 +1,6 @@
 -- `phases::grid_of` meets its contract. Assumes nothing.
-use borrow.Author.Rules.{rules}
 use mathlib.Core.Path.{refl}
-use mathlib.Core.Logic.{◌⊎◌, inl, inr}
+use mathlib.Core.Logic.{inl, inr}
 use native.Mathlib.Omega.{arith}
 use Rattle.rounding_laws.proofs.Decode.{finite_no_nan}
 use Rattle.phases.proofs.grid_of.Goals as goal

@@ -1,9 +1,8 @@
 -- `phases::phase_sum_of` meets its contract. Assumes nothing.
-use borrow.Author.Rules.{rules}
-use mathlib.Core.Path.{◌≡◌, sym, ap, ◌∙◌, subst}
+use mathlib.Core.Path.{sym, ap, ◌∙◌, subst}
 use mathlib.Core.Bool.{not}
 use lib.Dec.{T}
-use lib.Ieee.{Float, binary32, binary64, fits, is_nan, of_bits}
+use lib.Ieee.{Float, binary32, binary64, fits, is_nan}
 use lib.Ieee.Fits.{and_i, fits_widens}
 use Rattle.rules.specs.Numbers.{narrowed, fused}
 use Rattle.rounding_laws.proofs.Cut.{no_nan_eq, cast_ok, narrowed_fits}

@@ -1,7 +1,6 @@
 -- `phases::phase_sum_within` meets its contract: the phase by its pattern (`proofs/Phase.antt`), and its sum. Assumes nothing.
 use borrow.Author.Rules.{rules}
 use mathlib.Core.Path.{◌≡◌, sym, ap, ◌∙◌, subst}
-use mathlib.Core.Bool.{not}
 use Prim.Native.Nat.{ℕ, ◌*◌, ◌/◌, ◌%◌, ◌^◌, ◌≤◌, ◌<◌}
 use native.Mathlib.Nat.{le_trans}
 use native.Mathlib.Omega.{arith}
@@ -72,9 +71,9 @@ float_from_bits-q c = cut_nan c.args.x (held c) (least c) (most c)
 
 pub sum_once-requires : goal.sum_once-requires
 sum_once-requires c = record {
-    t = c.requires.t;
-    served = served c;
-  }
+  t = c.requires.t;
+  served = served c;
+}
 
 pub returns : goal.returns
 returns c = let s = (goal.at.returns c).Start in c.sum_once.ensures ∙ ap (λ (v : Float). fused binary32 c.args.a v c.args.c) (is s)

@@ -15,7 +15,6 @@ use Rattle.rounding_laws.proofs.Decode.{finite_no_nan}
 use Rattle.rounding_laws.proofs.Fuse.{fused_zero}
 use Rattle.rounding_laws.proofs.Value.{zero_exp}
 use Rattle.rounding_laws.proofs.Wide.{parts_of_lem}
-use borrow.Author.Rules.{rules}
 use Rattle.phases.proofs.sum_at_zero.Goals as goal
 use Rattle.phases.proofs.sum_at_zero.Goals.{Start}
 

@@ -1,5 +1,4 @@
 -- `phases::sum_once` meets its contract: the sum is exact (`proofs/Once.antt`). Assumes nothing.
-use borrow.Author.Rules.{rules}
 use mathlib.Core.Path.{◌≡◌, refl, sym, ap, subst}
 use mathlib.Core.Logic.{◌⊎◌, inl, inr}
 use mathlib.Core.Bool.{not}

@@ -1,7 +1,6 @@
 -- `rounding::added` meets its contract: each way is a case of `rounding_laws`' Adding. Assumes nothing.
 use mathlib.Core.Path.{◌≡◌, sym, ap, ◌∙◌}
 use mathlib.Core.Bool.{Bool, true, false, cond}
-use mathlib.Core.Logic.{inl, inr}
 use Prim.Native.Nat.{ℕ, ◌+◌, ◌-◌, ◌*◌, ◌^◌, ◌≤◌}
 use native.Mathlib.Nat.{div-le_self}
 use native.Mathlib.Omega.{arith}
@@ -9,7 +8,6 @@ use lib.Dec.{eqb}
 use borrow.Author.Tests.{eq-eqb, ne_eqb}
 use Rattle.rounding_laws.specs.Stuck.{Added}
 use Rattle.rounding_laws.proofs.Adding.{added_like, added_below, added_above}
-use borrow.Author.Rules.{rules}
 use Rattle.rounding.proofs.added.Goals as goal
 use Rattle.rounding.proofs.added.Goals.{After-sticky-d, Joined-w, then-w, else-w}
 
@@ -18,8 +16,8 @@ ceiling : (k : Joined-w) → k.if-w.c ≡ cond k.cut-w-2.result.rest (k.cut-w-2.
 ceiling k =
     let q = k.cut-w-2.result.q in
     elim k.if-w.branch [
-      then-w h ↦ h.c-is ∙ sym (ap (λ (i : Bool). cond i (q + 1) q) h.if-w.true)
-    | else-w h ↦ h.c-is ∙ sym (ap (λ (i : Bool). cond i (q + 1) q) h.if-w.false)
+      | then-w h ↦ h.c-is ∙ sym (ap (λ (i : Bool). cond i (q + 1) q) h.if-w.true)
+      | else-w h ↦ h.c-is ∙ sym (ap (λ (i : Bool). cond i (q + 1) q) h.if-w.false)
     ]
 
 at_most : (b : Bool) (c q : ℕ) → c ≡ cond b (q + 1) q → c ≤ q + 1

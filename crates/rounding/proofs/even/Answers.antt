@@ -1,7 +1,6 @@
 -- `rounding::even` meets its contract. Assumes nothing.
 use native.Mathlib.Omega.{arith}
 use Rattle.rounding_laws.proofs.Cut.{even_nan}
-use borrow.Author.Rules.{rules}
 use Rattle.rounding.proofs.even.Goals as goal
 
 pub float_from_bits-result : goal.float_from_bits-result

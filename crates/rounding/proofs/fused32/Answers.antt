@@ -1,5 +1,4 @@
 -- `rounding::fused32` meets its contract: no operand is a NaN where they are widened. Assumes nothing.
-use borrow.Author.Rules.{rules}
 use mathlib.Core.Path.{◌≡◌, sym, subst}
 use mathlib.Core.Bool.{true, not, ◌&&◌}
 use lib.Dec.{T}
@@ -28,6 +27,6 @@ float_to_float-c c =
 
 pub fused_wide-requires : goal.fused_wide-requires
 fused_wide-requires c = record {
-    t = (subst T (sym c.well_formed.0.1) tt, subst T (sym c.well_formed.1.0.1) tt, subst T (sym c.well_formed.1.1.0.1) tt);
-    t_2 = (no_nan_eq c.args.a c.if-a.true, no_nan_eq c.args.b c.if-b.true, no_nan_eq c.args.c c.if-c.true);
-  }
+  t = (subst T (sym c.well_formed.0.1) tt, subst T (sym c.well_formed.1.0.1) tt, subst T (sym c.well_formed.1.1.0.1) tt);
+  t_2 = (no_nan_eq c.args.a c.if-a.true, no_nan_eq c.args.b c.if-b.true, no_nan_eq c.args.c c.if-c.true);
+}

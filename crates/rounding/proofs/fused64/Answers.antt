@@ -1,5 +1,4 @@
 -- `rounding::fused64` meets its contract: with an infinity or a NaN the plain operators give the result. Assumes nothing.
-use borrow.Author.Rules.{rules}
 use mathlib.Core.Path.{sym, ◌∙◌, subst}
 use native.Mathlib.Nat.{le_trans}
 use lib.Dec.{T, lit≤}

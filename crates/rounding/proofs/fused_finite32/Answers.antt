@@ -1,5 +1,4 @@
 -- `rounding::fused_finite32` meets its contract: the parts of the operands are their values. Assumes nothing.
-use borrow.Author.Rules.{rules}
 use mathlib.Core.Path.{refl, ◌∙◌}
 use Prim.Native.Nat.{◌+◌, ◌*◌, ◌^◌, ◌<◌}
 use native.Mathlib.Nat.{lt_of_lt_of_le, le_of_lt, pos_of_ne-zero}

@@ -1,5 +1,4 @@
 -- `rounding::fused_tie` meets its contract: where the sum is exact (`rounding_laws`' Exact), or as `fused_whole32` does. Assumes nothing.
-use borrow.Author.Rules.{rules}
 use mathlib.Core.Path.{◌≡◌, refl, sym, ◌∙◌, subst}
 use mathlib.Core.Logic.{◌⊎◌, inl, inr}
 use mathlib.Core.Bool.{not, ◌&&◌}

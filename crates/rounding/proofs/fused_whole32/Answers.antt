@@ -1,5 +1,4 @@
 -- `rounding::fused_whole32` meets its contract: with an operand that is no finite number the plain operators, or c itself, are right. Assumes nothing.
-use borrow.Author.Rules.{rules}
 use mathlib.Core.Path.{sym, ◌∙◌, subst}
 use lib.Dec.{T}
 use lib.Ieee.{binary32}

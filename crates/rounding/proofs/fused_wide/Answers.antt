@@ -1,5 +1,4 @@
 -- `rounding::fused_wide` meets its contract: by the pattern of the sum (`rounding_laws`' Wide), or as `fused_whole32` does. Assumes nothing.
-use borrow.Author.Rules.{rules}
 use mathlib.Core.Path.{◌≡◌, refl}
 use Prim.Native.Nat.{ℕ, ◌^◌, ◌<◌}
 use native.Mathlib.Omega.{arith}

@@ -8,7 +8,6 @@ use lib.Ieee.Bits.{to_bits-lt}
 use Rattle.rules.specs.Numbers.{narrowed}
 use Rattle.rounding_laws.specs.Cut.{even_cut}
 use Rattle.rounding_laws.proofs.Cut.{no_nan_eq, even_law, narrowed_fits, even_nan, cast_ok}
-use borrow.Author.Rules.{rules}
 use Rattle.rounding.proofs.narrow.Goals as goal
 use Rattle.rounding.proofs.narrow.Goals.{Start, Then-m-lt-HIGH}
 

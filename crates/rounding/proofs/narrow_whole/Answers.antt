@@ -10,7 +10,6 @@ use lib.Ieee.{Float, nan, inf, fin, binary32, binary64, lt, div, of_bits, nan_bi
 use lib.Ieee.Scale.{finite, round_same}
 use Rattle.rules.specs.Numbers.{narrowed}
 use Rattle.rounding_laws.proofs.Decode.{narrowed_value, moved}
-use borrow.Author.Rules.{rules}
 use Rattle.rounding.proofs.narrow_whole.Goals as goal
 use Rattle.rounding.proofs.narrow_whole.Goals.{After-finite64}
 

@@ -1,5 +1,4 @@
 -- `rounding::norm64` meets its contract: a shift to the left changes nothing. Assumes nothing.
-use borrow.Author.Rules.{rules}
 use mathlib.Core.Path.{◌∙◌}
 use mathlib.Core.Logic.{inl, inr}
 use Prim.Native.Nat.{◌*◌, ◌^◌, ◌≤◌, ◌<◌, zero-le}

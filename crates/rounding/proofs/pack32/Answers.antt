@@ -3,7 +3,6 @@ use mathlib.Core.Path.{ap, ◌∙◌}
 use Prim.Native.Nat.{ℕ, ◌+◌}
 use lib.Ieee.{binary32, of_bits}
 use Rattle.rounding_laws.proofs.At.{no_nan, pattern_lt}
-use borrow.Author.Rules.{rules}
 use Rattle.rounding.proofs.pack32.Goals as goal
 
 pub overflow_add-result : goal.overflow_add-result

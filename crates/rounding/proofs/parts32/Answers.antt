@@ -8,7 +8,6 @@ use lib.Ieee.{binary32, to_bits, fits}
 use Rattle.rounding_laws.specs.Parts.{Parted}
 use Rattle.rounding_laws.proofs.Decode.{finite_no_nan}
 use Rattle.rounding_laws.proofs.Parts.{parted_at}
-use borrow.Author.Rules.{rules}
 use Rattle.rounding.proofs.parts32.Goals as goal
 use Rattle.rounding.proofs.parts32.Goals.{Start}
 

@@ -5,7 +5,6 @@ use native.Mathlib.Nat.{le_refl}
 use native.Mathlib.Omega.{arith}
 use lib.Ieee.{binary32}
 use Rattle.rounding_laws.proofs.At.{shifted_le, packed_inf, packed_normal, packed_low, packed_none}
-use borrow.Author.Rules.{rules}
 use Rattle.rounding.proofs.pattern32.Goals as goal
 
 pub overflow_cast-result-then-e-ge896 : goal.overflow_cast-result-then-e-ge896

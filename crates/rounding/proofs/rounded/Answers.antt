@@ -6,7 +6,6 @@ use native.Mathlib.Omega.{arith}
 use lib.Pow.{pow_pos}
 use lib.Ieee.Nearest.{closest}
 use Rattle.rounding_laws.proofs.Closest.{one_shl, closest_below, closest_tie, closest_above}
-use borrow.Author.Rules.{rules}
 use Rattle.rounding.proofs.rounded.Goals as goal
 
 by : (d sh : ℕ) → 0 < sh → closest d (2 ^ sh) ≡ closest d (2 ^ suc (sh - 1))

@@ -2,7 +2,6 @@
 use mathlib.Core.Path.{sym, ap}
 use mathlib.Core.Bool.{Bool, cond}
 use Prim.Native.Nat.{◌+◌, ◌*◌, ◌/◌}
-use borrow.Author.Rules.{rules}
 use Rattle.rounding.proofs.sticky.Goals as goal
 
 pub returns-then-rest : goal.returns-then-rest

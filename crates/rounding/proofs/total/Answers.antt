@@ -1,5 +1,4 @@
 -- `rounding::total` meets its contract: the two shifts to the left lose nothing, and what `added` may cut is far off (`rounding_laws`' Sum). Assumes nothing.
-use borrow.Author.Rules.{rules}
 use mathlib.Core.Path.{◌≡◌, refl}
 use mathlib.Core.Bool.{Bool, true, false, beq}
 use Prim.Native.Nat.{ℕ, ◌+◌, ◌-◌, ◌*◌, ◌%◌, ◌^◌, ◌≤◌, ◌<◌}

@@ -1,5 +1,5 @@
 -- `samples::candidates_of` meets its contract. Assumes nothing.
-use Rattle.std.proofs.Common.{sym, ◌∙◌, arith, rules}
+use Rattle.std.proofs.Common.{sym, ◌∙◌, arith}
 use Rattle.laws.proofs.Order.{number_is}
 use Rattle.laws.proofs.Tests.{clash}
 use Rattle.samples.proofs.Beginning.{all, past, two}

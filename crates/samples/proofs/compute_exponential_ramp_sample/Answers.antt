@@ -1,5 +1,5 @@
 -- `samples::compute_exponential_ramp_sample` meets its contract. Assumes nothing.
-use Rattle.std.proofs.Common.{◌≡◌, ap, ◌∙◌, to_z-of_z, rules}
+use Rattle.std.proofs.Common.{ap, ◌∙◌, to_z-of_z}
 use lib.Ieee.{Float, binary64, of_int}
 use Rattle.samples.specs.At.{exponential_over}
 use Rattle.samples.proofs.Once.{exponential_over_lem}

@@ -1,5 +1,4 @@
 -- `samples::compute_set_target_sample` meets its contract. Assumes nothing.
-use Rattle.std.proofs.Common.{rules}
 use lib.Ieee.{of_bits}
 use Rattle.rules.specs.Samples.{phase_of}
 use Rattle.samples.specs.At.{target_at}

@@ -1,6 +1,6 @@
 -- `samples::compute_set_value_curve_sample` meets its contract. Assumes nothing.
-use Rattle.std.proofs.Common.{◌≡◌, ℕ, ◌+◌, ◌-◌, ◌^◌, ◌<◌, ◌≤◌, T, length, pos, refl, ◌∙◌, lt_of_lt_of_le, arith, lit≤, w64, to_z, rules, le-leb}
-use lib.Ieee.{in_float, binary64, of_int}
+use Rattle.std.proofs.Common.{◌≡◌, ℕ, ◌+◌, ◌-◌, ◌^◌, ◌<◌, ◌≤◌, T, length, pos, refl, ◌∙◌, lt_of_lt_of_le, arith, lit≤, w64, to_z, le-leb}
+use lib.Ieee.{in_float, binary64}
 use mir.Facts.{to_z_pos}
 use Rattle.rules.specs.Numbers.{wide}
 use Rattle.samples.proofs.Curve.{curve_ended, curve_full, inside, curve_between}

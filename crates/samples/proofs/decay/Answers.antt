@@ -1,5 +1,5 @@
 -- `samples::decay` meets its contract. Assumes nothing.
-use Rattle.std.proofs.Common.{◌∙◌, rules}
+use Rattle.std.proofs.Common.{◌∙◌}
 use lib.Ieee.{of_bits}
 use Rattle.samples.proofs.Fading.{decay_gone, steps_few, decay-left}
 use Rattle.samples.proofs.decay.Goals as goal

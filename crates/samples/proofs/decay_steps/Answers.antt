@@ -1,5 +1,5 @@
 -- `samples::decay_steps` meets its contract. Assumes nothing.
-use Rattle.std.proofs.Common.{◌∙◌, arith, rules}
+use Rattle.std.proofs.Common.{◌∙◌, arith}
 use Rattle.samples.proofs.Fading.{steps_norm}
 use Rattle.samples.proofs.decay_steps.Goals as goal
 

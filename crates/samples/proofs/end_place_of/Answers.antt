@@ -1,5 +1,4 @@
 -- `samples::end_place_of` meets its contract. Assumes nothing.
-use Rattle.std.proofs.Common.{rules}
 use Rattle.rules.specs.Numbers.{end_place}
 use Rattle.samples.proofs.end_place_of.Goals as goal
 

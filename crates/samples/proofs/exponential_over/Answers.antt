@@ -1,5 +1,5 @@
 -- `samples::exponential_over` meets its contract. Assumes nothing.
-use Rattle.std.proofs.Common.{◌≡◌, ◌∙◌, rules}
+use Rattle.std.proofs.Common.{◌≡◌, ◌∙◌}
 use lib.Ieee.{Float, mul, binary64}
 use Rattle.rules.specs.Numbers.{narrowed}
 use Rattle.rules.specs.Samples.{phase_of, factor_of}

@@ -1,5 +1,5 @@
 -- `exponential_value` meets its contract: with no length, and along the ramp; L, a signed number, is read back from its bits. Assumes nothing.
-use Rattle.std.proofs.Common.{ℤ, sym, ap, ◌∙◌, to_z-of_z, rules}
+use Rattle.std.proofs.Common.{ℤ, sym, ap, ◌∙◌, to_z-of_z}
 use lib.Ieee.{Float}
 use Rattle.laws.proofs.Ramps.{ramp_ended, ramp_along}
 use Rattle.samples.specs.At.{exponential_at}

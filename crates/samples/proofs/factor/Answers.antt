@@ -1,6 +1,6 @@
 -- `samples::factor` meets its contract. Assumes nothing.
-use Rattle.std.proofs.Common.{◌≡◌, ℕ, ◌^◌, T, pos, sym, refl, ap, ◌∙◌, subst, arith, rules, le-leb}
-use lib.Ieee.{Float, nan, ne, in_float, of_bits}
+use Rattle.std.proofs.Common.{◌≡◌, ℕ, ◌^◌, T, pos, sym, ap, ◌∙◌, subst, arith, le-leb}
+use lib.Ieee.{Float, nan, in_float, of_bits}
 use lib.Ieee.Compare.{differs_from_itself}
 use Rattle.rules.specs.Numbers.{wide}
 use Rattle.rules.specs.Samples.{power, factor_of}

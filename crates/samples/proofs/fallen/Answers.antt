@@ -1,7 +1,6 @@
 -- `samples::fallen` meets its contract. Assumes nothing.
-use Rattle.std.proofs.Common.{◌%◌, ◌∙◌, arith, rules}
+use Rattle.std.proofs.Common.{◌∙◌}
 use lib.Ieee.{of_bits}
-use Rattle.rules.specs.Kernels.{parts}
 use Rattle.samples.proofs.Powers.{far, near}
 use Rattle.samples.proofs.fallen.Goals as goal
 

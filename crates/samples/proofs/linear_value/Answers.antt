@@ -1,5 +1,5 @@
 -- `linear_value` meets its contract: with no length, and along the ramp. Assumes nothing.
-use Rattle.std.proofs.Common.{sym, ap, ◌∙◌, rules}
+use Rattle.std.proofs.Common.{sym, ap, ◌∙◌}
 use lib.Ieee.{Float}
 use Rattle.laws.proofs.Ramps.{linear_ended}
 use Rattle.samples.proofs.Once.{linear_along}

@@ -1,12 +1,11 @@
 -- `samples::ratio_log` meets its contract. Assumes nothing.
-use Rattle.std.proofs.Common.{◌≡◌, ℕ, suc, ◌+◌, ◌-◌, ◌*◌, ◌/◌, ◌%◌, ◌^◌, ◌<◌, ◌≤◌, Bool, true, false, not, T, ℤ, pos, negsuc, ◌-ℤ◌, sym, refl, ap, ◌∙◌, subst, arith, to_z-of_z, w64, SFits, to_z, of_z, rules, lt-ltb}
+use Rattle.std.proofs.Common.{◌≡◌, ℕ, ◌+◌, ◌*◌, ◌/◌, ◌%◌, ◌^◌, ◌<◌, true, not, T, pos, ◌-ℤ◌, sym, ◌∙◌, subst, arith, to_z-of_z, w64, SFits, to_z, of_z, lt-ltb}
 use mathlib.Core.Bool.{false≢true}
 use lib.IntN.{sub_ℕ}
-use lib.Ieee.{Float, nan, inf, fin, binary32, binary64, fits, is_nan, to_bits, of_bits}
+use lib.Ieee.{Float, nan, inf, fin, binary64, fits, is_nan, to_bits, of_bits}
 use lib.Ieee.Fits.{and_i, fits_widens}
 use Rattle.rules.specs.Numbers.{is_finite}
 use Rattle.rules.specs.Kernels.{parts, log}
-use Rattle.rules.specs.Samples.{ratio_log}
 use Rattle.kernels.proofs.Logs.{log_below}
 use Rattle.phases.proofs.Less.{sub_mag}
 use Rattle.samples.proofs.Ratio.{log_of, log_none, log_zero}

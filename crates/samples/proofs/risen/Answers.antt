@@ -1,7 +1,6 @@
 -- `samples::risen` meets its contract. Assumes nothing.
-use Rattle.std.proofs.Common.{◌-◌, ◌%◌, ◌∙◌, arith, rules}
+use Rattle.std.proofs.Common.{◌∙◌, arith}
 use lib.Ieee.{of_bits, nan_bits}
-use Rattle.rules.specs.Kernels.{parts}
 use Rattle.samples.proofs.Powers.{far_up, rise_whole, rise_part}
 use Rattle.samples.proofs.risen.Goals as goal
 

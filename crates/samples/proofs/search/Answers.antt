@@ -1,8 +1,7 @@
 -- `samples::search` meets its contract: the candidates hold the end place, and each test leaves at most half of them. The measure is how many tests can still come, so that the loop has no more turns than that, whatever is counted. Assumes nothing.
-use Rattle.std.proofs.Common.{◌+◌, ◌-◌, ◌≤◌, arith, rules}
+use Rattle.std.proofs.Common.{◌+◌, ◌-◌, ◌≤◌, arith}
 use lib.Ieee.{size}
 use lib.Ieee.Digits.{size-le}
-use Rattle.samples.specs.Search.{Among}
 use Rattle.samples.proofs.Halving.{found, lower, upper, fewer, next, few}
 use Rattle.samples.proofs.search.Goals as goal
 
@@ -28,8 +27,7 @@ loop-high-smaller-then-q-limit_of c = let l = c.loop-high in fewer (l.high - l.l
 
 pub loop-high-preserved-then-q-limit_of : goal.loop-high-preserved-then-q-limit_of
 loop-high-preserved-then-q-limit_of c =
-    let l = c.loop-high in
-    (
+    let l = c.loop-high in (
       lower c.args.q c.args.count c.requires l.low l.high l.invariant.0 _ (omega arith) (omega arith) (rw (← c.limit_of.ensures) c.if-q-limit_of.true),
       next _ l.tests (l.high - l.low) _ l.invariant.1 (omega arith) (omega arith),
     )
@@ -42,8 +40,7 @@ loop-high-smaller c = let l = c.loop-high in fewer (l.high - l.low) _ (omega ari
 
 pub loop-high-preserved : goal.loop-high-preserved
 loop-high-preserved c =
-    let l = c.loop-high in
-    (
+    let l = c.loop-high in (
       upper c.args.q c.args.count c.requires l.low l.high l.invariant.0 _ (omega arith) (omega arith) (rw (← c.limit_of.ensures) c.if-q-limit_of.false),
       next _ l.tests (l.high - l.low) _ l.invariant.1 (omega arith) (omega arith),
     )

@@ -1,9 +1,7 @@
 -- `samples::search` meets its contract: the candidates hold the end place, and each test leaves at most half of them. The measure is how many tests can still come, so that the loop has no more turns than that, whatever is counted. Assumes nothing.
-use Rattle.std.proofs.Common.{◌+◌, ◌-◌, ◌≤◌, arith, rules}
+use Rattle.std.proofs.Common.{◌+◌, ◌-◌, ◌≤◌}
 use lib.Ieee.{size}
-use lib.Ieee.Digits.{size-le}
 use Rattle.samples.specs.Search.{Among}
-use Rattle.samples.proofs.Halving.{found, lower, upper, fewer, next, few}
 use Rattle.samples.proofs.search.Given as goal
 
 abbrev pub invariant-loop-high : goal.invariant-loop-high

@@ -1,5 +1,5 @@
 -- `samples::whole` meets its contract: 2 ^ 33 of what the pattern shows are not x's. Assumes nothing.
-use Rattle.std.proofs.Common.{◌≡◌, ℕ, ◌-◌, ◌*◌, ◌/◌, ◌%◌, ◌^◌, ◌<◌, ◌≤◌, ◌∙◌, arith, rules}
+use Rattle.std.proofs.Common.{◌≡◌, ℕ, ◌-◌, ◌*◌, ◌/◌, ◌%◌, ◌^◌, ◌<◌, ◌≤◌, ◌∙◌, arith}
 use lib.Ieee.{of_bits}
 use Rattle.rounding_laws.proofs.Cut.{no_nan_eq}
 use Rattle.phases.proofs.Quick.{bits, lifts, whole_lifted}

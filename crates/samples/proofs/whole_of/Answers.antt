@@ -1,5 +1,5 @@
 -- `samples::whole_of` meets its contract. Assumes nothing.
-use Rattle.std.proofs.Common.{◌≡◌, T, sym, subst, rules}
+use Rattle.std.proofs.Common.{T, sym, subst}
 use lib.Ieee.{of_bits, neg}
 use Rattle.rules.specs.Numbers.{whole_part}
 use Rattle.samples.proofs.Cut.{past_end, under_zero}
@@ -8,9 +8,9 @@ use Rattle.samples.proofs.whole_of.Goals as goal
 pub truncating_f64_to_u64-requires : goal.truncating_f64_to_u64-requires
 unfolding of_bits neg
 truncating_f64_to_u64-requires c = record {
-    lower_bound = subst T (sym c.if-x.true) tt;
-    upper_bound = subst T (sym c.if-x-2.true) tt;
-  }
+  lower_bound = subst T (sym c.if-x.true) tt;
+  upper_bound = subst T (sym c.if-x-2.true) tt;
+}
 
 pub returns-then-x-2 : goal.returns-then-x-2
 unfolding whole_part

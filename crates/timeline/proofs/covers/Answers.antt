@@ -3,7 +3,6 @@ use mathlib.Core.Path.{sym, ap, ◌∙◌}
 use lib.Ieee.{Float}
 use Rattle.rules.specs.Queue.{is_inside}
 use Rattle.rules.specs.Queue as rule
-use borrow.Author.Rules.{rules}
 use Rattle.timeline.proofs.covers.Goals as goal
 
 pub returns-in-Step : goal.returns-in-Step

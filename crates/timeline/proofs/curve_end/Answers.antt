@@ -1,6 +1,5 @@
 -- `curve_end` meets its contract. Assumes nothing.
 use Rattle.rules.specs.Queue.{curve_end}
-use borrow.Author.Rules.{rules}
 use Rattle.timeline.proofs.curve_end.Goals as goal
 
 pub returns : goal.returns

@@ -1,7 +1,6 @@
 -- `filed_under` meets its contract, variant by variant. Assumes nothing.
 use mathlib.Core.Path.{sym, ap, ◌∙◌}
 use Rattle.rules.specs.Queue.{filed_under}
-use borrow.Author.Rules.{rules}
 use Rattle.timeline.proofs.filed_under.Goals as goal
 
 pub returns-in-Step : goal.returns-in-Step

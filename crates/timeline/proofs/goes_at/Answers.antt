@@ -1,6 +1,5 @@
 -- `goes_at` meets its contract. Assumes nothing.
 use Rattle.rules.specs.Queue.{goes_at}
-use borrow.Author.Rules.{rules}
 use Rattle.timeline.proofs.goes_at.Goals as goal
 
 pub returns : goal.returns

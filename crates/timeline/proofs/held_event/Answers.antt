@@ -1,7 +1,6 @@
 -- `held_event` meets its contract, variant by variant. Assumes nothing.
 use mathlib.Core.Path.{sym, ap}
 use Rattle.rules.specs.Queue.{held_event}
-use borrow.Author.Rules.{rules}
 use Rattle.timeline.proofs.held_event.Goals as goal
 
 pub returns-in-Step : goal.returns-in-Step

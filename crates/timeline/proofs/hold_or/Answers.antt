@@ -1,6 +1,5 @@
 -- `hold_or` meets its contract, variant by variant. Assumes nothing.
 use Rattle.rules.specs.Queue.{hold_or}
-use borrow.Author.Rules.{rules}
 use Rattle.timeline.proofs.hold_or.Goals as goal
 
 pub returns-in-Missing : goal.returns-in-Missing

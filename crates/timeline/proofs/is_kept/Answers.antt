@@ -3,7 +3,6 @@ use mathlib.Core.Path.{ap}
 use mathlib.Core.Bool.{not}
 use Rattle.rules.specs.Queue.{is_before, is_later, is_not_later}
 use Rattle.timeline.specs.Timeline.{is_kept}
-use borrow.Author.Rules.{rules}
 use Rattle.timeline.proofs.is_kept.Goals as goal
 
 pub returns-then-equal : goal.returns-then-equal

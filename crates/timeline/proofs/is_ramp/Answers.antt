@@ -1,7 +1,6 @@
 -- `is_ramp` meets its contract, variant by variant. Assumes nothing.
 use mathlib.Core.Path.{sym, ap}
 use Rattle.rules.specs.Queue.{is_ramp}
-use borrow.Author.Rules.{rules}
 use Rattle.timeline.proofs.is_ramp.Goals as goal
 
 pub returns-in-Step : goal.returns-in-Step

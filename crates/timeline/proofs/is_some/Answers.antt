@@ -1,6 +1,5 @@
 -- `is_some` meets its contract, variant by variant. Assumes nothing.
 use mathlib.Core.Path.{sym, ap}
-use borrow.Author.Rules.{rules}
 use Rattle.timeline.specs.Timeline.{is_some}
 use Rattle.timeline.proofs.is_some.Goals as goal
 

@@ -3,7 +3,6 @@ use mathlib.Core.Path.{sym, ap, ◌∙◌}
 use lib.Ieee as Ieee
 use lib.Ieee.{Float}
 use Rattle.rules.specs.Queue.{lasts_to}
-use borrow.Author.Rules.{rules}
 use Rattle.timeline.proofs.lasts_to.Goals as goal
 
 pub returns-in-Step : goal.returns-in-Step

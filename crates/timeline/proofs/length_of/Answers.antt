@@ -1,7 +1,6 @@
 -- `length_of` meets its contract, variant by variant. Assumes nothing.
 use mathlib.Core.Path.{sym, ap}
 use Rattle.rules.specs.Queue.{length_of}
-use borrow.Author.Rules.{rules}
 use Rattle.timeline.proofs.length_of.Goals as goal
 
 pub returns-in-Step : goal.returns-in-Step

@@ -1,7 +1,6 @@
 -- `runs_at` meets its contract, variant by variant. Assumes nothing.
 use mathlib.Core.Path.{sym, ap}
 use Rattle.rules.specs.Queue.{runs_at}
-use borrow.Author.Rules.{rules}
 use Rattle.timeline.proofs.runs_at.Goals as goal
 
 pub returns-in-Step : goal.returns-in-Step

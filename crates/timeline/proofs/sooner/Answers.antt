@@ -1,6 +1,5 @@
 -- `sooner` meets its contract, variant by variant. Assumes nothing.
 use Rattle.rules.specs.Queue.{sooner}
-use borrow.Author.Rules.{rules}
 use Rattle.timeline.proofs.sooner.Goals as goal
 
 pub returns-in-Missing : goal.returns-in-Missing

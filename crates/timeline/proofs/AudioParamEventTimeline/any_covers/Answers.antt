@@ -1,6 +1,5 @@
 -- `any_covers` meets its contract. Assumes nothing.
 use mathlib.Core.Path.{ap, ◌∙◌}
-use borrow.Author.Rules.{rules}
 use Rattle.rules.specs.Queue.{covers, any_covers}
 use Rattle.timeline.specs.Timeline.{waiting, is_some}
 use Rattle.timeline.proofs.Steps.{any_first}

@@ -1,10 +1,9 @@
 -- `covering` meets its contract: the time lies inside none of the first i. Assumes nothing.
 use mathlib.Core.Path.{◌≡◌, refl, sym, ◌∙◌}
-use Prim.Native.Nat.{◌-◌, ◌≤◌}
 use native.Mathlib.Omega.{arith}
-use lib.ListN.{length, drop}
-use Rattle.rules.specs.Queue.{covers, those}
-use Rattle.timeline.specs.Timeline.{waiting, first_of}
+use lib.ListN.{length}
+use Rattle.rules.specs.Queue.{covers}
+use Rattle.timeline.specs.Timeline.{waiting}
 use Rattle.timeline.proofs.Laws.{count}
 use Rattle.timeline.proofs.Steps.{first_here, first_behind, first_none}
 use Rattle.timeline.proofs.AudioParamEventTimeline.covering.Goals as goal

@@ -1,12 +1,9 @@
 -- `covering` meets its contract: the time lies inside none of the first i. Assumes nothing.
-use mathlib.Core.Path.{◌≡◌, refl, sym, ◌∙◌}
+use mathlib.Core.Path.{◌≡◌}
 use Prim.Native.Nat.{◌-◌, ◌≤◌}
-use native.Mathlib.Omega.{arith}
-use lib.ListN.{length, drop}
+use lib.ListN.{drop}
 use Rattle.rules.specs.Queue.{covers, those}
 use Rattle.timeline.specs.Timeline.{waiting, first_of}
-use Rattle.timeline.proofs.Laws.{count}
-use Rattle.timeline.proofs.Steps.{first_here, first_behind, first_none}
 use Rattle.timeline.proofs.AudioParamEventTimeline.covering.Given as goal
 
 abbrev pub invariant-loop-i : goal.invariant-loop-i

@@ -1,9 +1,9 @@
 -- `drop_heads` meets its contract: the slots made so far hold the events from n up to i. Assumes nothing.
-use Prim.Native.Nat.{◌+◌, ◌-◌, ◌≤◌, ◌<◌}
+use Prim.Native.Nat.{◌≤◌, ◌<◌}
 use native.Mathlib.Omega.{arith}
-use lib.Seq.{slice, slice_empty}
+use lib.Seq.{slice_empty}
 use Rattle.timeline.specs.Timeline.{waiting}
-use Rattle.timeline.proofs.Laws.{Filled, filled_none, filled_more, filled-same, filled-made, slot_holds}
+use Rattle.timeline.proofs.Laws.{filled_none, filled_more, filled-same, filled-made, slot_holds}
 use Rattle.timeline.proofs.Steps.{behind_more, behind-all}
 use Rattle.timeline.proofs.AudioParamEventTimeline.drop_heads.Goals as goal
 

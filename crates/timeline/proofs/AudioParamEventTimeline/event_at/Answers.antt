@@ -5,7 +5,6 @@ use lib.ListN.{length}
 use Rattle.timeline.specs.Timeline.{waiting}
 use Rattle.timeline.proofs.Laws.{count}
 use Rattle.timeline.proofs.Steps.{none_there, slot_there}
-use borrow.Author.Rules.{rules}
 use Rattle.timeline.proofs.AudioParamEventTimeline.event_at.Goals as goal
 
 pub returns-then-n-i : goal.returns-then-n-i

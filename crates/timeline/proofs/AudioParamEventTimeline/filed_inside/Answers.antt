@@ -1,13 +1,12 @@
 -- `filed_inside` meets its contract: none of the first i is filed inside. Assumes nothing.
 use mathlib.Core.Path.{◌≡◌, refl, sym, ap, ◌∙◌}
 use mathlib.Core.Bool.{Bool}
-use Prim.Native.Nat.{◌-◌, ◌≤◌}
 use native.Mathlib.Omega.{arith}
-use lib.ListN.{length, drop}
+use lib.ListN.{length}
 use lib.Ieee.{Float}
 use Rattle.rules.specs.declared.Event.{Event}
-use Rattle.rules.specs.Queue.{filed_under, is_inside, is_filed_inside, those}
-use Rattle.timeline.specs.Timeline.{waiting, first_of}
+use Rattle.rules.specs.Queue.{filed_under, is_inside, is_filed_inside}
+use Rattle.timeline.specs.Timeline.{waiting}
 use Rattle.timeline.proofs.Laws.{count}
 use Rattle.timeline.proofs.Steps.{first_here, first_behind, first_none}
 use Rattle.timeline.proofs.AudioParamEventTimeline.filed_inside.Goals as goal

@@ -1,15 +1,9 @@
 -- `filed_inside` meets its contract: none of the first i is filed inside. Assumes nothing.
-use mathlib.Core.Path.{◌≡◌, refl, sym, ap, ◌∙◌}
-use mathlib.Core.Bool.{Bool}
+use mathlib.Core.Path.{◌≡◌}
 use Prim.Native.Nat.{◌-◌, ◌≤◌}
-use native.Mathlib.Omega.{arith}
-use lib.ListN.{length, drop}
-use lib.Ieee.{Float}
-use Rattle.rules.specs.declared.Event.{Event}
-use Rattle.rules.specs.Queue.{filed_under, is_inside, is_filed_inside, those}
+use lib.ListN.{drop}
+use Rattle.rules.specs.Queue.{is_filed_inside, those}
 use Rattle.timeline.specs.Timeline.{waiting, first_of}
-use Rattle.timeline.proofs.Laws.{count}
-use Rattle.timeline.proofs.Steps.{first_here, first_behind, first_none}
 use Rattle.timeline.proofs.AudioParamEventTimeline.filed_inside.Given as goal
 
 abbrev pub invariant-loop-i : goal.invariant-loop-i

@@ -1,17 +1,10 @@
 -- `first_later` meets its contract: none of the first i is later than c. Assumes nothing.
-use mathlib.Core.Path.{◌≡◌, refl, sym, ap, ◌∙◌}
-use mathlib.Core.Bool.{Bool}
+use mathlib.Core.Path.{◌≡◌}
 use Prim.Native.Nat.{◌-◌, ◌≤◌}
-use native.Mathlib.Omega.{arith}
-use lib.ListN.{length, drop}
-use lib.Ieee as Ieee
-use lib.Ieee.{Float}
-use Rattle.rules.specs.declared.Event.{Event}
-use Rattle.rules.specs.Queue.{filed_under, those}
+use lib.ListN.{drop}
+use Rattle.rules.specs.Queue.{those}
 use Rattle.laws.specs.Search.{is_later_than}
 use Rattle.timeline.specs.Timeline.{waiting, first_of}
-use Rattle.timeline.proofs.Laws.{count}
-use Rattle.timeline.proofs.Steps.{first_here, first_behind, first_none}
 use Rattle.timeline.proofs.AudioParamEventTimeline.first_later.Given as goal
 
 abbrev pub invariant-loop-i : goal.invariant-loop-i

@@ -6,12 +6,10 @@ use lib.ListN.{length, get_or}
 use lib.Seq.{set_out, set-get_or}
 use Rattle.rules.specs.declared.Event.{Event}
 use Rattle.rules.specs.declared.Head.{Head}
-use Rattle.rules.specs.declared.Head.TheVariants as Head
 use Rattle.timeline.specs.declared.AudioParamEvent.{AudioParamEvent}
 use Rattle.timeline.specs.declared.AudioParamEventTimeline.{AudioParamEventTimeline}
 use Rattle.timeline.specs.Timeline.{made, waiting, Neat, head_as, beginning}
 use Rattle.timeline.proofs.Laws.{count, replaced}
-use borrow.Author.Rules.{rules}
 use Rattle.timeline.proofs.AudioParamEventTimeline.first_slot.Goals as goal
 
 -- the slot as it was

@@ -13,7 +13,6 @@ use Rattle.timeline.specs.Timeline.{Neat, made, waiting, stays}
 use Rattle.timeline.proofs.Lists.{those-length}
 use Rattle.timeline.proofs.Laws.{count, neat_of, waits_of}
 use Rattle.timeline.proofs.Held.{held_none, held_other, held_ramp, early_fewer}
-use borrow.Author.Rules.{rules}
 use Rattle.timeline.proofs.AudioParamEventTimeline.hold.Goals as goal
 
 module _ (c : Float) (q : AudioParamEventTimeline) where

@@ -8,7 +8,6 @@ use Rattle.timeline.specs.declared.AudioParamEvent.{AudioParamEvent}
 use Rattle.timeline.specs.Timeline.{slot_of, made, waiting}
 use Rattle.timeline.proofs.Laws.{nothing, count, slot_holds, replaced}
 use Rattle.timeline.proofs.Held.{none_held, last_runs, last_rests}
-use borrow.Author.Rules.{rules}
 use Rattle.timeline.proofs.AudioParamEventTimeline.hold_last.Goals as goal
 
 pub returns-then-n-eq0 : goal.returns-then-n-eq0

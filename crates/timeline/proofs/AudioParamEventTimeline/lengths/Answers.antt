@@ -6,7 +6,6 @@ use lib.Seq.{take_all}
 use Rattle.rules.specs.Queue.{lengths_of}
 use Rattle.timeline.specs.Timeline.{waiting}
 use Rattle.timeline.proofs.Laws.{count}
-use borrow.Author.Rules.{rules}
 use Rattle.timeline.proofs.AudioParamEventTimeline.lengths.Goals as goal
 
 pub returns : goal.returns

@@ -1,6 +1,5 @@
 -- `new` meets its contract: all slots are blank. Assumes nothing.
 use Rattle.timeline.proofs.Laws.{filled_none, filled-made}
-use borrow.Author.Rules.{rules}
 use Rattle.timeline.proofs.AudioParamEventTimeline.new.Goals as goal
 
 pub returns : goal.returns

@@ -1,12 +1,9 @@
 -- `offset_of` meets its contract: the offset so far is the length of the first i. Assumes nothing.
-use mathlib.Core.Path.{◌≡◌, refl, sym, ap, ◌∙◌}
-use Prim.Native.Nat.{ℕ, ◌+◌, ◌-◌, ◌≤◌}
-use native.Mathlib.Omega.{arith}
-use lib.ListN.{length, take}
-use lib.Seq.{take_all}
+use mathlib.Core.Path.{◌≡◌}
+use Prim.Native.Nat.{◌-◌, ◌≤◌}
+use lib.ListN.{take}
 use Rattle.rules.specs.Queue.{lengths_of}
 use Rattle.timeline.specs.Timeline.{waiting}
-use Rattle.timeline.proofs.Laws.{count, offset_more, offset_most}
 use Rattle.timeline.proofs.AudioParamEventTimeline.offset_of.Given as goal
 
 abbrev pub invariant-loop-i : goal.invariant-loop-i

@@ -1,13 +1,9 @@
 -- `place_behind` meets its contract: behind i every event is later, so the place is that among the first i. Assumes nothing.
-use mathlib.Core.Path.{◌≡◌, sym, ap, ◌∙◌}
-use Prim.Native.Nat.{ℕ, ◌-◌, ◌≤◌}
-use native.Mathlib.Omega.{arith}
-use lib.ListN.{length, take}
-use lib.Seq.{take_all}
+use mathlib.Core.Path.{◌≡◌}
+use Prim.Native.Nat.{◌≤◌}
+use lib.ListN.{take}
 use Rattle.rules.specs.Queue.{place_behind}
 use Rattle.timeline.specs.Timeline.{waiting}
-use Rattle.timeline.proofs.Laws.{count}
-use Rattle.timeline.proofs.Steps.{place_here, place_before}
 use Rattle.timeline.proofs.AudioParamEventTimeline.place_behind.Given as goal
 
 abbrev pub invariant-loop-i : goal.invariant-loop-i

@@ -8,7 +8,6 @@ use Rattle.rules.specs.Queue.{filed_under, place_behind, put_at, arrived}
 use Rattle.timeline.specs.Timeline.{made, waiting}
 use Rattle.timeline.proofs.Laws.{count}
 use Rattle.timeline.proofs.Steps.{place_within}
-use borrow.Author.Rules.{rules}
 use Rattle.timeline.proofs.AudioParamEventTimeline.push.Goals as goal
 
 pub put_at-requires : goal.put_at-requires

@@ -1,10 +1,8 @@
 -- `put_at` meets its contract: up to i the slots are those of the queue with the new event in, and behind i the old ones. Assumes nothing.
 use mathlib.Core.Path.{◌≡◌, sym}
-use mathlib.Core.List.{◌++◌}
-use Prim.Native.Nat.{◌+◌, ◌-◌, ◌≤◌, ◌<◌}
+use Prim.Native.Nat.{◌≤◌, ◌<◌}
 use native.Mathlib.Omega.{arith}
-use lib.ListN.{length, take, drop, get_or}
-use Rattle.rules.specs.Queue.{put_at}
+use lib.ListN.{length}
 use Rattle.timeline.specs.Timeline.{slot_of}
 use Rattle.timeline.proofs.Lists.{put_first, put_none}
 use Rattle.timeline.proofs.Laws.{nothing, full, filled-made}

@@ -1,14 +1,11 @@
 -- `put_at` meets its contract: up to i the slots are those of the queue with the new event in, and behind i the old ones. Assumes nothing.
-use mathlib.Core.Path.{◌≡◌, sym}
+use mathlib.Core.Path.{◌≡◌}
 use mathlib.Core.List.{◌++◌}
-use Prim.Native.Nat.{◌+◌, ◌-◌, ◌≤◌, ◌<◌}
-use native.Mathlib.Omega.{arith}
-use lib.ListN.{length, take, drop, get_or}
+use Prim.Native.Nat.{◌+◌, ◌-◌, ◌≤◌}
+use lib.ListN.{take, drop, get_or}
 use Rattle.rules.specs.Queue.{put_at}
 use Rattle.timeline.specs.Timeline.{slot_of}
-use Rattle.timeline.proofs.Lists.{put_first, put_none}
-use Rattle.timeline.proofs.Laws.{nothing, full, filled-made}
-use Rattle.timeline.proofs.Steps.{put-turn, put_carry, put_end}
+use Rattle.timeline.proofs.Laws.{nothing}
 use Rattle.timeline.proofs.AudioParamEventTimeline.put_at.Given as goal
 
 abbrev pub invariant-loop-i : goal.invariant-loop-i

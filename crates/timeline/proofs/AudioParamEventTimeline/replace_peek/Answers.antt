@@ -1,5 +1,4 @@
 -- `replace_peek` meets its contract. Assumes nothing.
-use borrow.Author.Rules.{rules}
 use Rattle.timeline.proofs.AudioParamEventTimeline.replace_peek.Goals as goal
 
 pub returns : goal.returns

@@ -1,13 +1,11 @@
 -- `retain` meets its contract: the slots made so far hold what the cut leaves of the first i. Assumes nothing.
 use mathlib.Core.Path.{sym, ap, ◌∙◌}
-use Prim.Native.Nat.{◌-◌, ◌≤◌, ◌<◌}
+use Prim.Native.Nat.{◌≤◌, ◌<◌}
 use native.Mathlib.Omega.{arith}
-use lib.ListN.{take}
-use mathlib.Core.Logic.{⊎_elim}
 use Rattle.rules.specs.Queue.{those}
 use Rattle.timeline.specs.declared.AudioParamEvent.{AudioParamEvent}
-use Rattle.timeline.specs.Timeline.{waiting, stays}
-use Rattle.timeline.proofs.Laws.{Filled, filled_none, filled_more, filled-same, filled-made, slot_holds}
+use Rattle.timeline.specs.Timeline.{stays}
+use Rattle.timeline.proofs.Laws.{filled_none, filled_more, filled-same, filled-made, slot_holds}
 use Rattle.timeline.proofs.Steps.{kept_one, kept_none, kept-all}
 use Rattle.timeline.proofs.AudioParamEventTimeline.retain.Goals as goal
 use Rattle.timeline.proofs.AudioParamEventTimeline.retain.Goals.{then-is_kept, else-is_kept}
@@ -47,12 +45,12 @@ loop-i-preserved c =
     let s = slot_holds q c.requires l.i b in
     let k = c.is_kept.ensures ∙ ap (λ (x : AudioParamEvent). stays a.equal a.c x.event) s in
     elim c.if-is_kept.branch [
-      then-is_kept w ↦
-        let f = filled_more l.invariant.2 (omega arith) s (kept_one a.equal a.c q c.requires l.i b (sym k ∙ w.if-is_kept.true)) in
-        (omega arith, omega (arith, w.kept-is), rw (w.out-is, w.kept-is) f)
-    | else-is_kept w ↦
-        let f = filled-same l.invariant.2 (kept_none a.equal a.c q c.requires l.i b (sym k ∙ w.if-is_kept.false)) in
-        (omega arith, omega (arith, w.kept-is), rw (w.out-is, w.kept-is) f)
+      | then-is_kept w ↦
+          let f = filled_more l.invariant.2 (omega arith) s (kept_one a.equal a.c q c.requires l.i b (sym k ∙ w.if-is_kept.true)) in
+          (omega arith, omega (arith, w.kept-is), rw (w.out-is, w.kept-is) f)
+      | else-is_kept w ↦
+          let f = filled-same l.invariant.2 (kept_none a.equal a.c q c.requires l.i b (sym k ∙ w.if-is_kept.false)) in
+          (omega arith, omega (arith, w.kept-is), rw (w.out-is, w.kept-is) f)
     ]
 
 pub returns : goal.returns

@@ -1,14 +1,9 @@
 -- `retain` meets its contract: the slots made so far hold what the cut leaves of the first i. Assumes nothing.
-use mathlib.Core.Path.{sym, ap, ◌∙◌}
-use Prim.Native.Nat.{◌-◌, ◌≤◌, ◌<◌}
-use native.Mathlib.Omega.{arith}
+use Prim.Native.Nat.{◌-◌, ◌≤◌}
 use lib.ListN.{take}
-use mathlib.Core.Logic.{⊎_elim}
 use Rattle.rules.specs.Queue.{those}
-use Rattle.timeline.specs.declared.AudioParamEvent.{AudioParamEvent}
 use Rattle.timeline.specs.Timeline.{waiting, stays}
-use Rattle.timeline.proofs.Laws.{Filled, filled_none, filled_more, filled-same, filled-made, slot_holds}
-use Rattle.timeline.proofs.Steps.{kept_one, kept_none, kept-all}
+use Rattle.timeline.proofs.Laws.{Filled}
 use Rattle.timeline.proofs.AudioParamEventTimeline.retain.Given as goal
 
 abbrev pub invariant-loop-i : goal.invariant-loop-i
