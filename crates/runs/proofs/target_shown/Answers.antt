@@ -72,7 +72,7 @@ faded_by-requires c =
   }
 
 pub returns-then-exact : goal.returns-then-exact
-returns-then-exact c = λ t. let z = (goal.at.returns-then-exact c).After-settle in samples z c.faded_by.new.out c.faded_by.auto.0 c.faded_by.ensures
+returns-then-exact c = λ t. let z = (goal.at.returns-then-exact c).After-settle in samples z c.faded_by.new.out c.faded_by.auto.out c.faded_by.ensures
 
 pub faded_wide-requires : goal.faded_wide-requires
 faded_wide-requires c =
@@ -84,4 +84,4 @@ faded_wide-requires c =
   }
 
 pub returns : goal.returns
-returns c = λ t. let z = (goal.at.returns c).After-settle in samples z c.faded_wide.new.out c.faded_wide.auto.0 c.faded_wide.ensures
+returns c = λ t. let z = (goal.at.returns c).After-settle in samples z c.faded_wide.new.out c.faded_wide.auto.out c.faded_wide.ensures
