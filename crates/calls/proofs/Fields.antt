@@ -1,7 +1,7 @@
 -- A field of a call: what the code's answer makes of the definition, whatever goes on behind it. Assumes nothing.
-use mathlib.Core.Path.{◌≡◌, refl, sym, ap, ◌∙◌, subst}
-use mathlib.Core.Bool.{Bool, true, false, cond}
-use mathlib.Core.List.{List, [], ◌∷◌}
+use mathlib.Core.Path.{◌≡◌, sym, ap, ◌∙◌}
+use mathlib.Core.Bool.{Bool, true, false}
+use mathlib.Core.List.{List}
 use mathlib.Core.Option.{Option, none, some}
 use Prim.Native.Nat.{ℕ, ◌<◌}
 use native.Mathlib.Omega.{arith}
@@ -12,14 +12,10 @@ use Rattle.text.specs.Floats.{float_in}
 use Rattle.text.specs.Hex.{Sized, bytes_up_to, bytes_at}
 use Rattle.text.specs.Words.{Word, words_from, taken, is_over, count_in, count_at, single_at, double_at}
 use Rattle.text.specs.declared.words.NextCount.{NextCount}
-use Rattle.text.specs.declared.words.NextCount.TheVariants as NextCount
 use Rattle.text.specs.declared.words.NextSingle.{NextSingle}
-use Rattle.text.specs.declared.words.NextSingle.TheVariants as NextSingle
 use Rattle.text.specs.declared.words.NextDouble.{NextDouble}
-use Rattle.text.specs.declared.words.NextDouble.TheVariants as NextDouble
 use Rattle.rules.specs.declared.AutomationRate.{AutomationRate}
 use Rattle.calls.specs.declared.NextRate.{NextRate}
-use Rattle.calls.specs.declared.NextRate.TheVariants as NextRate
 use Rattle.calls.specs.Language.{with_taken, with_single, with_double, with_count, with_part, ending, rate_in, rate_at, edition_taken}
 
 module _ {B : Type 0} where

@@ -12,16 +12,11 @@ use lib.Ieee.{Float, binary32}
 use Rattle.text.specs.Floats.{float_in}
 use Rattle.text.specs.Words.{Word, words_from, taken, count_in, count_at, single_at}
 use Rattle.text.specs.declared.words.NextSingle.{NextSingle}
-use Rattle.text.specs.declared.words.NextSingle.TheVariants as NextSingle
 use Rattle.text.specs.declared.words.NextCount.{NextCount}
-use Rattle.text.specs.declared.words.NextCount.TheVariants as NextCount
 use Rattle.text.proofs.Splitting.{count_below}
 use Rattle.calls.specs.declared.Call.{Call}
-use Rattle.calls.specs.declared.Call.TheVariants as Call
 use Rattle.calls.specs.declared.NextNumbers.{NextNumbers}
-use Rattle.calls.specs.declared.NextNumbers.TheVariants as NextNumbers
 use Rattle.calls.specs.declared.NextCounted.{NextCounted}
-use Rattle.calls.specs.declared.NextCounted.TheVariants as NextCounted
 use Rattle.calls.specs.Language.{with_taken, with_count, and_more, singles, counted, numbers_at, counted_at, Said, bare, heard, Heard}
 use Rattle.calls.proofs.Fields.{is_taken_lem, not_taken, single_is, single_not}
 

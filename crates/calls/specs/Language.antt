@@ -1,5 +1,5 @@
 -- The session language, line by line: its page's table as definitions. `none` is a line that is none of these: `unread`.
-use Rattle.std.specs.Prelude.{◌≡◌, Bool, cond, List, [], ◌∷◌, ℕ, zero, suc, ◌-◌, ◌^◌, ltb, eqb, length, take, Float}
+use Rattle.std.specs.Prelude.{◌≡◌, cond, List, [], ◌∷◌, ℕ, zero, suc, ◌-◌, ◌^◌, ltb, eqb, length, take, Float}
 use Rattle.std.proofs.Math.Option.{Option, none, some}
 use Rattle.std.specs.Float.{binary32, binary64}
 use Rattle.rules.specs.declared.AutomationRate.{AutomationRate}
@@ -8,19 +8,12 @@ use Rattle.text.specs.Floats.{float_in}
 use Rattle.text.specs.Hex.{bytes_up_to}
 use Rattle.text.specs.Words.{Word, same_word, words_of, words_from, taken, is_over, count_in}
 use Rattle.calls.specs.declared.Call.{Call}
-use Rattle.calls.specs.declared.Call.TheVariants as Call
 use Rattle.calls.specs.declared.Timed.{Timed}
-use Rattle.calls.specs.declared.Timed.TheVariants as Timed
 use Rattle.calls.specs.declared.Cancelling.{Cancelling}
-use Rattle.calls.specs.declared.Cancelling.TheVariants as Cancelling
 use Rattle.calls.specs.declared.Renderer.{Renderer}
-use Rattle.calls.specs.declared.Renderer.TheVariants as Renderer
 use Rattle.calls.specs.declared.NextRate.{NextRate}
-use Rattle.calls.specs.declared.NextRate.TheVariants as NextRate
 use Rattle.calls.specs.declared.NextNumbers.{NextNumbers}
-use Rattle.calls.specs.declared.NextNumbers.TheVariants as NextNumbers
 use Rattle.calls.specs.declared.NextCounted.{NextCounted}
-use Rattle.calls.specs.declared.NextCounted.TheVariants as NextCounted
 
 -- ---- fields: each is taken off the words, and what is behind it goes on with the rest
 

@@ -4,7 +4,7 @@ use mathlib.Core.Option.{none, some}
 use Prim.Native.String.{String}
 use lib.Ieee.{Float, nan, inf, fin, Format, binary32, binary64, round, of_bits, to_bits}
 use Rattle.rules.specs.Numbers.{narrowed}
-use Rattle.scan.specs.Bytes.{index_of}
+use Rattle.scan.specs.Bytes.{index_of, index_after}
 use Rattle.text.specs.Digits.{digit_of, are_digits, value_from, number_from, number_in, bits_in, glyph_of, digits_of, places_of, decimal_of}
 use Rattle.text.specs.Floats.{float_of, float_in, float_text}
 use Rattle.text.specs.Words.{same_word, up_to, count_in}
@@ -31,11 +31,11 @@ pub examples_read :
     × Reads binary64 "NaN" nan
     × Reads binary64 "-inf" (inf true)
     × Reads binary32 "x3f800000" (fin false 1 (pos 0))
-unfolding plain_in held named_in decimal_in unsigned_in scaled scaled_by tens_in tens_of digits_in fraction_digits whole_digits digits_part before behind_sign sign_length is_minus same_word float_in float_of bits_in count_in up_to number_in number_from are_digits value_from digit_of index_of narrowed round of_bits
+unfolding plain_in held named_in decimal_in unsigned_in scaled scaled_by tens_in tens_of digits_in fraction_digits whole_digits digits_part before behind_sign sign_length is_minus same_word float_in float_of bits_in count_in up_to number_in number_from are_digits value_from digit_of index_of index_after narrowed round of_bits
 examples_read = (refl, refl, refl, refl, refl, refl, refl, refl, refl, refl)
 
 pub examples_refused : Refuses "1e23" × Refuses "1e-40" × Refuses "9007199254740993" × Refuses "." × Refuses "1e" × Refuses "0x1" × Refuses "--1" × Refuses "x3f800000"
-unfolding plain_in held named_in decimal_in unsigned_in scaled scaled_by tens_in tens_of digits_in fraction_digits whole_digits digits_part before behind_sign sign_length is_minus same_word float_in float_of bits_in count_in up_to number_in number_from are_digits value_from digit_of index_of
+unfolding plain_in held named_in decimal_in unsigned_in scaled scaled_by tens_in tens_of digits_in fraction_digits whole_digits digits_part before behind_sign sign_length is_minus same_word float_in float_of bits_in count_in up_to number_in number_from are_digits value_from digit_of index_of index_after
 examples_refused = (refl, refl, refl, refl, refl, refl, refl, refl)
 
 -- ---- written

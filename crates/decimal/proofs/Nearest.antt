@@ -1,5 +1,5 @@
 -- What is read of a decimal is the f64 nearest to it, ties to even (`Nearest` in `rounding_laws`): the digits and the tens as they are written. Assumes nothing.
-use Rattle.std.proofs.Common.{◌≡◌, ℕ, ◌+◌, ◌*◌, ◌^◌, Bool, true, false, cond, ◌&&◌, leb, refl, subst, arith}
+use Rattle.std.proofs.Common.{◌≡◌, ℕ, ◌+◌, ◌*◌, ◌^◌, Bool, true, false, cond, ◌&&◌, leb, subst, arith}
 use mathlib.Core.Option.{none, some}
 use lib.Ieee.{Float, binary64, round}
 use Rattle.rounding_laws.specs.Nearest.{Exact, Nearest}

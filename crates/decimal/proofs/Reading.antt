@@ -12,7 +12,6 @@ use Rattle.text.specs.Words.{up_to, count_in}
 use Rattle.text.proofs.Reading.{grows, at_least_one}
 use Rattle.text.proofs.Back.{digits_append, value_append}
 use Rattle.decimal.specs.declared.read.Tens.{Tens}
-use Rattle.decimal.specs.declared.read.Tens.TheVariants as Tens
 use Rattle.decimal.specs.Decimals.{is_minus, sign_length, behind_sign, before, digits_part, whole_digits, fraction_digits, digits_in, tens_of, tens_in, scaled, unsigned_in, decimal_in, named_in, held, plain_in}
 
 -- ---- the sign: whether it is a minus, its length, and that it is within the word

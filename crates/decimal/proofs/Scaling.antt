@@ -1,5 +1,5 @@
 -- Powers of ten as f64s, and a whole number multiplied or divided by one: up to 10 ^ 22 each is exact, so there is one rounding. Assumes nothing.
-use Rattle.std.proofs.Common.{◌≡◌, ℕ, zero, suc, ◌+◌, ◌-◌, ◌*◌, ◌^◌, ◌<◌, ◌≤◌, Bool, true, false, cond, pos, sym, refl, ap, ◌∙◌, subst, true≢false, lt_of_lt_of_le, lt_of_le_of_lt, mul_assoc, mul_comm, mul-pos, pow-suc, zero-mul, mul-one, add-one, arith, lit<, pow_mono, pow-add, shl_lt, ne_eqb, le-leb}
+use Rattle.std.proofs.Common.{◌≡◌, ℕ, zero, suc, ◌+◌, ◌-◌, ◌*◌, ◌^◌, ◌<◌, ◌≤◌, Bool, true, false, pos, sym, refl, ap, ◌∙◌, true≢false, lt_of_lt_of_le, lt_of_le_of_lt, mul_assoc, mul_comm, mul-pos, pow-suc, zero-mul, mul-one, add-one, arith, lit<, pow_mono, pow-add, shl_lt, ne_eqb, le-leb}
 use mathlib.Core.Option.{none, some}
 use native.Mathlib.Nat.{mul-mul-mul_comm, pow-le-pow_right, one-le-pow}
 use lib.Ieee.{Float, nan, inf, fin, Format, binary64, up, down, unlike, round, mul, div, neg, of_int}

@@ -1,15 +1,11 @@
 -- The text of a float: its places behind the point, and how long it is. Assumes nothing.
-use Rattle.std.proofs.Common.{◌≡◌, ℕ, zero, suc, ◌+◌, ◌-◌, ◌/◌, ◌%◌, ◌<◌, ◌≤◌, Bool, true, false, cond, eqb, List, [], ◌∷◌, ◌++◌, length, sym, refl, ap, ◌∙◌, subst, add-zero, arith, length-append, eq-eqb, ne_eqb}
-use types.Run.{OneOf, miss}
-use denote.Enum.Declared.{tag_of}
+use Rattle.std.proofs.Common.{◌≡◌, ℕ, zero, suc, ◌-◌, ◌/◌, ◌%◌, ◌<◌, ◌≤◌, Bool, true, false, cond, eqb, List, [], ◌∷◌, ◌++◌, length, sym, refl, subst, add-zero, arith, length-append, eq-eqb, ne_eqb}
 use lib.Ieee.{Float, Format, binary32, binary64}
 use Rattle.text.specs.Digits.{digits_of, decimal_of}
 use Rattle.text.specs.Floats.{float_text}
 use Rattle.text.specs.Put.{Put}
 use Rattle.text.proofs.Writing.{put_none, length_digits, length_float, length_decimal}
 use Rattle.decimal.specs.declared.write.Printed.{Printed}
-use Rattle.decimal.specs.contracts.write.Printed as Kinds
-use Rattle.decimal.specs.declared.write.Printed.TheVariants as Printed
 use Rattle.decimal.specs.Shown.{shown, sign_text, places_text, shown_text, text_of, plain_text}
 
 pub put-nothing : (l : List ℕ) (at : ℕ) → Put l at [] l at
@@ -43,14 +39,14 @@ module _ (k n : ℕ) (some-place : 0 < k) where
       by_places zero p = absurd (omega arith)
       by_places (suc j) p = rw (ne_eqb (n % 10) 0 e)
 
--- ---- all but bits, which are the fourth case
+-- ---- all but bits
 
-pub not_bits : (f : Format) (x : Float) (p : Printed) → OneOf (0 ∷ 1 ∷ 2 ∷ []) (tag_of Kinds.the_type p) → shown_text p ≡ text_of f x p
+pub not_bits : (f : Format) (x : Float) (p : Printed) → (p ≡ Printed.Bits → ⊥) → shown_text p ≡ text_of f x p
 unfolding text_of
 not_bits f x Printed.NotANumber k = refl
 not_bits f x (Printed.Infinite s) k = refl
 not_bits f x (Printed.Decimal s whole n) k = refl
-not_bits f x Printed.Bits k = absurd (miss (0 ∷ 1 ∷ 2 ∷ []) 3 tt k)
+not_bits f x Printed.Bits k = absurd (k refl)
 
 -- ---- lengths
 

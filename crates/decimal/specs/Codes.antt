@@ -1,5 +1,4 @@
 -- A text as the codes of its characters, so that a definition can quote it.
-use mathlib.Core.List as List
 use Rattle.std.specs.Prelude.{ℕ, List}
 use Prim.Native.String.{String, [], ◌∷◌}
 use Prim.Native.Char.{code}

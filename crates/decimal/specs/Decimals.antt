@@ -1,6 +1,6 @@
 -- A word read as a decimal number: `-`, digits with a point among them, and `e` with the tens. "A decimal of up to 15 digits and
 -- tens up to 10^22 is rounded once to an f64": the digits count up to 2 ^ 53, so 16 of them where they are no more than that.
-use Rattle.std.specs.Prelude.{ℕ, suc, ◌+◌, ◌*◌, ◌^◌, Bool, true, false, cond, ◌&&◌, ◌||◌, List, [], ◌∷◌, ◌++◌, length, take, drop, ◌==◌, nat_le, Float}
+use Rattle.std.specs.Prelude.{ℕ, suc, ◌+◌, ◌*◌, ◌^◌, Bool, true, false, cond, ◌&&◌, ◌||◌, [], ◌∷◌, ◌++◌, length, take, drop, ◌==◌, nat_le, Float}
 use Rattle.std.proofs.Math.Option.{Option, none, some}
 use Prim.Native.Char.{code}
 use Rattle.std.specs.Float.{nan, inf, Format, binary32, binary64}
@@ -12,7 +12,6 @@ use Rattle.text.specs.Floats.{float_in}
 use Rattle.text.specs.Words.{Word, same_word, count_in}
 use Rattle.decimal.specs.Codes.{codes}
 use Rattle.decimal.specs.declared.read.Tens.{Tens}
-use Rattle.decimal.specs.declared.read.Tens.TheVariants as Tens
 
 -- ---- the parts of a word
 

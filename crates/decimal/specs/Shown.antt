@@ -8,7 +8,6 @@ use Rattle.text.specs.Digits.{digits_of, decimal_of}
 use Rattle.text.specs.Floats.{float_text}
 use Rattle.decimal.specs.Codes.{codes}
 use Rattle.decimal.specs.declared.write.Printed.{Printed}
-use Rattle.decimal.specs.declared.write.Printed.TheVariants as Printed
 
 -- ---- the number
 

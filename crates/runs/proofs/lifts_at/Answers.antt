@@ -64,7 +64,7 @@ loop-i-preserved c =
                 some_seen P l.i (l.i + 16) l.bs bs (l.invariant.4 (sym w.all-is ∙ t)) r.0
                 (λ j h.
                 let few : j < 16 = omega arith in
-                timed_there (LiftsBy x.l) x.start_time x.duration x.dt x.time l.i 16 j l.t p.new.xs (get_or bs (l.i + j) 0) l.invariant.2 p.ensures.0 few (r.2 (not-false _ w.if-not-lifts_of.false) j few))
+                timed_there (LiftsBy x.l) x.start_time x.duration x.dt x.time l.i 16 j l.t p.new.xs (get_or bs (l.i + j) 0) l.invariant.2 p.ensures.0 few (r.2 w.if-not-lifts_of.false j few))
           ],
     )
 

@@ -5,18 +5,15 @@ use Rattle.rules.specs.Samples.{phase_of}
 use Rattle.runs.specs.Passes.{each}
 use Rattle.runs.proofs.Passing.{Passed, none_passed, one_passed, still, passed_length, all_passed, each_last}
 use Rattle.runs.proofs.phases_at.Goals as goal
-use Rattle.runs.proofs.phases_at.Goals.{At-loop-i, In-loop-i, Start}
+use Rattle.runs.proofs.phases_at.Goals.{At-loop-i, In-loop-i}
 
-abbrev start : At-loop-i → Start
-start a = a.before
-
-abbrev sample : Start → Float → Float
+abbrev sample : At-loop-i → Float → Float
 sample s = phase_of s.args.start_time s.args.duration
 
-kept : (a : At-loop-i) → length a.loop-i.ts ≡ length (start a).args.ts.now
+kept : (a : At-loop-i) → length a.loop-i.ts ≡ length a.args.ts.now
 kept a = passed_length a.loop-i.invariant
 
-within : (c : In-loop-i) → c.loop-i.i < length (start c.before).args.ts.now
+within : (c : In-loop-i) → c.loop-i.i < length c.args.ts.now
 within c = omega (arith, kept c.before, c.loop-i-test.true)
 
 pub loop-i-init : goal.loop-i-init
@@ -39,7 +36,7 @@ pub loop-i-preserved : goal.loop-i-preserved
 unfolding phase_of
 loop-i-preserved c =
     let l = c.loop-i in
-    let s = start (goal.at.loop-i-preserved c).At-loop-i in
+    let s = (goal.at.loop-i-preserved c).At-loop-i in
     one_passed l.invariant (within (goal.at.loop-i-preserved c).In-loop-i) _ (rw (still l.invariant (within (goal.at.loop-i-preserved c).In-loop-i)) (each_last (sample s) s.args.ts.now l.i (within (goal.at.loop-i-preserved c).In-loop-i) nan))
 
 pub shape_of-ts : goal.shape_of-ts
@@ -47,5 +44,5 @@ shape_of-ts c = kept (goal.at.shape_of-ts c).At-loop-i
 
 pub returns : goal.returns
 returns c =
-    let s = start (goal.at.returns c).At-loop-i in
+    let s = (goal.at.returns c).At-loop-i in
     all_passed c.loop-i.invariant (omega (arith, kept (goal.at.returns c).At-loop-i)) ∙ ap (each (sample s)) (take_all (length s.args.ts.now) s.args.ts.now (omega arith))

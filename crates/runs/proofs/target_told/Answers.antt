@@ -37,7 +37,6 @@ target_shown-requires c =
 pub returns-then-start_time-time : goal.returns-then-start_time-time
 unfolding from_start
 returns-then-start_time-time c = λ t v.
-    let steady = (goal.at.returns-then-start_time-time c).After-is_steady_for in
     let a = c.args in
     let r : Rises a.start_time a.constant a.time a.dt = record { steady = c.is_steady_for.ensures c.if-is_steady_for.true; started = c.is_begun.ensures c.if-is_begun.true } in
     let sample = target_at a.start_time a.constant a.«c» a.a in

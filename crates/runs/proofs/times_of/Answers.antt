@@ -32,7 +32,7 @@ loop-i-preserved c =
     (
       one_more own c.args.dt c.args.time l.invariant.0 (omega (arith, kept (goal.at.loop-i-preserved c).At-loop-i, c.loop-i-test.true)) _ refl,
       rw (add-one l.i, begun_last c.args.start_time c.args.dt l.i c.args.time, ← l.invariant.0.next, ← l.invariant.1)
-          ((elim c.if-t-start_time.branch [ then-t-start_time w ↦ rw w.if-t-start_time.true (w.begun-is ∙ sym (and_false l.begun)) | else-t-start_time w ↦ rw w.if-t-start_time.false (w.begun-is ∙ sym (and_true l.begun)) ]),
+          (elim c.if-t-start_time.branch [ then-t-start_time w ↦ rw w.if-t-start_time.true (w.begun-is ∙ sym (and_false l.begun)) | else-t-start_time w ↦ rw w.if-t-start_time.false (w.begun-is ∙ sym (and_true l.begun)) ]),
     )
 
 pub shape_of-ts : goal.shape_of-ts
