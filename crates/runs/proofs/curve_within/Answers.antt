@@ -9,7 +9,7 @@ use Rattle.runs.specs.Rising.{Spans, Between, Climbs, at_position}
 use Rattle.runs.proofs.Climb.{counted, place, place_under, place_is, fraction, fractions_within, alike}
 use Rattle.runs.proofs.Passing.{each-length, each_at, each-each}
 use Rattle.runs.proofs.curve_within.Goals as goal
-use Rattle.runs.proofs.curve_within.Goals.{After-fractions, After-whole-k, Start}
+use Rattle.runs.proofs.curve_within.Goals.{After-whole-k, Start}
 
 module _ (w : After-whole-k) where
   abbrev start : Start
@@ -47,15 +47,9 @@ module _ (w : After-whole-k) where
   wide_is = ap (of_int binary64) (same ∙ ap pos k_is)
 
 -- the fractions are those of `proofs/Climb.antt`
-module _ (f : After-fractions) where
-  abbrev w : After-fractions
-  w = f
-
-  abbrev xs : List Float
-  xs = f.fractions.new.xs
-
+module _ (w : After-whole-k) (xs : List Float) (is : xs ≡ each (λ p. sub binary64 p (of_int binary64 (to_z w64 w.whole-k.result))) (ps w)) where
   xs_is : xs ≡ each (λ p. sub binary64 p (wide (k w))) (ps w)
-  xs_is = f.fractions.ensures ∙ ap (λ (v : Float). each (λ p. sub binary64 p v) (ps w)) (wide_is w)
+  xs_is = is ∙ ap (λ (v : Float). each (λ p. sub binary64 p v) (ps w)) (wide_is w)
 
   long : length xs ≡ 16
   long = ap length xs_is ∙ each-length (λ p. sub binary64 p (wide (k w))) (ps w) ∙ (start w).requires.1
@@ -104,13 +98,12 @@ bounds-values-k-then-xs-lt4607182418800017408 c = (next (goal.at.bounds-values-k
 
 pub curve_part-requires : goal.curve_part-requires
 curve_part-requires c =
-    let f = (goal.at.curve_part-requires c).After-fractions in
-    ((start (w f)).requires.0, long f, lanes f, c.spans.ensures c.if-spans.true)
+    let w = (goal.at.curve_part-requires c).After-whole-k in
+    let e = c.fractions.ensures in
+    (c.requires.0, long w _ e, lanes w _ e, c.spans.ensures c.if-spans.true)
 
 pub returns-then-xs-lt4607182418800017408 : goal.returns-then-xs-lt4607182418800017408
-returns-then-xs-lt4607182418800017408 c = λ e.
-    let f = (goal.at.returns-then-xs-lt4607182418800017408 c).After-fractions in
-    samples f _ c.if-xs-lt4607182418800017408.true (c.curve_part.ensures e)
+returns-then-xs-lt4607182418800017408 c = λ e. samples (goal.at.returns-then-xs-lt4607182418800017408 c).After-whole-k _ c.fractions.ensures _ c.if-xs-lt4607182418800017408.true (c.curve_part.ensures e)
 
 pub returns-else-xs-lt4607182418800017408 : goal.returns-else-xs-lt4607182418800017408
 returns-else-xs-lt4607182418800017408 c = λ e. absurd (true≢false (sym e))

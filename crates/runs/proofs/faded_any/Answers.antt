@@ -16,8 +16,8 @@ start a = a.before.before.before.before
 kept : (a : At-loop-i) → length a.loop-i.out ≡ length (start a).args.out.now
 kept a = passed_length a.loop-i.invariant
 
-within : (c : In-loop-i) → c.loop-i.i < length (start c.before.before).args.fs.now
-within c = omega (arith, kept c.before.before, (start c.before.before).requires.out_len.0, c.loop-i-test.true)
+within : (c : In-loop-i) → c.loop-i.i < length c.args.fs.now
+within c = omega (arith, passed_length c.loop-i.invariant, c.requires.out_len.0, c.loop-i-test.true)
 
 pub loop-i-init : goal.loop-i-init
 unfolding each

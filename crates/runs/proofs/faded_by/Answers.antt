@@ -49,8 +49,8 @@ sum_once-requires c =
     let l = (goal.at.sum_once-requires c).In-loop-i in
     let p = (start (goal.at.sum_once-requires c).At-loop-i).requires in
     record {
-    t = p.0;
-    served = subst (λ (n : ℕ). Served (start (goal.at.sum_once-requires c).At-loop-i).args.a (start (goal.at.sum_once-requires c).At-loop-i).args.«c» (of_bits binary64 n)) (sym c.shown_by-n.ensures) (p.1.3 c.loop-i.i (inside l)).1;
+    t = p.t;
+    served = subst (λ (n : ℕ). Served (start (goal.at.sum_once-requires c).At-loop-i).args.a (start (goal.at.sum_once-requires c).At-loop-i).args.«c» (of_bits binary64 n)) (sym c.shown_by-n.ensures) (p.out_len_bound.3 c.loop-i.i (inside l)).1;
   }
 
 pub offset_bounds-out-i : goal.offset_bounds-out-i

@@ -51,8 +51,8 @@ fused_wide-requires c =
     let f = factor l in
     let e = sym c.shown_by-n.ensures in
     record {
-    t = (p.0.0, subst (λ (n : ℕ). T (fits binary32 (of_bits binary64 n))) e f.fit, p.0.1);
-    t_2 = (finite_no_nan _ p.0.2, subst (λ (n : ℕ). T (not (is_nan (of_bits binary64 n)))) e (no_nan f), finite_no_nan _ p.0.3);
+    t = (p.t.0, subst (λ (n : ℕ). T (fits binary32 (of_bits binary64 n))) e f.fit, p.t.1);
+    t_2 = (finite_no_nan _ p.t.2, subst (λ (n : ℕ). T (not (is_nan (of_bits binary64 n)))) e (no_nan f), finite_no_nan _ p.t.3);
   }
 
 pub offset_bounds-out-i : goal.offset_bounds-out-i
