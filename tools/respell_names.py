@@ -27,7 +27,7 @@ FUNCTIONS = {("desk/src/lib.rt", "after_command"), ("text/src/words.rt", "count_
 
 def files(root):
     for folder, dirs, names in os.walk(os.path.join(root, "crates")):
-        dirs[:] = sorted(d for d in dirs if d not in ("out", "target", ".git"))
+        dirs[:] = sorted(d for d in dirs if d not in ("out", ".git"))
         for n in sorted(names):
             if n.endswith((".antt", ".rt")):
                 yield os.path.join(folder, n)

@@ -9,7 +9,6 @@ use lib.ListN.{set, length, take, drop, replicate, length-drop, drop_of_length-l
 use lib.Seq.{paste, take-add, take_at, take-paste, drop_at, drop-paste, length-paste, length-take-le, take-length, take-append-le, take-take}
 use lib.Ieee.{Float}
 use Rattle.rules.specs.declared.Event.{Event}
-use Rattle.rules.specs.declared.Event.TheVariants as Event
 use Rattle.rules.specs.Numbers.{plus_zero, store_length}
 use Rattle.rules.specs.Queue.{Waiting, filed_under, is_ramp, length_of, lengths_of, events_of, numbers_of, packed, attached, place_behind, put_at, arrived, inserted, those, is_before, cancelled, is_later, is_not_later, held_at, last_held, holds_ramp, held_by, held}
 use Rattle.laws.proofs.Events.{events_attached, events_drop, events_inserted, events_cancelled, held_by_ramp, events_held, alones, lengths_split}

@@ -5,7 +5,7 @@ use Rattle.rules.specs.Numbers.{run}
 use Rattle.rules.specs.Walk.{from_start}
 use Rattle.kernels.proofs.Powers.{both}
 use Rattle.runs.specs.After.{after}
-use Rattle.runs.specs.Passes.{each, every, begun}
+use Rattle.runs.specs.Passes.{each, Every, begun}
 use Rattle.runs.proofs.Filling.{after_first}
 
 pub and_true : (a : Bool) → (a && true) ≡ a
@@ -43,13 +43,13 @@ module _ (start dt : Float) where
 -- ---- P of each
 
 module _ (P : Float → Type 0) where
-  pub every_at : (xs : List Float) → every P xs → (i : ℕ) → i < length xs → (d : Float) → P (get_or xs i d)
-  unfolding every
+  pub every_at : (xs : List Float) → Every P xs → (i : ℕ) → i < length xs → (d : Float) → P (get_or xs i d)
+  unfolding Every
   every_at [] e i h d = absurd (omega arith)
   every_at (x ∷ xs) e zero h d = e.0
   every_at (x ∷ xs) e (suc i) h d = every_at xs e.1 i (le_of_suc-le-suc h) d
 
-  pub every-each : (g : Float → Float) (xs : List Float) → ((x : Float) → P (g x)) → every P (each g xs)
-  unfolding every each
-  every-each g [] h = tt
-  every-each g (x ∷ xs) h = (h x, every-each g xs h)
+  pub Every-each : (g : Float → Float) (xs : List Float) → ((x : Float) → P (g x)) → Every P (each g xs)
+  unfolding Every each
+  Every-each g [] h = tt
+  Every-each g (x ∷ xs) h = (h x, Every-each g xs h)

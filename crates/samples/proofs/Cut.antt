@@ -93,7 +93,7 @@ cut_le (fin false a g) (fin true m e) n v h = zero-le
 cut_le (fin false a g) (fin false m e) n v h =
     le_trans (min-le_left (m * up e / down e) (2 ^ 64 - 1))
     (div-le_of_le-mul (down e)
-    (native.Mathlib.Nat.le_of_mul_le_mul_right {k = down g}
+    (native.Mathlib.Nat.le_of_mul-le-mul_right {k = down g}
     (le_trans (le_yes (m * up e * down g) (a * up g * down e) h)
     (le_of_eq (ap (λ (t : ℕ). t * down e) (sym (mul-one (a * up g)) ∙ v.1) ∙ swap n (down g) (down e))))
     (down_pos g)))

@@ -3,7 +3,6 @@ use mathlib.Core.Path.{refl}
 use Rattle.rules.specs.Refusals.{is_count}
 use Rattle.refusals.proofs.block.is_count.Goals as goal
 
--- src/lib.rt:35:1
 pub returns : goal.returns
 unfolding is_count
 returns c = refl

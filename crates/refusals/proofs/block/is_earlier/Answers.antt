@@ -2,12 +2,10 @@
 use Rattle.rules.specs.Refusals.{is_earlier}
 use Rattle.refusals.proofs.block.is_earlier.Goals as goal
 
--- src/lib.rt:57:1
 pub returns-in-Missing : goal.returns-in-Missing
 unfolding is_earlier
 returns-in-Missing c = rw c.in-Missing.is
 
--- src/lib.rt:57:1
 pub returns-in-At : goal.returns-in-At
 unfolding is_earlier
 returns-in-At c = rw c.in-At.is

@@ -2,7 +2,6 @@
 use Rattle.rules.specs.Refusals.{is_period}
 use Rattle.refusals.proofs.block.is_period.Goals as goal
 
--- src/lib.rt:29:1
 pub returns : goal.returns
 unfolding is_period
 returns c = rw (c.is_finite64.ensures, c.is_positive64.ensures)

@@ -2,7 +2,6 @@
 use Rattle.rules.specs.Refusals.{is_time}
 use Rattle.refusals.proofs.block.is_time.Goals as goal
 
--- src/lib.rt:23:1
 pub returns : goal.returns
 unfolding is_time
 returns c = rw (c.is_finite64.ensures, c.is_negative64.ensures)

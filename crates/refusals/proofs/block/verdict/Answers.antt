@@ -3,7 +3,6 @@ use Rattle.rules.specs.Refusals.{block_rows}
 use Rattle.refusals.proofs.Rows.{said, said_lowest}
 use Rattle.refusals.proofs.block.verdict.Goals as goal
 
--- src/block.rt:61:1
 pub returns : goal.returns
 unfolding said block_rows
 returns c is os store i o lent =

@@ -1,0 +1,13 @@
+-- `runs::linear_rest` meets its contract. Assumes nothing.
+use Rattle.std.proofs.Common.{◌≡◌, ◌-◌, length, arith, rules}
+use lib.Ieee.{Float}
+use Rattle.rules.specs.Samples.{phase_of}
+use Rattle.samples.specs.At.{linear_at}
+use Rattle.runs.proofs.Filling.{Filled, none_filled, one_more, filled-length, all-filled}
+use Rattle.runs.proofs.linear_rest.Given as goal
+
+abbrev pub invariant-loop-i : goal.invariant-loop-i
+invariant-loop-i l = Filled (linear_at l.start_time l.duration l.c l.a) l.dt l.time l.initial.out l.out l.i l.t
+
+abbrev pub decreases-loop-i : goal.decreases-loop-i
+decreases-loop-i l = length l.initial.out - l.i

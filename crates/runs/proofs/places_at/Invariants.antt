@@ -1,0 +1,14 @@
+-- `runs::places_at` meets its contract. Assumes nothing.
+use borrow.Author.Tests.{not-false}
+use Rattle.std.proofs.Common.{◌≡◌, ℕ, ◌+◌, ◌-◌, ◌<◌, ◌≤◌, true, length, get_or, sym, refl, ◌∙◌, inl, inr, true≢false, arith}
+use Rattle.rules.specs.Samples.{phase_of}
+use Rattle.runs.specs.After.{after}
+use Rattle.runs.specs.Placed.{Placed}
+use Rattle.runs.proofs.Places.{Timed, run_long, after_on, timed_on, timed_there, some_seen}
+use Rattle.runs.proofs.places_at.Given as goal
+
+abbrev pub invariant-loop-i : goal.invariant-loop-i
+invariant-loop-i l = (length l.bs ≡ 128) × (l.i ≤ l.n) × (l.t ≡ after l.dt l.i l.time) × (l.all ≡ true → (k : ℕ) → k < l.i → Timed (Placed l.few) l.start_time l.duration l.dt l.time k (get_or l.bs k 0))
+
+abbrev pub decreases-loop-i : goal.decreases-loop-i
+decreases-loop-i l = l.n - l.i

@@ -1,0 +1,12 @@
+-- `runs::sums_within` meets its contract. Assumes nothing.
+use Rattle.std.proofs.Common.{◌≡◌, ◌-◌, length, take, refl, ap, ◌∙◌, arith, take_all, rules}
+use lib.Ieee.{nan}
+use Rattle.runs.specs.Passes.{each, phase_sum}
+use Rattle.runs.proofs.Passing.{Passed, none_passed, one_passed, passed_length, all_passed, each_last}
+use Rattle.runs.proofs.sums_within.Given as goal
+
+abbrev pub invariant-loop-i : goal.invariant-loop-i
+invariant-loop-i l = Passed (λ k. each (phase_sum l.c l.a) (take k l.xs)) l.initial.out l.out l.i
+
+abbrev pub decreases-loop-i : goal.decreases-loop-i
+decreases-loop-i l = 16 - l.i

@@ -1,0 +1,54 @@
+-- `runs::target_told` meets its contract. Assumes nothing.
+use Rattle.std.proofs.Common.{◌≡◌, ℕ, ◌+◌, ◌-◌, ◌*◌, ◌/◌, ◌^◌, ◌≤◌, true, T, ◌⊎◌, length, sym, ◌∙◌, subst, true≢false, arith, rules, eqb-true}
+use lib.Ieee.{Float}
+use Rattle.rules.specs.Walk.{from_start}
+use Rattle.samples.specs.At.{target_at}
+use Rattle.phases.specs.Once.{Once}
+use Rattle.phases.proofs.Seen.{seen}
+use Rattle.runs.specs.Rising.{Rises}
+use Rattle.runs.proofs.Filling.{run-same}
+use Rattle.runs.proofs.Later.{not_before}
+use Rattle.runs.proofs.target_told.Goals as goal
+
+-- from a whole power of two on
+once_cut : (a c : Float) (bx few : ℕ) → (bx ≡ 0) ⊎ Once a c bx → few ≤ 124 → few + bx / 2 ^ 52 ≡ 1022 → Once a c ((1022 - few) * 2 ^ 52)
+once_cut a c bx few w f e = go (seen bx w (λ z. some bx few f e z))
+  where
+    some : (bx few : ℕ) → few ≤ 124 → few + bx / 2 ^ 52 ≡ 1022 → bx ≡ 0 → ⊥
+    some bx few f e z = omega arith
+
+    cut : (b few : ℕ) → few + b ≡ 1022 → (1022 - few) * 2 ^ 52 / 2 ^ 52 ≡ b
+    cut b few e = omega arith
+
+    first : (few : ℕ) → few ≤ 124 → 898 * 2 ^ 52 ≤ (1022 - few) * 2 ^ 52
+    first few f = omega arith
+
+    go : Once a c bx → Once a c ((1022 - few) * 2 ^ 52)
+    go o = record { high = o.high; grid = o.grid; few = o.few; over = o.over; over_c = o.over_c; least = o.least; most = o.most; first = first few f; room = subst (λ (n : ℕ). o.high + 1017 ≤ o.grid + n) (sym (cut (bx / 2 ^ 52) few e)) o.room; third = o.third }
+
+pub target_shown-requires : goal.target_shown-requires
+target_shown-requires c =
+    let f = c.few_from-few in
+    record {
+    out_len_bound = (c.requires.out_len_bound.0, c.requires.out_len_bound.1, f.ensures, λ e. once_cut _ _ c.once_from-b.result f.result c.once_from-b.ensures f.ensures (eqb-true _ _ e));
+    t = c.requires.t;
+  }
+
+pub returns-then-start_time-time : goal.returns-then-start_time-time
+unfolding from_start
+returns-then-start_time-time c = λ t v.
+    let a = c.args in
+    let r : Rises a.start_time a.constant a.time a.dt = record { steady = c.is_steady_for.ensures c.if-is_steady_for.true; started = c.is_begun.ensures c.if-is_begun.true } in
+    let sample = target_at a.start_time a.constant a.«c» a.a in
+    c.target_shown.ensures t
+    ∙ run-same sample (from_start a.start_time v sample) a.dt (length a.out.now) a.time
+    (λ k h. rw (not_before a.start_time a.constant a.time a.dt (subst T (sym c.well_formed.1.1.0.1) tt) (subst T (sym c.well_formed.1.1.1.1.1.1.0.1) tt) (subst T (sym c.well_formed.1.1.1.1.1.1.1.0.1) tt) r k))
+
+pub returns-else-start_time-time : goal.returns-else-start_time-time
+returns-else-start_time-time c = λ t. absurd (true≢false (sym t))
+
+pub returns-else-is_begun : goal.returns-else-is_begun
+returns-else-is_begun c = λ t. absurd (true≢false (sym t))
+
+pub returns-else-is_steady_for : goal.returns-else-is_steady_for
+returns-else-is_steady_for c = λ t. absurd (true≢false (sym t))
