@@ -1,19 +1,17 @@
 -- What a refusal means, by its line and its number. Assumes nothing.
-use mathlib.Core.Path.{◌≡◌, refl, sym, ap, ◌∙◌}
-use mathlib.Core.Bool.{Bool, true, false, cond}
+use mathlib.Core.Path.{◌≡◌, sym, ap, ◌∙◌}
+use mathlib.Core.Bool.{true, false}
 use mathlib.Core.List.{List, [], ◌∷◌}
-use mathlib.Core.Option.{Option, none, some}
-use Prim.Native.Nat.{ℕ, zero, suc, ◌+◌, ◌-◌, ◌≤◌, ◌<◌}
+use Prim.Native.Nat.{ℕ, ◌+◌}
 use native.Mathlib.Nat.{sub-zero}
 use native.Mathlib.Omega.{arith}
-use lib.ListN.{length, take, drop}
-use borrow.Author.Tests.{eq-eqb, ne_eqb}
-use Rattle.text.specs.Words.{Word, same_word, words_of, words_from, end_of, taken, count_in, count_at}
+use lib.ListN.{take}
+use borrow.Author.Tests.{ne_eqb}
+use Rattle.text.specs.Words.{same_word, words_of, words_from, end_of, taken, count_in, count_at}
 use Rattle.text.specs.declared.words.NextCount.{NextCount}
-use Rattle.text.specs.declared.words.NextCount.TheVariants as NextCount
 use Rattle.text.proofs.Splitting.{from_start, split}
 use Rattle.decimal.specs.Codes.{codes}
-use Rattle.replies.specs.Plain.{Row, row, table, meaning_in, meaning_of, reason}
+use Rattle.replies.specs.Plain.{table, meaning_in, meaning_of, reason}
 
 module _ (s : List ℕ) (end : ℕ) (e : end ≡ end_of s 0) where
   first_word : words_of s ≡ take end s ∷ words_from s (end + 1)

@@ -1,18 +1,14 @@
 -- The words of a line by runs of blanks and of other characters. Assumes nothing.
 use mathlib.Core.Path.{◌≡◌, refl, sym, ap, ◌∙◌}
 use mathlib.Core.Bool.{Bool, true, false, cond, ◌||◌, beq, true≢false}
-use mathlib.Core.List.{List, [], ◌∷◌, ◌++◌}
-use mathlib.Core.Option.{Option, none, some}
+use mathlib.Core.List.{List, [], ◌∷◌}
 use Prim.Native.Nat.{ℕ, zero, suc, ◌+◌, ◌-◌, ◌≤◌, ◌<◌}
-use native.Mathlib.Nat.{add_assoc, add-sub_cancel_left}
 use native.Mathlib.Numerals.{add-one}
 use native.Mathlib.Omega.{arith}
-use lib.Dec.{eqb}
-use lib.ListN.{length, get_or, take, drop, length-drop, drop_of_length-le}
+use lib.ListN.{length, get_or, take, drop, drop_of_length-le}
 use lib.Seq.{drop-cons, drop-drop}
 use Rattle.text.specs.Words.{Word, same_word, joined}
 use Rattle.wording.specs.declared.Next.{Next}
-use Rattle.wording.specs.declared.Next.TheVariants as Next
 use Rattle.wording.specs.Plain.{is_blank, split, is_one, is_small, kept, spoken, words_at}
 use Rattle.wording.specs.Walked.{run_of, first_of, next_at}
 

@@ -3,7 +3,7 @@ use mathlib.Core.Path.{◌≡◌, refl, sym, ap, ◌∙◌, subst}
 use mathlib.Core.Bool.{Bool, true, false, cond}
 use mathlib.Core.List.{List, [], ◌∷◌, ◌++◌, append_assoc, append-nil}
 use mathlib.Core.Option.{Option, none, some}
-use Prim.Native.Nat.{ℕ, zero, suc, ◌+◌, ◌-◌, ◌*◌, ◌≤◌, ◌<◌}
+use Prim.Native.Nat.{ℕ, suc, ◌+◌, ◌-◌, ◌*◌, ◌≤◌, ◌<◌}
 use native.Mathlib.Nat.{sub-zero}
 use native.Mathlib.Omega.{arith}
 use Prim.Native.Char.{code}
@@ -22,16 +22,11 @@ use Rattle.decimal.specs.Codes.{codes}
 use Rattle.decimal.specs.Decimals.{before, plain_in}
 use Rattle.decimal.proofs.Reading.{found}
 use Rattle.wording.specs.declared.Kind.{Kind}
-use Rattle.wording.specs.declared.Kind.TheVariants as Kind
 use Rattle.wording.specs.declared.Tail.{Tail}
 use Rattle.wording.specs.declared.Form.{Form}
-use Rattle.wording.specs.declared.Form.TheVariants as Form
 use Rattle.wording.specs.declared.Next.{Next}
-use Rattle.wording.specs.declared.Next.TheVariants as Next
 use Rattle.wording.specs.declared.Field.{Field}
-use Rattle.wording.specs.declared.Field.TheVariants as Field
 use Rattle.wording.specs.declared.Told.{Told}
-use Rattle.wording.specs.declared.Told.TheVariants as Told
 use Rattle.wording.specs.Plain.{words_at, Fields, in_front, spaced, bits_of, field_of, with_field, fields, tail_of, and_then, formed, numbers, capped_at, length_for, length_and, block_fields, edition_fields, made_fields, Row, row, form_in, rows, whole, translated, translation}
 use Rattle.wording.specs.Walked.{first_of, next_at, Behind, Wrote, Ran, Passed, Inside, Room}
 

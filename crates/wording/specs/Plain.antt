@@ -1,6 +1,6 @@
 -- The language of `play`: the calls of the session language with decimal numbers, words apart by blanks, small words between them, and a comment
 -- behind `#`. A line means what its translation into the session language means; that language has no `cost`, which `play` answers itself.
-use Rattle.std.specs.Prelude.{Bool, true, false, cond, ◌||◌, List, [], ◌∷◌, ◌++◌, ℕ, zero, suc, leb, eqb, length, drop, Float}
+use Rattle.std.specs.Prelude.{Bool, false, cond, ◌||◌, List, [], ◌∷◌, ◌++◌, ℕ, zero, suc, leb, eqb, length, drop, Float}
 use Rattle.std.proofs.Math.Option.{Option, none, some}
 use Prim.Native.Char.{code}
 use Rattle.std.specs.Float.{Format, binary32, binary64}
@@ -11,11 +11,8 @@ use Rattle.calls.specs.Language.{ending}
 use Rattle.decimal.specs.Codes.{codes}
 use Rattle.decimal.specs.Decimals.{before, plain_in}
 use Rattle.wording.specs.declared.Kind.{Kind}
-use Rattle.wording.specs.declared.Kind.TheVariants as Kind
 use Rattle.wording.specs.declared.Tail.{Tail}
-use Rattle.wording.specs.declared.Tail.TheVariants as Tail
 use Rattle.wording.specs.declared.Form.{Form}
-use Rattle.wording.specs.declared.Form.TheVariants as Form
 
 -- ---- words
 

@@ -5,11 +5,8 @@ use Rattle.std.proofs.Math.Option.{Option, none, some}
 use Rattle.text.specs.Put.{Put}
 use Rattle.text.specs.Words.{Word}
 use Rattle.wording.specs.declared.Next.{Next}
-use Rattle.wording.specs.declared.Next.TheVariants as Next
 use Rattle.wording.specs.declared.Field.{Field}
-use Rattle.wording.specs.declared.Field.TheVariants as Field
 use Rattle.wording.specs.declared.Told.{Told}
-use Rattle.wording.specs.declared.Told.TheVariants as Told
 use Rattle.wording.specs.Plain.{is_blank, words_at, Fields}
 
 -- how many characters at the front are blank, or are not
