@@ -6,7 +6,7 @@ use lib.Ieee.Fits.{down_pos, round-fits, sub-fits, div-fits}
 use lib.Ieee.Nearest.{div_same}
 use lib.Ieee.Scale.{grid, finite}
 use Rattle.rules.specs.Numbers.{wide, whole_part, run}
-use Rattle.rules.specs.Samples.{between, curve_sample}
+use Rattle.rules.specs.Samples.{curve_sample}
 use Rattle.rules.specs.Walk.{from_start}
 use Rattle.rounding_laws.proofs.Exact.{same_value_lem}
 use Rattle.rounding_laws.proofs.Fuse.{rescale, mul_value}

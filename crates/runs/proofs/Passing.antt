@@ -1,5 +1,5 @@
 -- A loop that fills a slice place by place with what a list has, and lists of that kind: f of each number of another. Assumes nothing.
-use Rattle.std.proofs.Common.{◌≡◌, ℕ, zero, suc, ◌+◌, ◌-◌, ◌<◌, ◌≤◌, List, [], ◌∷◌, ◌++◌, length, get_or, take, drop, set, sym, refl, ap, ◌∙◌, append-nil, le_of_suc-le-suc, add-one, arith, length-append, length-drop, length-take-le, drop-cons, take_at}
+use Rattle.std.proofs.Common.{◌≡◌, ℕ, zero, suc, ◌+◌, ◌<◌, ◌≤◌, List, [], ◌∷◌, ◌++◌, length, get_or, take, drop, set, sym, refl, ap, ◌∙◌, append-nil, le_of_suc-le-suc, add-one, arith, length-append, length-drop, length-take-le, drop-cons, take_at}
 use lib.Seq.{drop-length, set_at, append_snoc, get_or-append_seam}
 use lib.Ieee.{Float, nan, binary64, add}
 use Rattle.rules.specs.Numbers.{run}

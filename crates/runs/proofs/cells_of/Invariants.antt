@@ -1,10 +1,8 @@
 -- `runs::cells_of` meets its contract. Assumes nothing.
-use Rattle.std.proofs.Common.{◌≡◌, ℕ, ◌-◌, ◌*◌, ◌^◌, ◌<◌, ◌≤◌, length, get_or, sym, refl, ap, ◌∙◌, arith, length-set}
+use Rattle.std.proofs.Common.{◌≡◌, ℕ, ◌-◌, ◌<◌, ◌≤◌, length, get_or}
 use lib.Ieee.{nan, binary64, of_bits}
 use Rattle.rounding_laws.specs.Cut.{plain_cut}
 use Rattle.decays.specs.Cell.{product}
-use Rattle.runs.specs.Placed.{InGrown}
-use Rattle.runs.proofs.Telling.{one_set}
 use Rattle.runs.proofs.cells_of.Given as goal
 
 abbrev pub invariant-loop-i : goal.invariant-loop-i

@@ -1,5 +1,5 @@
 -- `runs::compute_exponential_ramp_samples` meets its contract. Assumes nothing.
-use Rattle.std.proofs.Common.{◌≡◌, true, T, length, sym, ap, ◌∙◌, subst, to_z-of_z, rules}
+use Rattle.std.proofs.Common.{◌≡◌, true, T, length, sym, ap, ◌∙◌, subst, to_z-of_z}
 use lib.Ieee.{Float, binary64, of_int}
 use Rattle.rules.specs.Numbers.{is_finite, run}
 use Rattle.floats.proofs.Compared.{finite_of, finite_held}

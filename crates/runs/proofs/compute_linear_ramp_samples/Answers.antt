@@ -1,5 +1,5 @@
 -- `runs::compute_linear_ramp_samples` meets its contract. Assumes nothing.
-use Rattle.std.proofs.Common.{T, sym, ◌∙◌, subst, rules}
+use Rattle.std.proofs.Common.{T, sym, ◌∙◌, subst}
 use Rattle.phases.proofs.Seen.{seen}
 use Rattle.floats.proofs.Compared.{finite_of, finite_held}
 use Rattle.runs.proofs.Fine.{Fine, asked}
@@ -28,6 +28,6 @@ once_from-bx-requires c = let f = fine (goal.at.once_from-bx-requires c).Then-is
 
 pub linear_once-requires : goal.linear_once-requires
 linear_once-requires c = record {
-    t = asked _ _ (fine (goal.at.linear_once-requires c).Then-is_finite32-2);
-    once = seen c.once_from-bx.result c.once_from-bx.ensures c.if-bx-ne0.true;
-  }
+  t = asked _ _ (fine (goal.at.linear_once-requires c).Then-is_finite32-2);
+  once = seen c.once_from-bx.result c.once_from-bx.ensures c.if-bx-ne0.true;
+}

@@ -1,5 +1,5 @@
 -- `runs::compute_set_target_samples` meets its contract. Assumes nothing.
-use Rattle.std.proofs.Common.{T, sym, ◌∙◌, subst, rules}
+use Rattle.std.proofs.Common.{T, sym, ◌∙◌, subst}
 use Rattle.floats.proofs.Compared.{finite_held}
 use Rattle.runs.proofs.Fine.{Fine, asked}
 use Rattle.runs.proofs.compute_set_target_samples.Goals as goal

@@ -1,5 +1,5 @@
 -- `runs::compute_set_value_curve_samples` meets its contract. Assumes nothing.
-use Rattle.std.proofs.Common.{length, rules}
+use Rattle.std.proofs.Common.{length}
 use Rattle.runs.proofs.Climb.{counted}
 use Rattle.runs.proofs.compute_set_value_curve_samples.Goals as goal
 

@@ -1,5 +1,4 @@
 -- `runs::curve_from` meets its contract. Assumes nothing.
-use Rattle.std.proofs.Common.{rules}
 use Rattle.rules.specs.Walk.{from_start}
 use Rattle.runs.proofs.curve_from.Goals as goal
 

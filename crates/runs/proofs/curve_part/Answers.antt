@@ -1,5 +1,5 @@
 -- `runs::curve_part` meets its contract. Assumes nothing.
-use Rattle.std.proofs.Common.{T, sym, ◌∙◌, subst, true≢false, rules}
+use Rattle.std.proofs.Common.{T, sym, ◌∙◌, subst, true≢false}
 use Rattle.floats.proofs.Compared.{finite_held}
 use Rattle.runs.proofs.Fine.{Fine, asked}
 use Rattle.runs.proofs.curve_part.Goals as goal
@@ -24,9 +24,9 @@ float_to_float-diff c = let f = fine (goal.at.float_to_float-diff c).Then-is_fin
 pub sums_between-requires : goal.sums_between-requires
 sums_between-requires c = let t = (goal.at.sums_between-requires c).Then-is_finite32-2 in
     record {
-    t = asked _ _ (fine t);
-    out_len = c.requires;
-  }
+      t = asked _ _ (fine t);
+      out_len = c.requires;
+    }
 
 pub returns-else-is_finite32-2 : goal.returns-else-is_finite32-2
 returns-else-is_finite32-2 c = λ e. absurd (true≢false (sym e))

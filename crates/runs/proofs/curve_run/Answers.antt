@@ -1,9 +1,9 @@
 -- `runs::curve_run` meets its contract. Assumes nothing.
-use Rattle.std.proofs.Common.{◌≡◌, ◌-◌, length, arith, rules}
+use Rattle.std.proofs.Common.{◌≡◌, length, arith}
 use lib.Ieee.{Float}
 use Rattle.rules.specs.Samples.{curve_sample}
 use Rattle.rules.specs.Walk.{from_start}
-use Rattle.runs.proofs.Filling.{Filled, none_filled, one_more, filled-length, all-filled}
+use Rattle.runs.proofs.Filling.{none_filled, one_more, filled-length, all-filled}
 use Rattle.runs.proofs.curve_run.Goals as goal
 use Rattle.runs.proofs.curve_run.Goals.{At-loop-i, Start}
 

@@ -1,9 +1,8 @@
 -- `runs::curve_run` meets its contract. Assumes nothing.
-use Rattle.std.proofs.Common.{◌≡◌, ◌-◌, length, arith, rules}
-use lib.Ieee.{Float}
+use Rattle.std.proofs.Common.{◌-◌, length}
 use Rattle.rules.specs.Samples.{curve_sample}
 use Rattle.rules.specs.Walk.{from_start}
-use Rattle.runs.proofs.Filling.{Filled, none_filled, one_more, filled-length, all-filled}
+use Rattle.runs.proofs.Filling.{Filled}
 use Rattle.runs.proofs.curve_run.Given as goal
 
 abbrev pub invariant-loop-i : goal.invariant-loop-i

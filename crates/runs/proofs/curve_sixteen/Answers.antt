@@ -1,5 +1,5 @@
 -- `runs::curve_sixteen` meets its contract. Assumes nothing.
-use Rattle.std.proofs.Common.{◌≡◌, ℕ, ◌-◌, ◌≤◌, length, pos, ap, ◌∙◌, subst, lt_of_le_of_lt, arith, lit≤, w64, to_z, rules}
+use Rattle.std.proofs.Common.{◌≡◌, ℕ, ◌-◌, ◌≤◌, length, pos, ap, ◌∙◌, subst, lt_of_le_of_lt, arith, lit≤, w64, to_z}
 use lib.Ieee.{binary64, of_int}
 use mir.Facts.{to_z_pos}
 use Rattle.rules.specs.Numbers.{wide, run}
@@ -33,9 +33,9 @@ pub curve_tried-requires : goal.curve_tried-requires
 curve_tried-requires c =
     let s = (goal.at.curve_tried-requires c).Start in
     record {
-    out_len = (c.requires.0, c.requires.1, c.requires.2, n_is s, c.positions_from-next.ensures.1);
-    ps_value = c.positions_from-next.ensures.0;
-  }
+      out_len = (c.requires.0, c.requires.1, c.requires.2, n_is s, c.positions_from-next.ensures.1);
+      ps_value = c.positions_from-next.ensures.0;
+    }
 
 pub returns-then-curve_tried : goal.returns-then-curve_tried
 returns-then-curve_tried c =

@@ -1,5 +1,5 @@
 -- `runs::curve_tried` meets its contract (`proofs/Climb.antt`). Assumes nothing.
-use Rattle.std.proofs.Common.{◌≡◌, ℕ, ◌-◌, ◌≤◌, true, T, List, length, get_or, sym, refl, ap, ◌∙◌, subst, true≢false, arith, lit≤, rules}
+use Rattle.std.proofs.Common.{◌≡◌, ℕ, ◌-◌, ◌≤◌, true, T, List, length, get_or, sym, refl, ap, ◌∙◌, subst, true≢false, arith, lit≤}
 use lib.Ieee.{Float, nan, binary64, sub, lt, fits}
 use Rattle.rules.specs.Numbers.{wide, run}
 use Rattle.rules.specs.Samples.{curve_sample}

@@ -1,10 +1,10 @@
 -- `runs::curve_turns` meets its contract. Assumes nothing.
-use Rattle.std.proofs.Common.{◌≡◌, ℕ, ◌+◌, ◌-◌, length, ◌∙◌, arith, rules}
+use Rattle.std.proofs.Common.{◌≡◌, ℕ, ◌+◌, ◌-◌, length, ◌∙◌, arith}
 use lib.Ieee.{Float}
 use borrow.Rule.Slice.PartMut.{mid_len}
 use Rattle.rules.specs.Samples.{curve_sample}
 use Rattle.rules.specs.Walk.{from_start}
-use Rattle.runs.proofs.Filling.{Filled, none_filled, some_more, rest_filled, filled-length, all-filled}
+use Rattle.runs.proofs.Filling.{none_filled, some_more, rest_filled, filled-length, all-filled}
 use Rattle.runs.proofs.curve_turns.Goals as goal
 use Rattle.runs.proofs.curve_turns.Goals.{At-loop-out, Start}
 

@@ -1,5 +1,5 @@
 -- `runs::curve_within` meets its contract (`proofs/Climb.antt`). Assumes nothing.
-use Rattle.std.proofs.Common.{◌≡◌, ℕ, ◌+◌, ◌-◌, ◌*◌, ◌^◌, ◌<◌, ◌≤◌, List, length, get_or, pos, sym, ap, ◌∙◌, subst, true≢false, lt_of_lt_of_le, arith, lit≤, w64, to_z, rules}
+use Rattle.std.proofs.Common.{◌≡◌, ℕ, ◌+◌, ◌-◌, ◌*◌, ◌^◌, ◌<◌, ◌≤◌, List, length, get_or, pos, sym, ap, ◌∙◌, subst, true≢false, lt_of_lt_of_le, arith, lit≤, w64, to_z}
 use lib.Ieee.{Float, nan, binary32, binary64, of_int, sub, to_bits}
 use mir.Facts.{to_z_pos}
 use Rattle.rules.specs.Numbers.{wide}

@@ -1,9 +1,9 @@
 -- `runs::exponential_each` meets its contract. Assumes nothing.
-use Rattle.std.proofs.Common.{◌≡◌, ◌-◌, length, arith, rules}
+use Rattle.std.proofs.Common.{◌≡◌, length, arith}
 use lib.Ieee.{Float}
 use Rattle.rules.specs.Samples.{phase_of}
 use Rattle.samples.specs.At.{exponential_over}
-use Rattle.runs.proofs.Filling.{Filled, none_filled, one_more, filled-length, all-filled}
+use Rattle.runs.proofs.Filling.{none_filled, one_more, filled-length, all-filled}
 use Rattle.runs.proofs.exponential_each.Goals as goal
 use Rattle.runs.proofs.exponential_each.Goals.{At-loop-i, Start}
 

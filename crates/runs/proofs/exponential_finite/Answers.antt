@@ -1,5 +1,5 @@
 -- `runs::exponential_finite` meets its contract. Assumes nothing.
-use Rattle.std.proofs.Common.{◌≡◌, ℕ, ◌+◌, ◌-◌, ◌<◌, ◌≤◌, List, length, set, ◌∙◌, le_trans, le_of_eq, arith, rules}
+use Rattle.std.proofs.Common.{◌≡◌, ◌<◌, List, length, set, le_trans, le_of_eq, arith}
 use borrow.Rule.Slice.PartMut.{mid_len}
 use lib.Ieee.{Float, binary64, add}
 use Rattle.rules.specs.Samples.{phase_of}

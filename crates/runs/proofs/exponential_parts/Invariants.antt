@@ -1,9 +1,7 @@
 -- `runs::exponential_parts` meets its contract. Assumes nothing.
-use Rattle.std.proofs.Common.{◌≡◌, ℕ, ◌+◌, ◌-◌, length, ◌∙◌, le_trans, le_of_eq, arith, rules}
-use lib.Ieee.{Float}
-use borrow.Rule.Slice.PartMut.{mid_len}
+use Rattle.std.proofs.Common.{◌-◌, length}
 use Rattle.samples.specs.At.{exponential_over}
-use Rattle.runs.proofs.Filling.{Filled, none_filled, some_more, rest_filled, filled-length, all-filled}
+use Rattle.runs.proofs.Filling.{Filled}
 use Rattle.runs.proofs.exponential_parts.Given as goal
 
 abbrev pub invariant-loop-out : goal.invariant-loop-out

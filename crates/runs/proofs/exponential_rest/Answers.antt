@@ -1,5 +1,5 @@
 -- `runs::exponential_rest` meets its contract. Assumes nothing.
-use Rattle.std.proofs.Common.{ℕ, ap, ◌∙◌, rules}
+use Rattle.std.proofs.Common.{ℕ, ap, ◌∙◌}
 use Rattle.rules.specs.Numbers.{run}
 use Rattle.samples.specs.At.{exponential_over}
 use Rattle.runs.proofs.exponential_rest.Goals as goal

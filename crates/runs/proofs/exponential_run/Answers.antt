@@ -1,8 +1,8 @@
 -- `runs::exponential_run` meets its contract. Assumes nothing.
-use Rattle.std.proofs.Common.{◌≡◌, ◌-◌, length, arith, rules}
+use Rattle.std.proofs.Common.{◌≡◌, length, arith}
 use lib.Ieee.{Float}
 use Rattle.samples.specs.At.{exponential_over}
-use Rattle.runs.proofs.Filling.{Filled, none_filled, one_more, filled-length, all-filled}
+use Rattle.runs.proofs.Filling.{none_filled, one_more, filled-length, all-filled}
 use Rattle.runs.proofs.exponential_run.Goals as goal
 use Rattle.runs.proofs.exponential_run.Goals.{At-loop-i, Start}
 

@@ -1,8 +1,7 @@
 -- `runs::exponential_run` meets its contract. Assumes nothing.
-use Rattle.std.proofs.Common.{◌≡◌, ◌-◌, length, arith, rules}
-use lib.Ieee.{Float}
+use Rattle.std.proofs.Common.{◌-◌, length}
 use Rattle.samples.specs.At.{exponential_over}
-use Rattle.runs.proofs.Filling.{Filled, none_filled, one_more, filled-length, all-filled}
+use Rattle.runs.proofs.Filling.{Filled}
 use Rattle.runs.proofs.exponential_run.Given as goal
 
 abbrev pub invariant-loop-i : goal.invariant-loop-i

@@ -1,12 +1,12 @@
 -- `runs::exponential_told` meets its contract. Assumes nothing.
-use Rattle.std.proofs.Common.{◌≡◌, ℕ, ◌<◌, ◌≤◌, true, T, ◌⊎◌, List, length, get_or, sym, refl, ◌∙◌, subst, inl, inr, ⊎_elim, true≢false, ext_get_or, rules}
+use Rattle.std.proofs.Common.{◌≡◌, ℕ, ◌<◌, ◌≤◌, T, length, get_or, sym, refl, ◌∙◌, subst, inl, inr, ⊎_elim, true≢false, ext_get_or}
 use lib.Ieee.{Float, nan, binary64, fits, mul}
 use Rattle.rules.specs.Numbers.{run}
 use Rattle.rules.specs.Samples.{phase_of}
 use Rattle.samples.specs.At.{exponential_over}
 use Rattle.decays.specs.Cell.{Lifts, Middle}
 use Rattle.runs.specs.After.{after}
-use Rattle.runs.specs.Placed.{InGrown, Grows, Celled, Listed, Grew}
+use Rattle.runs.specs.Placed.{InGrown, Grows, Celled}
 use Rattle.runs.proofs.Filling.{run_length, run_at}
 use Rattle.runs.proofs.Cells.{ordered, told}
 use Rattle.runs.proofs.exponential_told.Goals as goal
@@ -75,9 +75,9 @@ pub unsure_of-count-requires : goal.unsure_of-count-requires
 unsure_of-count-requires c =
     let u = (goal.at.unsure_of-count-requires c).After-cells_of in
     record {
-    slow_len = (refl, c.cells_of.ensures.0, c.cells_of.ensures.1, c.requires.0);
-    by_index = λ k l. ordered _ (b u k) (n u k) (h u k) (low u k) (y u k) (fit u) (middle u) (grown u k l) (cells u k l);
-  }
+      slow_len = (refl, c.cells_of.ensures.0, c.cells_of.ensures.1, c.requires.0);
+      by_index = λ k l. ordered _ (b u k) (n u k) (h u k) (low u k) (y u k) (fit u) (middle u) (grown u k l) (cells u k l);
+    }
 
 pub grown_settle-requires : goal.grown_settle-requires
 grown_settle-requires c =
@@ -88,16 +88,16 @@ grown_settle-requires c =
     let count = c.unsure_of-count.result in
     let len = sym (kept u) in
     record {
-    out_len_bound = (subst (λ (m : ℕ). m ≤ 128) len p.0, w.0, c.lifts_at.ensures.0, subst (λ (m : ℕ). count ≤ m) len w.1, p.1, middle u);
-    by_index = (
-      (λ k l. (c.lifts_at.ensures.1 k (inside u k l), (grows u k (inside u k l)).0)),
-      (λ j l. subst (λ (m : ℕ). get_or slow j 0 < m) len (w.2 j l)),
-      -- a sample, or a place in the list
-      λ k l.
-      let i = inside u k l in
-      ⊎_elim (λ o. inl (told _ (b u k) (n u k) (h u k) (low u k) (y u k) (fit u) (middle u) (grown u k i) (cells u k i) (grows u k i) o)) (λ o. inr o) (w.3 k i),
-    );
-  }
+      out_len_bound = (subst (λ (m : ℕ). m ≤ 128) len p.0, w.0, c.lifts_at.ensures.0, subst (λ (m : ℕ). count ≤ m) len w.1, p.1, middle u);
+      by_index = (
+        (λ k l. (c.lifts_at.ensures.1 k (inside u k l), (grows u k (inside u k l)).0)),
+        (λ j l. subst (λ (m : ℕ). get_or slow j 0 < m) len (w.2 j l)),
+        -- a sample, or a place in the list
+        λ k l.
+            let i = inside u k l in
+            ⊎_elim (λ o. inl (told _ (b u k) (n u k) (h u k) (low u k) (y u k) (fit u) (middle u) (grown u k i) (cells u k i) (grows u k i) o)) (λ o. inr o) (w.3 k i),
+      );
+    }
 
 pub returns : goal.returns
 unfolding exponential_over

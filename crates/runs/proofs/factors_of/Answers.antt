@@ -1,9 +1,9 @@
 -- `runs::factors_of` meets its contract. Assumes nothing.
-use Rattle.std.proofs.Common.{◌≡◌, ◌-◌, ◌<◌, [], ◌∷◌, ◌++◌, length, take, sym, refl, ap, ◌∙◌, arith, take_all, rules}
+use Rattle.std.proofs.Common.{◌≡◌, ◌<◌, [], ◌∷◌, ◌++◌, length, take, sym, refl, ap, ◌∙◌, arith, take_all}
 use lib.Ieee.{Float, nan, of_bits}
 use Rattle.runs.specs.Passes.{each}
 use Rattle.runs.proofs.Factors.{factor}
-use Rattle.runs.proofs.Passing.{Passed, none_passed, one_passed, still, passed_length, all_passed, each_last}
+use Rattle.runs.proofs.Passing.{none_passed, one_passed, still, passed_length, all_passed, each_last}
 use Rattle.runs.proofs.factors_of.Goals as goal
 use Rattle.runs.proofs.factors_of.Goals.{At-loop-i, In-loop-i, Start}
 

@@ -1,11 +1,10 @@
 -- `runs::faded_any` meets its contract. Assumes nothing.
-use Rattle.std.proofs.Common.{◌≡◌, ◌-◌, ◌<◌, not, T, length, take, refl, ap, ◌∙◌, arith, take_all, rules}
-use lib.Ieee.{Float, nan, binary32, fits, is_nan}
-use Rattle.rules.specs.Numbers.{fused}
+use Rattle.std.proofs.Common.{◌≡◌, ◌<◌, not, T, length, refl, ap, ◌∙◌, arith, take_all, rules}
+use lib.Ieee.{nan, binary32, fits, is_nan}
 use Rattle.rounding_laws.proofs.Decode.{finite_no_nan}
 use Rattle.runs.specs.Passes.{each}
 use Rattle.runs.proofs.Begun.{every_at}
-use Rattle.runs.proofs.Passing.{Passed, none_passed, one_passed, passed_length, all_passed, each_last}
+use Rattle.runs.proofs.Passing.{none_passed, one_passed, passed_length, all_passed, each_last}
 use Rattle.runs.proofs.faded_any.Invariants.{sum_of}
 use Rattle.runs.proofs.faded_any.Goals as goal
 use Rattle.runs.proofs.faded_any.Goals.{At-loop-i, In-loop-i, Start}
@@ -35,9 +34,9 @@ fused_wide-requires c =
     let p = s.requires.t in
     let f = every_at (λ f. T (fits binary32 f) × T (not (is_nan f))) s.args.fs.now s.requires.out_len.1 c.loop-i.i (within (goal.at.fused_wide-requires c).In-loop-i) _ in
     record {
-    t = (p.0, f.0, p.1);
-    t_2 = (finite_no_nan s.args.a p.2, f.1, finite_no_nan s.args.«c» p.3);
-  }
+      t = (p.0, f.0, p.1);
+      t_2 = (finite_no_nan s.args.a p.2, f.1, finite_no_nan s.args.«c» p.3);
+    }
 
 pub bounds-out-i : goal.bounds-out-i
 bounds-out-i c = c.loop-i-test.true

@@ -1,11 +1,9 @@
 -- `runs::faded_any` meets its contract. Assumes nothing.
-use Rattle.std.proofs.Common.{◌≡◌, ◌-◌, ◌<◌, not, T, length, take, refl, ap, ◌∙◌, arith, take_all, rules}
-use lib.Ieee.{Float, nan, binary32, fits, is_nan}
+use Rattle.std.proofs.Common.{◌-◌, length, take}
+use lib.Ieee.{Float, binary32}
 use Rattle.rules.specs.Numbers.{fused}
-use Rattle.rounding_laws.proofs.Decode.{finite_no_nan}
 use Rattle.runs.specs.Passes.{each}
-use Rattle.runs.proofs.Begun.{every_at}
-use Rattle.runs.proofs.Passing.{Passed, none_passed, one_passed, passed_length, all_passed, each_last}
+use Rattle.runs.proofs.Passing.{Passed}
 use Rattle.runs.proofs.faded_any.Given as goal
 
 abbrev pub sum_of : Float → Float → Float → Float

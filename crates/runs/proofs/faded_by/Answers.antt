@@ -1,9 +1,8 @@
 -- `runs::faded_by` meets its contract. Assumes nothing.
-use Rattle.std.proofs.Common.{◌≡◌, ℕ, ◌-◌, ◌<◌, ◌≤◌, not, T, List, length, get_or, sym, refl, ap, ◌∙◌, subst, arith, length-set}
-use lib.Ieee.{Float, nan, binary32, binary64, of_bits, nan_bits}
+use Rattle.std.proofs.Common.{◌≡◌, ℕ, ◌<◌, not, T, length, get_or, sym, refl, ap, ◌∙◌, subst, arith, length-set}
+use lib.Ieee.{nan, binary32, binary64, of_bits, nan_bits}
 use Rattle.rules.specs.Numbers.{fused}
 use Rattle.phases.specs.Once.{Served}
-use Rattle.decays.specs.Told.{shown}
 use Rattle.runs.specs.Placed.{Factor}
 use Rattle.runs.proofs.Shown.{shown_nan}
 use Rattle.runs.proofs.Telling.{one_set}
@@ -49,9 +48,9 @@ sum_once-requires c =
     let l = (goal.at.sum_once-requires c).In-loop-i in
     let p = (start (goal.at.sum_once-requires c).At-loop-i).requires in
     record {
-    t = p.t;
-    served = subst (λ (n : ℕ). Served (start (goal.at.sum_once-requires c).At-loop-i).args.a (start (goal.at.sum_once-requires c).At-loop-i).args.«c» (of_bits binary64 n)) (sym c.shown_by-n.ensures) (p.out_len_bound.3 c.loop-i.i (inside l)).1;
-  }
+      t = p.t;
+      served = subst (λ (n : ℕ). Served (start (goal.at.sum_once-requires c).At-loop-i).args.a (start (goal.at.sum_once-requires c).At-loop-i).args.«c» (of_bits binary64 n)) (sym c.shown_by-n.ensures) (p.out_len_bound.3 c.loop-i.i (inside l)).1;
+    }
 
 pub offset_bounds-out-i : goal.offset_bounds-out-i
 offset_bounds-out-i c = omega (arith, within (goal.at.offset_bounds-out-i c).In-loop-i)

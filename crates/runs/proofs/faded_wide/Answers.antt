@@ -1,9 +1,8 @@
 -- `runs::faded_wide` meets its contract. Assumes nothing.
-use Rattle.std.proofs.Common.{◌≡◌, ℕ, ◌-◌, ◌<◌, ◌≤◌, not, T, List, length, get_or, sym, refl, ap, ◌∙◌, subst, arith, length-set}
-use lib.Ieee.{Float, nan, binary32, binary64, of_bits, nan_bits, fits, is_nan}
+use Rattle.std.proofs.Common.{◌≡◌, ℕ, ◌<◌, not, T, length, get_or, sym, refl, ap, ◌∙◌, subst, arith, length-set}
+use lib.Ieee.{nan, binary32, binary64, of_bits, nan_bits, fits, is_nan}
 use Rattle.rules.specs.Numbers.{fused}
 use Rattle.rounding_laws.proofs.Decode.{finite_no_nan}
-use Rattle.decays.specs.Told.{shown}
 use Rattle.runs.specs.Placed.{Factor}
 use Rattle.runs.proofs.Shown.{shown_nan, no_nan}
 use Rattle.runs.proofs.Telling.{one_set}
@@ -51,9 +50,9 @@ fused_wide-requires c =
     let f = factor l in
     let e = sym c.shown_by-n.ensures in
     record {
-    t = (p.t.0, subst (λ (n : ℕ). T (fits binary32 (of_bits binary64 n))) e f.fit, p.t.1);
-    t_2 = (finite_no_nan _ p.t.2, subst (λ (n : ℕ). T (not (is_nan (of_bits binary64 n)))) e (no_nan f), finite_no_nan _ p.t.3);
-  }
+      t = (p.t.0, subst (λ (n : ℕ). T (fits binary32 (of_bits binary64 n))) e f.fit, p.t.1);
+      t_2 = (finite_no_nan _ p.t.2, subst (λ (n : ℕ). T (not (is_nan (of_bits binary64 n)))) e (no_nan f), finite_no_nan _ p.t.3);
+    }
 
 pub offset_bounds-out-i : goal.offset_bounds-out-i
 offset_bounds-out-i c = omega (arith, within (goal.at.offset_bounds-out-i c).In-loop-i)

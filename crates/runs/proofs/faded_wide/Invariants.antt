@@ -1,12 +1,8 @@
 -- `runs::faded_wide` meets its contract. Assumes nothing.
-use Rattle.std.proofs.Common.{◌≡◌, ℕ, ◌-◌, ◌<◌, ◌≤◌, not, T, List, length, get_or, sym, refl, ap, ◌∙◌, subst, arith, length-set}
-use lib.Ieee.{Float, nan, binary32, binary64, of_bits, nan_bits, fits, is_nan}
+use Rattle.std.proofs.Common.{◌≡◌, ℕ, ◌-◌, ◌<◌, ◌≤◌, List, length, get_or}
+use lib.Ieee.{Float, nan, binary32, binary64, of_bits}
 use Rattle.rules.specs.Numbers.{fused}
-use Rattle.rounding_laws.proofs.Decode.{finite_no_nan}
 use Rattle.decays.specs.Told.{shown}
-use Rattle.runs.specs.Placed.{Factor}
-use Rattle.runs.proofs.Shown.{shown_nan, no_nan}
-use Rattle.runs.proofs.Telling.{one_set}
 use Rattle.runs.proofs.faded_wide.Given as goal
 
 -- the sum at a place

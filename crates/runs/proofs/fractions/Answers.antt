@@ -1,8 +1,8 @@
 -- `runs::fractions` meets its contract. Assumes nothing.
-use Rattle.std.proofs.Common.{◌-◌, length, take, refl, ap, ◌∙◌, arith, take_all, rules}
+use Rattle.std.proofs.Common.{length, refl, ap, ◌∙◌, arith, take_all}
 use lib.Ieee.{nan, binary64, sub}
 use Rattle.runs.specs.Passes.{each}
-use Rattle.runs.proofs.Passing.{Passed, none_passed, one_passed, all_passed, each_last}
+use Rattle.runs.proofs.Passing.{none_passed, one_passed, all_passed, each_last}
 use Rattle.runs.proofs.fractions.Goals as goal
 
 pub loop-i-init : goal.loop-i-init

@@ -1,8 +1,8 @@
 -- `runs::fractions` meets its contract. Assumes nothing.
-use Rattle.std.proofs.Common.{◌-◌, length, take, refl, ap, ◌∙◌, arith, take_all, rules}
-use lib.Ieee.{nan, binary64, sub}
+use Rattle.std.proofs.Common.{◌-◌, take}
+use lib.Ieee.{binary64, sub}
 use Rattle.runs.specs.Passes.{each}
-use Rattle.runs.proofs.Passing.{Passed, none_passed, one_passed, all_passed, each_last}
+use Rattle.runs.proofs.Passing.{Passed}
 use Rattle.runs.proofs.fractions.Given as goal
 
 abbrev pub invariant-loop-i : goal.invariant-loop-i

@@ -1,8 +1,8 @@
 -- `runs::grown_settle` meets its contract. Assumes nothing.
-use Rattle.std.proofs.Common.{◌≡◌, ℕ, ◌-◌, ◌<◌, ◌≤◌, length, get_or, refl, ◌∙◌, arith, length-set}
-use lib.Ieee.{Float, nan}
+use Rattle.std.proofs.Common.{◌≡◌, ◌-◌, ◌≤◌, length, get_or}
+use lib.Ieee.{nan}
 use Rattle.runs.specs.Placed.{Grew}
-use Rattle.runs.proofs.Telling.{Settling, one_settled, all_settled}
+use Rattle.runs.proofs.Telling.{Settling}
 use Rattle.runs.proofs.grown_settle.Given as goal
 
 abbrev pub invariant-loop-j : goal.invariant-loop-j

@@ -1,5 +1,5 @@
 -- `runs::growths_by` meets its contract. Assumes nothing.
-use Rattle.std.proofs.Common.{◌≡◌, ℕ, ◌-◌, ◌<◌, ◌≤◌, true, length, get_or, sym, ◌∙◌, inl, inr, true≢false, arith, length-set}
+use Rattle.std.proofs.Common.{◌≡◌, ◌<◌, length, get_or, sym, ◌∙◌, true≢false, arith, length-set}
 use Rattle.runs.specs.Placed.{InGrown, Grows}
 use Rattle.runs.proofs.Telling.{one_set}
 use Rattle.runs.proofs.growths_by.Goals as goal
@@ -44,7 +44,7 @@ loop-i-preserved c =
       one_set 0 (λ k n. InGrown n) l.ns l.i v h (g.0, g.1) l.invariant.2,
       λ e.
           elim c.if-b-eq0.branch [
-            then-b-eq0 w ↦ absurd (true≢false (sym e ∙ w.all-is))
+            | then-b-eq0 w ↦ absurd (true≢false (sym e ∙ w.all-is))
             | else-b-eq0 w ↦ one_set 0 (λ k n. Grows (get_or c.args.bs.now k 0) n) l.ns l.i v h (w.if-b-eq0.false, g.2 w.if-b-eq0.false) (l.invariant.3 (sym w.all-is ∙ e))
           ],
     )

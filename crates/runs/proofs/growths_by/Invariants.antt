@@ -1,7 +1,6 @@
 -- `runs::growths_by` meets its contract. Assumes nothing.
-use Rattle.std.proofs.Common.{◌≡◌, ℕ, ◌-◌, ◌<◌, ◌≤◌, true, length, get_or, sym, ◌∙◌, inl, inr, true≢false, arith, length-set}
+use Rattle.std.proofs.Common.{◌≡◌, ℕ, ◌-◌, ◌<◌, ◌≤◌, true, length, get_or}
 use Rattle.runs.specs.Placed.{InGrown, Grows}
-use Rattle.runs.proofs.Telling.{one_set}
 use Rattle.runs.proofs.growths_by.Given as goal
 
 abbrev pub invariant-loop-i : goal.invariant-loop-i

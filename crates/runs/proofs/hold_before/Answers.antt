@@ -1,9 +1,9 @@
 -- `runs::hold_before` meets its contract. Assumes nothing.
-use Rattle.std.proofs.Common.{◌≡◌, ◌-◌, ◌<◌, List, length, take, refl, ap, ◌∙◌, add-one, arith, take_all, rules}
+use Rattle.std.proofs.Common.{◌≡◌, ◌<◌, List, length, refl, ap, ◌∙◌, add-one, arith, take_all}
 use lib.Ieee.{Float, nan}
 use Rattle.runs.specs.After.{after}
 use Rattle.runs.specs.Passes.{timed, held_at}
-use Rattle.runs.proofs.Passing.{Passed, none_passed, one_passed, still, passed_length, all_passed, timed_last}
+use Rattle.runs.proofs.Passing.{none_passed, one_passed, still, passed_length, all_passed, timed_last}
 use Rattle.runs.proofs.hold_before.Goals as goal
 use Rattle.runs.proofs.hold_before.Goals.{At-loop-i, In-loop-i, Start}
 

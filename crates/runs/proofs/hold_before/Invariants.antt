@@ -1,9 +1,8 @@
 -- `runs::hold_before` meets its contract. Assumes nothing.
-use Rattle.std.proofs.Common.{◌≡◌, ◌-◌, ◌<◌, List, length, take, refl, ap, ◌∙◌, add-one, arith, take_all, rules}
-use lib.Ieee.{Float, nan}
+use Rattle.std.proofs.Common.{◌≡◌, ◌-◌, length, take}
 use Rattle.runs.specs.After.{after}
 use Rattle.runs.specs.Passes.{timed, held_at}
-use Rattle.runs.proofs.Passing.{Passed, none_passed, one_passed, still, passed_length, all_passed, timed_last}
+use Rattle.runs.proofs.Passing.{Passed}
 use Rattle.runs.proofs.hold_before.Given as goal
 
 abbrev pub invariant-loop-i : goal.invariant-loop-i

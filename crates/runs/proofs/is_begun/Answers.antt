@@ -1,5 +1,5 @@
 -- `runs::is_begun` meets its contract. Assumes nothing.
-use Rattle.std.proofs.Common.{sym, true≢false, rules}
+use Rattle.std.proofs.Common.{sym, true≢false}
 use Rattle.runs.proofs.is_begun.Goals as goal
 
 pub returns-then-plain : goal.returns-then-plain

@@ -1,5 +1,5 @@
 -- `runs::is_steady` meets its contract. Assumes nothing.
-use Rattle.std.proofs.Common.{sym, true≢false, rules}
+use Rattle.std.proofs.Common.{sym, true≢false}
 use lib.Ieee.{of_bits, of_fields, odd}
 use Rattle.runs.proofs.is_steady.Goals as goal
 

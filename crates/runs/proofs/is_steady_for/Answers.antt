@@ -1,5 +1,5 @@
 -- `runs::is_steady_for` meets its contract. Assumes nothing.
-use Rattle.std.proofs.Common.{sym, true≢false, rules}
+use Rattle.std.proofs.Common.{sym, true≢false}
 use Rattle.runs.proofs.is_steady_for.Goals as goal
 
 pub returns-then-n-lt16 : goal.returns-then-n-lt16

@@ -1,5 +1,4 @@
 -- `runs::lifted_at` meets its contract. Assumes nothing.
-use Rattle.std.proofs.Common.{rules}
 use lib.Ieee.{of_bits, neg}
 use Rattle.runs.proofs.Placing.{kept_no_nan}
 use Rattle.runs.proofs.Lifting.{low, kept_lifted}

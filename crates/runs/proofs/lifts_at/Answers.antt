@@ -1,6 +1,5 @@
 -- `runs::lifts_at` meets its contract. Assumes nothing.
-use borrow.Author.Tests.{not-false}
-use Rattle.std.proofs.Common.{◌≡◌, ℕ, ◌+◌, ◌-◌, ◌<◌, ◌≤◌, true, length, get_or, sym, refl, ◌∙◌, inl, inr, true≢false, arith}
+use Rattle.std.proofs.Common.{◌≡◌, ℕ, ◌+◌, ◌<◌, ◌≤◌, length, get_or, sym, refl, ◌∙◌, true≢false, arith}
 use Rattle.rules.specs.Samples.{phase_of}
 use Rattle.runs.specs.After.{after}
 use Rattle.runs.specs.Placed.{InLifts}
@@ -59,7 +58,7 @@ loop-i-preserved c =
       some_seen Within l.i (l.i + 16) l.bs bs l.invariant.3 r.0 (λ j h. r.1 j (omega arith)),
       λ t.
           elim c.if-not-lifts_of.branch [
-            then-not-lifts_of w ↦ absurd (true≢false (sym t ∙ w.all-is))
+            | then-not-lifts_of w ↦ absurd (true≢false (sym t ∙ w.all-is))
             | else-not-lifts_of w ↦
                 some_seen P l.i (l.i + 16) l.bs bs (l.invariant.4 (sym w.all-is ∙ t)) r.0
                 (λ j h.

@@ -1,10 +1,8 @@
 -- `runs::lifts_of` meets its contract. Assumes nothing.
-use Rattle.std.proofs.Common.{◌≡◌, ℕ, ◌+◌, ◌-◌, ◌%◌, ◌<◌, ◌≤◌, List, length, get_or, sym, refl, ◌∙◌, inl, inr, true≢false, arith, rules}
-use lib.Ieee.{Float, nan}
+use Rattle.std.proofs.Common.{◌≡◌, ◌+◌, ◌%◌, ◌<◌, length, sym, refl, ◌∙◌, true≢false, arith}
 use Rattle.phases.proofs.Seen.{seen}
-use Rattle.runs.specs.Placed.{Stands}
-use Rattle.runs.proofs.Places.{Each, Seen, none_yet, one_more, one_seen, set_stands}
-use Rattle.runs.proofs.Lifting.{Within, LiftsBy}
+use Rattle.runs.proofs.Places.{none_yet, one_more, one_seen, set_stands}
+use Rattle.runs.proofs.Lifting.{Within}
 use Rattle.runs.proofs.lifts_of.Invariants.{At}
 use Rattle.runs.proofs.lifts_of.Goals as goal
 use Rattle.runs.proofs.lifts_of.Goals.{Joined-b-eq0, else-b-eq0, then-b-eq0}
@@ -45,7 +43,7 @@ loop-i-preserved c =
       one_seen (At c.args.l c.args.xs.now) c.args.at l.i j l.bs l.all c.if-b-eq0.all v l.invariant.3 refl inner
           (λ t.
           elim c.if-b-eq0.branch [
-            then-b-eq0 w ↦ absurd (true≢false (sym t ∙ w.all-is))
+            | then-b-eq0 w ↦ absurd (true≢false (sym t ∙ w.all-is))
             | else-b-eq0 w ↦ (sym w.all-is ∙ t, seen (v % 262144) r.2 w.if-b-eq0.false)
           ]),
     )

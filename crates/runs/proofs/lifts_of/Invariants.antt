@@ -1,9 +1,8 @@
 -- `runs::lifts_of` meets its contract. Assumes nothing.
-use Rattle.std.proofs.Common.{◌≡◌, ℕ, ◌+◌, ◌-◌, ◌%◌, ◌<◌, ◌≤◌, List, length, get_or, sym, refl, ◌∙◌, inl, inr, true≢false, arith, rules}
+use Rattle.std.proofs.Common.{ℕ, ◌-◌, ◌≤◌, List, get_or}
 use lib.Ieee.{Float, nan}
-use Rattle.phases.proofs.Seen.{seen}
 use Rattle.runs.specs.Placed.{Stands}
-use Rattle.runs.proofs.Places.{Each, Seen, none_yet, one_more, one_seen, set_stands}
+use Rattle.runs.proofs.Places.{Each, Seen}
 use Rattle.runs.proofs.Lifting.{Within, LiftsBy}
 use Rattle.runs.proofs.lifts_of.Given as goal
 

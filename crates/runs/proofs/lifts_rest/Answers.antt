@@ -1,10 +1,9 @@
 -- `runs::lifts_rest` meets its contract. Assumes nothing.
-use Rattle.std.proofs.Common.{◌≡◌, ℕ, suc, ◌+◌, ◌-◌, ◌%◌, ◌<◌, ◌≤◌, length, set, sym, refl, ap, ◌∙◌, subst, inl, inr, true≢false, arith, rules}
+use Rattle.std.proofs.Common.{◌≡◌, ℕ, suc, ◌+◌, ◌-◌, ◌%◌, ◌<◌, length, set, sym, refl, ap, ◌∙◌, subst, true≢false, arith}
 use lib.Ieee.{Float, binary64, add}
 use Rattle.rules.specs.Samples.{phase_of}
 use Rattle.phases.proofs.Seen.{seen}
 use Rattle.runs.specs.After.{after}
-use Rattle.runs.specs.Placed.{Stands}
 use Rattle.runs.proofs.Places.{Timed, Each, Seen, one_more, one_seen, set_stands}
 use Rattle.runs.proofs.Lifting.{Within, LiftsBy}
 use Rattle.runs.proofs.lifts_rest.Goals as goal
@@ -54,7 +53,7 @@ loop-i-preserved c =
           (one_seen P x.at n l.i l.bs l.all c.if-b-eq0.all v l.invariant.5 next inner
           (λ t.
           elim c.if-b-eq0.branch [
-            then-b-eq0 w ↦ absurd (true≢false (sym t ∙ w.all-is))
+            | then-b-eq0 w ↦ absurd (true≢false (sym t ∙ w.all-is))
             | else-b-eq0 w ↦ (sym w.all-is ∙ t, subst (λ (u : Float). LiftsBy x.l (phase_of x.start_time x.duration u) v) l.invariant.3 (seen (v % 262144) r.2 w.if-b-eq0.false))
           ])),
     )

@@ -1,9 +1,9 @@
 -- `runs::linear_once` meets its contract. Assumes nothing.
-use Rattle.std.proofs.Common.{◌≡◌, ℕ, ◌+◌, ◌-◌, length, ◌∙◌, arith, rules}
+use Rattle.std.proofs.Common.{◌≡◌, ℕ, ◌+◌, ◌-◌, length, ◌∙◌, arith}
 use lib.Ieee.{Float}
 use borrow.Rule.Slice.PartMut.{mid_len}
 use Rattle.samples.specs.At.{linear_at}
-use Rattle.runs.proofs.Filling.{Filled, none_filled, some_more, rest_filled, filled-length, all-filled}
+use Rattle.runs.proofs.Filling.{none_filled, some_more, rest_filled, filled-length, all-filled}
 use Rattle.runs.proofs.linear_once.Goals as goal
 use Rattle.runs.proofs.linear_once.Goals.{At-loop-out, Start}
 
@@ -40,9 +40,9 @@ linear_sixteen-t-requires c =
     let l = c.loop-out.out in
     let s = start (goal.at.linear_sixteen-t-requires c).At-loop-out in
     record {
-    t = s.requires.t;
-    once = (s.requires.once, mid_len i (i + 16) l (omega (arith, c.loop-out-test.true)) ∙ sixteen i, c.is_steady_for-steady.ensures);
-  }
+      t = s.requires.t;
+      once = (s.requires.once, mid_len i (i + 16) l (omega (arith, c.loop-out-test.true)) ∙ sixteen i, c.is_steady_for-steady.ensures);
+    }
 
 pub loop-out-smaller : goal.loop-out-smaller
 loop-out-smaller c = omega (arith, kept (goal.at.loop-out-smaller c).At-loop-out, c.loop-out-test.true)

@@ -1,9 +1,9 @@
 -- `runs::linear_rest` meets its contract. Assumes nothing.
-use Rattle.std.proofs.Common.{◌≡◌, ◌-◌, length, arith, rules}
+use Rattle.std.proofs.Common.{◌≡◌, length, arith}
 use lib.Ieee.{Float}
 use Rattle.rules.specs.Samples.{phase_of}
 use Rattle.samples.specs.At.{linear_at}
-use Rattle.runs.proofs.Filling.{Filled, none_filled, one_more, filled-length, all-filled}
+use Rattle.runs.proofs.Filling.{none_filled, one_more, filled-length, all-filled}
 use Rattle.runs.proofs.linear_rest.Goals as goal
 use Rattle.runs.proofs.linear_rest.Goals.{At-loop-i, Start}
 

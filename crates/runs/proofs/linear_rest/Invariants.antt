@@ -1,9 +1,7 @@
 -- `runs::linear_rest` meets its contract. Assumes nothing.
-use Rattle.std.proofs.Common.{◌≡◌, ◌-◌, length, arith, rules}
-use lib.Ieee.{Float}
-use Rattle.rules.specs.Samples.{phase_of}
+use Rattle.std.proofs.Common.{◌-◌, length}
 use Rattle.samples.specs.At.{linear_at}
-use Rattle.runs.proofs.Filling.{Filled, none_filled, one_more, filled-length, all-filled}
+use Rattle.runs.proofs.Filling.{Filled}
 use Rattle.runs.proofs.linear_rest.Given as goal
 
 abbrev pub invariant-loop-i : goal.invariant-loop-i

@@ -1,5 +1,5 @@
 -- `runs::linear_sixteen` meets its contract: the phases between two that are within are within (`proofs/Ascent.antt`). Assumes nothing.
-use Rattle.std.proofs.Common.{◌≡◌, ℕ, ◌<◌, T, List, length, get_or, sym, ap, ◌∙◌, subst, rules}
+use Rattle.std.proofs.Common.{◌≡◌, ℕ, ◌<◌, T, List, length, get_or, sym, ap, ◌∙◌, subst}
 use lib.Ieee.{Float, nan}
 use Rattle.rules.specs.Numbers.{run}
 use Rattle.rules.specs.Samples.{phase_of}
@@ -45,9 +45,9 @@ sums_within-requires c =
     let s = start f in
     let e = c.phases_from-next.ensures.0 in
     record {
-    t = s.requires.t;
-    once = (s.requires.once.0, s.requires.once.1, sixteen f _ e, lanes f _ _ e (record { steady = s.requires.once.2 c.if-steady.true; started = c.is_begun.ensures c.if-is_begun.true }) (c.spans.ensures c.if-spans.true));
-  }
+      t = s.requires.t;
+      once = (s.requires.once.0, s.requires.once.1, sixteen f _ e, lanes f _ _ e (record { steady = s.requires.once.2 c.if-steady.true; started = c.is_begun.ensures c.if-is_begun.true }) (c.spans.ensures c.if-spans.true));
+    }
 
 pub returns-then-spans : goal.returns-then-spans
 returns-then-spans c =
@@ -59,9 +59,9 @@ sums_tested-requires c =
     let f = (goal.at.sums_tested-requires c).After-phases_from-next in
     let s = start f in
     record {
-    t = s.requires.t;
-    once = (s.requires.once.0, s.requires.once.1, sixteen f _ c.phases_from-next.ensures.0);
-  }
+      t = s.requires.t;
+      once = (s.requires.once.0, s.requires.once.1, sixteen f _ c.phases_from-next.ensures.0);
+    }
 
 pub returns : goal.returns
 returns c =

@@ -1,5 +1,5 @@
 -- `runs::part_later` meets its contract. Assumes nothing.
-use Rattle.std.proofs.Common.{◌≡◌, ◌-◌, ◌≤◌, refl, ap, ◌∙◌, add-one, arith, rules}
+use Rattle.std.proofs.Common.{◌≡◌, refl, ap, ◌∙◌, add-one, arith}
 use lib.Ieee.{Float, binary64, add}
 use Rattle.runs.specs.After.{after}
 use Rattle.runs.proofs.part_later.Goals as goal

@@ -1,6 +1,5 @@
 -- `runs::part_later` meets its contract. Assumes nothing.
-use Rattle.std.proofs.Common.{◌≡◌, ◌-◌, ◌≤◌, refl, ap, ◌∙◌, add-one, arith, rules}
-use lib.Ieee.{Float, binary64, add}
+use Rattle.std.proofs.Common.{◌≡◌, ◌-◌, ◌≤◌}
 use Rattle.runs.specs.After.{after}
 use Rattle.runs.proofs.part_later.Given as goal
 

@@ -1,9 +1,9 @@
 -- `runs::phases_at` meets its contract. Assumes nothing.
-use Rattle.std.proofs.Common.{◌≡◌, ◌-◌, ◌<◌, length, take, refl, ap, ◌∙◌, arith, take_all, rules}
+use Rattle.std.proofs.Common.{◌≡◌, ◌<◌, length, refl, ap, ◌∙◌, arith, take_all}
 use lib.Ieee.{Float, nan}
 use Rattle.rules.specs.Samples.{phase_of}
 use Rattle.runs.specs.Passes.{each}
-use Rattle.runs.proofs.Passing.{Passed, none_passed, one_passed, still, passed_length, all_passed, each_last}
+use Rattle.runs.proofs.Passing.{none_passed, one_passed, still, passed_length, all_passed, each_last}
 use Rattle.runs.proofs.phases_at.Goals as goal
 use Rattle.runs.proofs.phases_at.Goals.{At-loop-i, In-loop-i}
 

@@ -1,9 +1,8 @@
 -- `runs::phases_at` meets its contract. Assumes nothing.
-use Rattle.std.proofs.Common.{◌≡◌, ◌-◌, ◌<◌, length, take, refl, ap, ◌∙◌, arith, take_all, rules}
-use lib.Ieee.{Float, nan}
+use Rattle.std.proofs.Common.{◌-◌, length, take}
 use Rattle.rules.specs.Samples.{phase_of}
 use Rattle.runs.specs.Passes.{each}
-use Rattle.runs.proofs.Passing.{Passed, none_passed, one_passed, still, passed_length, all_passed, each_last}
+use Rattle.runs.proofs.Passing.{Passed}
 use Rattle.runs.proofs.phases_at.Given as goal
 
 abbrev pub invariant-loop-i : goal.invariant-loop-i

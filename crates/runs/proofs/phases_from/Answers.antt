@@ -1,8 +1,8 @@
 -- `runs::phases_from` meets its contract. Assumes nothing.
-use Rattle.std.proofs.Common.{◌≡◌, ◌-◌, length, refl, ◌∙◌, arith, rules}
+use Rattle.std.proofs.Common.{◌≡◌, length, refl, ◌∙◌, arith}
 use lib.Ieee.{Float}
 use Rattle.rules.specs.Samples.{phase_of}
-use Rattle.runs.proofs.Filling.{Filled, none_filled, one_more, all-filled}
+use Rattle.runs.proofs.Filling.{none_filled, one_more, all-filled}
 use Rattle.runs.proofs.phases_from.Goals as goal
 use Rattle.runs.proofs.phases_from.Goals.{Start}
 

@@ -1,8 +1,7 @@
 -- `runs::phases_from` meets its contract. Assumes nothing.
-use Rattle.std.proofs.Common.{◌≡◌, ◌-◌, length, refl, ◌∙◌, arith, rules}
-use lib.Ieee.{Float}
+use Rattle.std.proofs.Common.{◌-◌}
 use Rattle.rules.specs.Samples.{phase_of}
-use Rattle.runs.proofs.Filling.{Filled, none_filled, one_more, all-filled}
+use Rattle.runs.proofs.Filling.{Filled}
 use Rattle.runs.proofs.phases_from.Given as goal
 
 abbrev pub invariant-loop-i : goal.invariant-loop-i

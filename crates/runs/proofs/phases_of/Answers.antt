@@ -1,5 +1,5 @@
 -- `runs::phases_of` meets its contract. Assumes nothing.
-use Rattle.std.proofs.Common.{ap, ◌∙◌, rules}
+use Rattle.std.proofs.Common.{ap, ◌∙◌}
 use Rattle.rules.specs.Samples.{phase_of}
 use Rattle.runs.specs.Passes.{each}
 use Rattle.runs.proofs.Passing.{each-run}

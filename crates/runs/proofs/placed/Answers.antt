@@ -1,5 +1,4 @@
 -- `runs::placed` meets its contract. Assumes nothing.
-use Rattle.std.proofs.Common.{rules}
 use lib.Ieee.{of_bits}
 use Rattle.rules.specs.Numbers.{plus_zero}
 use Rattle.runs.proofs.Placing.{kept_no_nan, kept_placed}

@@ -1,6 +1,5 @@
 -- `runs::places_at` meets its contract. Assumes nothing.
-use borrow.Author.Tests.{not-false}
-use Rattle.std.proofs.Common.{◌≡◌, ℕ, ◌+◌, ◌-◌, ◌<◌, ◌≤◌, true, length, get_or, sym, refl, ◌∙◌, inl, inr, true≢false, arith}
+use Rattle.std.proofs.Common.{◌+◌, ◌<◌, ◌≤◌, get_or, sym, refl, ◌∙◌, true≢false, arith}
 use Rattle.rules.specs.Samples.{phase_of}
 use Rattle.runs.specs.After.{after}
 use Rattle.runs.specs.Placed.{Placed}
@@ -26,13 +25,13 @@ pub places_of-requires : goal.places_of-requires
 places_of-requires c =
     let p = c.phases_from-t in
     record {
-    few_bound = c.requires.few_bound;
-    bs_len = (
+      few_bound = c.requires.few_bound;
+      bs_len = (
         c.loop-i.invariant.0,
         run_long (phase_of c.args.start_time c.args.duration) c.args.dt 16 c.loop-i.t p.new.xs p.ensures.0,
         omega (arith, room (goal.at.places_of-requires c).In-loop-i, c.requires.bs_len.1),
       );
-  }
+    }
 
 pub overflow_add-i : goal.overflow_add-i
 overflow_add-i c = let k = (goal.at.overflow_add-i c).In-loop-i in record { fits = omega (arith, room k, c.requires.bs_len.1) }
@@ -54,7 +53,7 @@ loop-i-preserved c =
       p.ensures.1 ∙ after_on x.dt x.time l.i 16 l.t l.invariant.2,
       λ t.
           elim c.if-not-places_of.branch [
-            then-not-places_of w ↦ absurd (true≢false (sym t ∙ w.all-is))
+            | then-not-places_of w ↦ absurd (true≢false (sym t ∙ w.all-is))
             | else-not-places_of w ↦
                 some_seen P l.i (l.i + 16) l.bs bs (l.invariant.3 (sym w.all-is ∙ t)) r.0
                 (λ j h.
@@ -65,9 +64,9 @@ loop-i-preserved c =
 
 pub places_rest-requires : goal.places_rest-requires
 places_rest-requires c = record {
-    few_bound = c.requires.few_bound;
-    bs_len = (c.loop-i.invariant.0, c.loop-i.invariant.1, c.requires.bs_len.1);
-  }
+  few_bound = c.requires.few_bound;
+  bs_len = (c.loop-i.invariant.0, c.loop-i.invariant.1, c.requires.bs_len.1);
+}
 
 pub returns-then-places_rest : goal.returns-then-places_rest
 returns-then-places_rest c =

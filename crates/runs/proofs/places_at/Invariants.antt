@@ -1,10 +1,8 @@
 -- `runs::places_at` meets its contract. Assumes nothing.
-use borrow.Author.Tests.{not-false}
-use Rattle.std.proofs.Common.{◌≡◌, ℕ, ◌+◌, ◌-◌, ◌<◌, ◌≤◌, true, length, get_or, sym, refl, ◌∙◌, inl, inr, true≢false, arith}
-use Rattle.rules.specs.Samples.{phase_of}
+use Rattle.std.proofs.Common.{◌≡◌, ℕ, ◌-◌, ◌<◌, ◌≤◌, true, length, get_or}
 use Rattle.runs.specs.After.{after}
 use Rattle.runs.specs.Placed.{Placed}
-use Rattle.runs.proofs.Places.{Timed, run_long, after_on, timed_on, timed_there, some_seen}
+use Rattle.runs.proofs.Places.{Timed}
 use Rattle.runs.proofs.places_at.Given as goal
 
 abbrev pub invariant-loop-i : goal.invariant-loop-i

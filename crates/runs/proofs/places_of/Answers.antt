@@ -1,9 +1,7 @@
 -- `runs::places_of` meets its contract. Assumes nothing.
-use Rattle.std.proofs.Common.{◌≡◌, ℕ, ◌+◌, ◌-◌, ◌%◌, ◌<◌, ◌≤◌, List, length, get_or, sym, refl, ◌∙◌, inl, inr, true≢false, arith, rules}
-use lib.Ieee.{Float, nan}
+use Rattle.std.proofs.Common.{◌≡◌, ◌+◌, ◌%◌, ◌<◌, length, sym, refl, ◌∙◌, true≢false, arith}
 use Rattle.phases.proofs.Seen.{seen}
-use Rattle.runs.specs.Placed.{Placed, Stands}
-use Rattle.runs.proofs.Places.{Seen, none_yet, one_seen, set_stands}
+use Rattle.runs.proofs.Places.{none_yet, one_seen, set_stands}
 use Rattle.runs.proofs.places_of.Invariants.{At}
 use Rattle.runs.proofs.places_of.Goals as goal
 use Rattle.runs.proofs.places_of.Goals.{Joined-b-eq0, else-b-eq0, then-b-eq0}
@@ -44,7 +42,7 @@ loop-i-preserved c =
       one_seen (At c.args.few c.args.xs.now) c.args.at l.i j l.bs l.all c.if-b-eq0.all v l.invariant.2 refl (omega (arith, long, within (goal.at.loop-i-preserved c).Joined-b-eq0))
           (λ t.
           elim c.if-b-eq0.branch [
-            then-b-eq0 w ↦ absurd (true≢false (sym t ∙ w.all-is))
+            | then-b-eq0 w ↦ absurd (true≢false (sym t ∙ w.all-is))
             | else-b-eq0 w ↦ (sym w.all-is ∙ t, seen (v % 262144) c.placed-b.ensures w.if-b-eq0.false)
           ]),
     )

@@ -1,9 +1,8 @@
 -- `runs::places_of` meets its contract. Assumes nothing.
-use Rattle.std.proofs.Common.{◌≡◌, ℕ, ◌+◌, ◌-◌, ◌%◌, ◌<◌, ◌≤◌, List, length, get_or, sym, refl, ◌∙◌, inl, inr, true≢false, arith, rules}
+use Rattle.std.proofs.Common.{ℕ, ◌-◌, ◌≤◌, List, get_or}
 use lib.Ieee.{Float, nan}
-use Rattle.phases.proofs.Seen.{seen}
 use Rattle.runs.specs.Placed.{Placed, Stands}
-use Rattle.runs.proofs.Places.{Seen, none_yet, one_seen, set_stands}
+use Rattle.runs.proofs.Places.{Seen}
 use Rattle.runs.proofs.places_of.Given as goal
 
 -- b shows the steps at the k-th of the phases

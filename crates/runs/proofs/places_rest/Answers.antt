@@ -1,10 +1,10 @@
 -- `runs::places_rest` meets its contract. Assumes nothing.
-use Rattle.std.proofs.Common.{◌≡◌, ℕ, suc, ◌+◌, ◌-◌, ◌%◌, ◌<◌, ◌≤◌, length, set, sym, refl, ap, ◌∙◌, subst, inl, inr, true≢false, arith, rules}
+use Rattle.std.proofs.Common.{◌≡◌, ℕ, suc, ◌+◌, ◌-◌, ◌%◌, ◌<◌, length, set, sym, refl, ap, ◌∙◌, subst, true≢false, arith}
 use lib.Ieee.{Float, binary64, add}
 use Rattle.rules.specs.Samples.{phase_of}
 use Rattle.phases.proofs.Seen.{seen}
 use Rattle.runs.specs.After.{after}
-use Rattle.runs.specs.Placed.{Placed, Stands}
+use Rattle.runs.specs.Placed.{Placed}
 use Rattle.runs.proofs.Places.{Timed, Seen, one_seen, set_stands}
 use Rattle.runs.proofs.places_rest.Goals as goal
 use Rattle.runs.proofs.places_rest.Goals.{Joined-b-eq0, else-b-eq0, then-b-eq0}
@@ -51,7 +51,7 @@ loop-i-preserved c =
           (one_seen P x.at (l.i - x.at) l.i l.bs l.all c.if-b-eq0.all v l.invariant.4 (omega arith) (omega (arith, long, within (goal.at.loop-i-preserved c).Joined-b-eq0))
           (λ t.
           elim c.if-b-eq0.branch [
-            then-b-eq0 w ↦ absurd (true≢false (sym t ∙ w.all-is))
+            | then-b-eq0 w ↦ absurd (true≢false (sym t ∙ w.all-is))
             | else-b-eq0 w ↦ (sym w.all-is ∙ t, subst (λ (u : Float). Placed x.few (phase_of x.start_time x.duration u) v) l.invariant.3 (seen (v % 262144) c.placed-b.ensures w.if-b-eq0.false))
           ])),
     )

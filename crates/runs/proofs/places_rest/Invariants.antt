@@ -1,11 +1,8 @@
 -- `runs::places_rest` meets its contract. Assumes nothing.
-use Rattle.std.proofs.Common.{◌≡◌, ℕ, suc, ◌+◌, ◌-◌, ◌%◌, ◌<◌, ◌≤◌, length, set, sym, refl, ap, ◌∙◌, subst, inl, inr, true≢false, arith, rules}
-use lib.Ieee.{Float, binary64, add}
-use Rattle.rules.specs.Samples.{phase_of}
-use Rattle.phases.proofs.Seen.{seen}
+use Rattle.std.proofs.Common.{◌≡◌, ◌-◌, ◌≤◌}
 use Rattle.runs.specs.After.{after}
 use Rattle.runs.specs.Placed.{Placed, Stands}
-use Rattle.runs.proofs.Places.{Timed, Seen, one_seen, set_stands}
+use Rattle.runs.proofs.Places.{Timed, Seen}
 use Rattle.runs.proofs.places_rest.Given as goal
 
 abbrev pub invariant-loop-i : goal.invariant-loop-i

@@ -1,5 +1,5 @@
 -- `runs::rises` meets its contract. Assumes nothing.
-use Rattle.std.proofs.Common.{sym, true≢false, rules}
+use Rattle.std.proofs.Common.{sym, true≢false}
 use Rattle.runs.proofs.rises.Goals as goal
 
 pub returns-then-is_steady : goal.returns-then-is_steady

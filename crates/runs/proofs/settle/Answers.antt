@@ -1,7 +1,7 @@
 -- `runs::settle` meets its contract. Assumes nothing.
-use Rattle.std.proofs.Common.{◌≡◌, ◌-◌, ◌<◌, ◌≤◌, length, get_or, refl, ◌∙◌, arith, length-set}
+use Rattle.std.proofs.Common.{◌<◌, get_or, refl, ◌∙◌, arith, length-set}
 use Rattle.decays.specs.Told.{Shows}
-use Rattle.runs.proofs.Telling.{Settling, one_settled, all_settled}
+use Rattle.runs.proofs.Telling.{one_settled, all_settled}
 use Rattle.runs.proofs.settle.Goals as goal
 use Rattle.runs.proofs.settle.Goals.{In-loop-j}
 
@@ -48,8 +48,7 @@ loop-j-smaller c = omega (arith, c.loop-j-test.true)
 pub loop-j-preserved : goal.loop-j-preserved
 loop-j-preserved c =
     let m = (goal.at.loop-j-preserved c).In-loop-j in
-    let l = c.loop-j in
-    (
+    let l = c.loop-j in (
       length-set l.us _ _ ∙ l.invariant.0,
       omega (arith, c.loop-j-test.true),
       one_settled 0 (λ k u. Shows (get_or c.args.bs.now k 0) u) l.us c.args.slow.now c.args.count c.args.n l.j l.invariant.2 _ refl (omega (arith, within m, l.invariant.0)) c.exact_of.result c.exact_of.ensures,

@@ -1,7 +1,7 @@
 -- `runs::settle` meets its contract. Assumes nothing.
-use Rattle.std.proofs.Common.{◌≡◌, ◌-◌, ◌<◌, ◌≤◌, length, get_or, refl, ◌∙◌, arith, length-set}
+use Rattle.std.proofs.Common.{◌≡◌, ◌-◌, ◌≤◌, length, get_or}
 use Rattle.decays.specs.Told.{Shows}
-use Rattle.runs.proofs.Telling.{Settling, one_settled, all_settled}
+use Rattle.runs.proofs.Telling.{Settling}
 use Rattle.runs.proofs.settle.Given as goal
 
 abbrev pub invariant-loop-j : goal.invariant-loop-j

@@ -1,5 +1,5 @@
 -- `runs::short_of` meets its contract. Assumes nothing.
-use Rattle.std.proofs.Common.{sym, true≢false, rules}
+use Rattle.std.proofs.Common.{sym, true≢false}
 use Rattle.runs.proofs.short_of.Goals as goal
 
 pub returns-then-x-y : goal.returns-then-x-y

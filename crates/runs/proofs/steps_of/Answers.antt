@@ -1,5 +1,5 @@
 -- `runs::steps_of` meets its contract. Assumes nothing.
-use Rattle.std.proofs.Common.{◌≡◌, ℕ, ◌+◌, ◌*◌, ◌^◌, ◌≤◌, T, pos, ap, le_trans, lt_of_le_of_lt, arith, lit≤, le→leb, w64, to_z, rules}
+use Rattle.std.proofs.Common.{◌≡◌, ℕ, ◌+◌, ◌*◌, ◌^◌, ◌≤◌, T, pos, ap, le_trans, lt_of_le_of_lt, arith, lit≤, le→leb, w64, to_z}
 use lib.Ieee.{binary64, in_float, of_int}
 use mir.Facts.{to_z_pos}
 use Rattle.rules.specs.Numbers.{wide}

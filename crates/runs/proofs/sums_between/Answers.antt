@@ -1,5 +1,5 @@
 -- `runs::sums_between` meets its contract. Assumes nothing.
-use Rattle.std.proofs.Common.{◌*◌, ◌^◌, rules}
+use Rattle.std.proofs.Common.{◌*◌, ◌^◌}
 use Rattle.phases.proofs.Seen.{seen}
 use Rattle.runs.proofs.sums_between.Goals as goal
 
@@ -7,9 +7,9 @@ pub sums_within-requires : goal.sums_within-requires
 sums_within-requires c =
     let p = c.requires in
     record {
-    t = p.t;
-    once = (seen c.once_from-bx.result c.once_from-bx.ensures c.if-bx-ne0.true, p.out_len.0, p.out_len.1, p.out_len.2 _ (c.spans.ensures c.if-spans.true));
-  }
+      t = p.t;
+      once = (seen c.once_from-bx.result c.once_from-bx.ensures c.if-bx-ne0.true, p.out_len.0, p.out_len.1, p.out_len.2 _ (c.spans.ensures c.if-spans.true));
+    }
 
 pub returns-then-spans : goal.returns-then-spans
 returns-then-spans c = λ e. c.sums_within.ensures
@@ -18,6 +18,6 @@ pub sums_seen-requires : goal.sums_seen-requires
 sums_seen-requires c =
     let p = c.requires in
     record {
-    t = p.t;
-    out_len = (p.out_len.0, p.out_len.1, p.out_len.2 (898 * 2 ^ 52) p.out_len.3);
-  }
+      t = p.t;
+      out_len = (p.out_len.0, p.out_len.1, p.out_len.2 (898 * 2 ^ 52) p.out_len.3);
+    }

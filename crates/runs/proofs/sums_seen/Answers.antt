@@ -1,5 +1,5 @@
 -- `runs::sums_seen` meets its contract. Assumes nothing.
-use Rattle.std.proofs.Common.{◌≡◌, ℕ, ◌+◌, ◌-◌, ◌≤◌, not, ◌&&◌, T, ◌⊎◌, length, take, set, sym, refl, ap, ◌∙◌, subst, inl, inr, ⊎_elim, true≢false, arith, length-set, take_all, rules}
+use Rattle.std.proofs.Common.{◌≡◌, ℕ, ◌+◌, ◌≤◌, not, ◌&&◌, T, ◌⊎◌, length, take, set, sym, refl, ap, ◌∙◌, subst, inl, inr, true≢false, arith, length-set, take_all}
 use lib.Ieee.{Float, nan, binary32, binary64, of_bits, of_fields, odd, fits, is_nan, nan_bits}
 use Rattle.rounding_laws.proofs.Cut.{cast_ok}
 use Rattle.rounding_laws.proofs.Fuse.{fused_fits}
@@ -45,9 +45,12 @@ more c e =
     let s = start a in
     let n = c.phase_sum_seen-n in
     let t = c.loop-i-test.true in
-    (elim c.if-n-ne0.branch [ then-n-ne0 h ↦ let k : l.seen ≡ l.i = omega (arith, e, h.seen-is) in
-    one_passed (l.invariant.3 k) (omega (arith, s.requires.out_len.0, t)) (of_bits binary64 n.result)
-    (rw (seen n.result n.ensures h.if-n-ne0.true).0 (each_last (phase_sum s.args.«c» s.args.a) s.args.xs.now l.i (omega (arith, long s, t)) nan)) | else-n-ne0 h ↦ absurd (omega (arith, e, h.seen-is, l.invariant.2)) ])
+    (elim c.if-n-ne0.branch [
+      | then-n-ne0 h ↦ let k : l.seen ≡ l.i = omega (arith, e, h.seen-is) in
+          one_passed (l.invariant.3 k) (omega (arith, s.requires.out_len.0, t)) (of_bits binary64 n.result)
+          (rw (seen n.result n.ensures h.if-n-ne0.true).0 (each_last (phase_sum s.args.«c» s.args.a) s.args.xs.now l.i (omega (arith, long s, t)) nan))
+      | else-n-ne0 h ↦ absurd (omega (arith, e, h.seen-is, l.invariant.2))
+    ])
 
 pub loop-i-init : goal.loop-i-init
 unfolding each
@@ -59,9 +62,9 @@ bounds-xs-i c = c.loop-i-test.true
 pub phase_sum_seen-n-requires : goal.phase_sum_seen-n-requires
 phase_sum_seen-n-requires c = let s = start (goal.at.phase_sum_seen-n-requires c).At-loop-i in
     record {
-    t = s.requires.t;
-    within = s.requires.out_len.2 c.loop-i.i c.loop-i-test.true;
-  }
+      t = s.requires.t;
+      within = s.requires.out_len.2 c.loop-i.i c.loop-i-test.true;
+    }
 
 pub float_from_bits-out : goal.float_from_bits-out
 float_from_bits-out c = no_nan c.phase_sum_seen-n.result _ c.phase_sum_seen-n.ensures

@@ -1,8 +1,7 @@
 -- `runs::sums_tested` meets its contract. Assumes nothing.
-use Rattle.std.proofs.Common.{◌≡◌, ◌-◌, length, take, refl, ap, ◌∙◌, arith, take_all, rules}
-use lib.Ieee.{nan}
+use Rattle.std.proofs.Common.{◌-◌, take}
 use Rattle.runs.specs.Passes.{each, phase_sum}
-use Rattle.runs.proofs.Passing.{Passed, none_passed, one_passed, passed_length, all_passed, each_last}
+use Rattle.runs.proofs.Passing.{Passed}
 use Rattle.runs.proofs.sums_tested.Given as goal
 
 abbrev pub invariant-loop-i : goal.invariant-loop-i

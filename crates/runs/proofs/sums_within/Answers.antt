@@ -1,8 +1,8 @@
 -- `runs::sums_within` meets its contract. Assumes nothing.
-use Rattle.std.proofs.Common.{◌≡◌, ◌-◌, length, take, refl, ap, ◌∙◌, arith, take_all, rules}
+use Rattle.std.proofs.Common.{◌≡◌, length, refl, ap, ◌∙◌, arith, take_all}
 use lib.Ieee.{nan}
 use Rattle.runs.specs.Passes.{each, phase_sum}
-use Rattle.runs.proofs.Passing.{Passed, none_passed, one_passed, passed_length, all_passed, each_last}
+use Rattle.runs.proofs.Passing.{none_passed, one_passed, passed_length, all_passed, each_last}
 use Rattle.runs.proofs.sums_within.Goals as goal
 use Rattle.runs.proofs.sums_within.Goals.{At-loop-i, Start}
 
@@ -25,9 +25,9 @@ bounds-xs-i c = c.loop-i-test.true
 pub phase_sum_within-requires : goal.phase_sum_within-requires
 phase_sum_within-requires c = let s = start (goal.at.phase_sum_within-requires c).At-loop-i in
     record {
-    t = s.requires.t;
-    once = (s.requires.once.0, s.requires.once.3 c.loop-i.i c.loop-i-test.true);
-  }
+      t = s.requires.t;
+      once = (s.requires.once.0, s.requires.once.3 c.loop-i.i c.loop-i-test.true);
+    }
 
 pub bounds-out-i : goal.bounds-out-i
 bounds-out-i c = omega (arith, kept (goal.at.bounds-out-i c).At-loop-i, c.loop-i-test.true)

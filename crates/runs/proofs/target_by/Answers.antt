@@ -1,5 +1,5 @@
 -- `runs::target_by` meets its contract. Assumes nothing.
-use Rattle.std.proofs.Common.{not, T, sym, ap, ◌∙◌, subst, rules}
+use Rattle.std.proofs.Common.{not, T, sym, ap, ◌∙◌, subst}
 use lib.Ieee.{Float, binary32, fits, is_nan, of_bits}
 use Rattle.rules.specs.Numbers.{fused}
 use Rattle.rules.specs.Samples.{phase_of}
@@ -18,9 +18,9 @@ fused_wide-requires c =
     let p = c.requires.t in
     let e = sym c.decay_at-f.ensures in
     record {
-    t = (p.0, subst (λ (v : Float). T (fits binary32 v)) e (decay_fits _), p.1);
-    t_2 = (finite_no_nan _ p.2, subst (λ (v : Float). T (not (is_nan v))) e (decay_no_nan _), finite_no_nan _ p.3);
-  }
+      t = (p.0, subst (λ (v : Float). T (fits binary32 v)) e (decay_fits _), p.1);
+      t_2 = (finite_no_nan _ p.2, subst (λ (v : Float). T (not (is_nan v))) e (decay_no_nan _), finite_no_nan _ p.3);
+    }
 
 pub returns : goal.returns
 unfolding from_start target_at phase_of of_bits

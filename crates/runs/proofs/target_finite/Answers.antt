@@ -1,5 +1,5 @@
 -- `runs::target_finite` meets its contract: the second pass reads what the first wrote. Assumes nothing.
-use Rattle.std.proofs.Common.{◌≡◌, ℕ, ◌≤◌, true, List, length, sym, ap, ◌∙◌, le_trans, le_of_eq, rules}
+use Rattle.std.proofs.Common.{◌≡◌, ℕ, ◌≤◌, true, List, length, sym, ap, ◌∙◌, le_trans, le_of_eq}
 use lib.Ieee.{Float, binary32}
 use Rattle.rules.specs.Numbers.{fused, run}
 use Rattle.rules.specs.Samples.{phase_of}
@@ -53,9 +53,9 @@ slice_bounds-target_over-end c = as_many (phase_of c.args.start_time c.args.time
 pub target_over-requires : goal.target_over-requires
 target_over-requires c =
     record {
-    out_len = (as_many (phase_of c.args.start_time c.args.time_constant) c.args.dt (length c.target_told.new.out) c.args.time _ _ (le_trans (le_of_eq c.target_told.auto.out) c.requires.out_len_bound) c.phases_of-begun.ensures.0, c.table-table.ensures);
-    t = c.requires.t;
-  }
+      out_len = (as_many (phase_of c.args.start_time c.args.time_constant) c.args.dt (length c.target_told.new.out) c.args.time _ _ (le_trans (le_of_eq c.target_told.auto.out) c.requires.out_len_bound) c.phases_of-begun.ensures.0, c.table-table.ensures);
+      t = c.requires.t;
+    }
 
 pub returns-then-begun : goal.returns-then-begun
 unfolding target_at

@@ -1,5 +1,5 @@
 -- `runs::target_over` meets its contract: the second pass reads what the first wrote. Assumes nothing.
-use Rattle.std.proofs.Common.{not, T, sym, ap, ◌∙◌, subst, rules}
+use Rattle.std.proofs.Common.{not, T, sym, ap, ◌∙◌, subst}
 use lib.Ieee.{Float, binary32, fits, is_nan}
 use Rattle.rules.specs.Numbers.{fused}
 use Rattle.runs.specs.Passes.{each, Every}
@@ -10,9 +10,9 @@ use Rattle.runs.proofs.target_over.Goals as goal
 pub faded_any-requires : goal.faded_any-requires
 faded_any-requires c =
     record {
-    out_len = (c.requires.out_len.0 ∙ sym c.factors_of.auto.xs, subst (Every (λ v. T (fits binary32 v) × T (not (is_nan v)))) (sym c.factors_of.ensures) (all_fit c.args.xs.now));
-    t = c.requires.t;
-  }
+      out_len = (c.requires.out_len.0 ∙ sym c.factors_of.auto.xs, subst (Every (λ v. T (fits binary32 v) × T (not (is_nan v)))) (sym c.factors_of.ensures) (all_fit c.args.xs.now));
+      t = c.requires.t;
+    }
 
 pub returns : goal.returns
 returns c =

@@ -1,10 +1,10 @@
 -- `runs::target_parts` meets its contract. Assumes nothing.
-use Rattle.std.proofs.Common.{◌≡◌, ℕ, ◌+◌, ◌-◌, length, ◌∙◌, le_trans, le_of_eq, arith, rules}
+use Rattle.std.proofs.Common.{◌≡◌, ℕ, ◌+◌, ◌-◌, length, ◌∙◌, le_trans, le_of_eq, arith}
 use lib.Ieee.{Float}
 use borrow.Rule.Slice.PartMut.{mid_len}
 use Rattle.rules.specs.Walk.{from_start}
 use Rattle.samples.specs.At.{target_at}
-use Rattle.runs.proofs.Filling.{Filled, none_filled, some_more, rest_filled, filled-length, all-filled}
+use Rattle.runs.proofs.Filling.{none_filled, some_more, rest_filled, filled-length, all-filled}
 use Rattle.runs.proofs.target_parts.Goals as goal
 use Rattle.runs.proofs.target_parts.Goals.{At-loop-out, Start}
 
@@ -39,9 +39,9 @@ pub target_finite-requires : goal.target_finite-requires
 target_finite-requires c =
     let l = c.loop-out in
     record {
-    out_len_bound = le_of_eq (mid_len l.i (l.i + 128) l.out (omega (arith, c.loop-out-test.true)) ∙ part l.i);
-    t = (start (goal.at.target_finite-requires c).At-loop-out).requires;
-  }
+      out_len_bound = le_of_eq (mid_len l.i (l.i + 128) l.out (omega (arith, c.loop-out-test.true)) ∙ part l.i);
+      t = (start (goal.at.target_finite-requires c).At-loop-out).requires;
+    }
 
 pub loop-out-smaller : goal.loop-out-smaller
 loop-out-smaller c = omega (arith, kept (goal.at.loop-out-smaller c).At-loop-out, c.loop-out-test.true)
@@ -67,9 +67,9 @@ target_finite-requires-2 c =
     let l = c.loop-out in
     let e = mid_len l.i (length l.out) l.out (omega arith) in
     record {
-    out_len_bound = le_trans (le_of_eq e) (omega (arith, c.loop-out-test));
-    t = (start a).requires;
-  }
+      out_len_bound = le_trans (le_of_eq e) (omega (arith, c.loop-out-test));
+      t = (start a).requires;
+    }
 
 pub shape_of-out : goal.shape_of-out
 shape_of-out c =

@@ -1,10 +1,8 @@
 -- `runs::target_parts` meets its contract. Assumes nothing.
-use Rattle.std.proofs.Common.{◌≡◌, ℕ, ◌+◌, ◌-◌, length, ◌∙◌, le_trans, le_of_eq, arith, rules}
-use lib.Ieee.{Float}
-use borrow.Rule.Slice.PartMut.{mid_len}
+use Rattle.std.proofs.Common.{◌-◌, length}
 use Rattle.rules.specs.Walk.{from_start}
 use Rattle.samples.specs.At.{target_at}
-use Rattle.runs.proofs.Filling.{Filled, none_filled, some_more, rest_filled, filled-length, all-filled}
+use Rattle.runs.proofs.Filling.{Filled}
 use Rattle.runs.proofs.target_parts.Given as goal
 
 abbrev pub invariant-loop-out : goal.invariant-loop-out

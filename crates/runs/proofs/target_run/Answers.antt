@@ -1,9 +1,9 @@
 -- `runs::target_run` meets its contract. Assumes nothing.
-use Rattle.std.proofs.Common.{◌≡◌, ◌-◌, length, arith, rules}
+use Rattle.std.proofs.Common.{◌≡◌, length, arith}
 use lib.Ieee.{Float}
 use Rattle.rules.specs.Walk.{from_start}
 use Rattle.samples.specs.At.{target_at}
-use Rattle.runs.proofs.Filling.{Filled, none_filled, one_more, filled-length, all-filled}
+use Rattle.runs.proofs.Filling.{none_filled, one_more, filled-length, all-filled}
 use Rattle.runs.proofs.target_run.Goals as goal
 use Rattle.runs.proofs.target_run.Goals.{At-loop-i, Start}
 

@@ -1,9 +1,8 @@
 -- `runs::target_run` meets its contract. Assumes nothing.
-use Rattle.std.proofs.Common.{◌≡◌, ◌-◌, length, arith, rules}
-use lib.Ieee.{Float}
+use Rattle.std.proofs.Common.{◌-◌, length}
 use Rattle.rules.specs.Walk.{from_start}
 use Rattle.samples.specs.At.{target_at}
-use Rattle.runs.proofs.Filling.{Filled, none_filled, one_more, filled-length, all-filled}
+use Rattle.runs.proofs.Filling.{Filled}
 use Rattle.runs.proofs.target_run.Given as goal
 
 abbrev pub invariant-loop-i : goal.invariant-loop-i

@@ -1,5 +1,5 @@
 -- `runs::target_shown` meets its contract. Assumes nothing.
-use Rattle.std.proofs.Common.{◌≡◌, ℕ, ◌-◌, ◌<◌, true, List, length, get_or, sym, refl, ap, ◌∙◌, subst, true≢false, ext_get_or, rules}
+use Rattle.std.proofs.Common.{◌≡◌, ℕ, ◌<◌, List, length, get_or, sym, refl, ap, ◌∙◌, subst, true≢false, ext_get_or}
 use lib.Ieee.{Float, nan, binary32, binary64, of_bits}
 use Rattle.rules.specs.Numbers.{fused, run}
 use Rattle.rules.specs.Samples.{phase_of}
@@ -48,18 +48,18 @@ pub tell-count-requires : goal.tell-count-requires
 tell-count-requires c =
     let p = c.requires.out_len_bound in
     record {
-    us_len = (refl, refl, c.places_at.ensures.0, p.0, p.1);
-    by_index = λ k h. steps c.args.few _ _ p.2 (c.places_at.ensures.1 c.if-not-places_at.false k h);
-  }
+      us_len = (refl, refl, c.places_at.ensures.0, p.0, p.1);
+      by_index = λ k h. steps c.args.few _ _ p.2 (c.places_at.ensures.1 c.if-not-places_at.false k h);
+    }
 
 pub settle-requires : goal.settle-requires
 settle-requires c =
     let p = c.requires.out_len_bound in
     let e = c.tell-count.ensures in
     record {
-    us_len = (e.0, e.1, c.places_at.ensures.0, p.0, e.2, p.1);
-    by_index = (λ k h. steps c.args.few _ _ p.2 (c.places_at.ensures.1 c.if-not-places_at.false k h), e.3, e.4);
-  }
+      us_len = (e.0, e.1, c.places_at.ensures.0, p.0, e.2, p.1);
+      by_index = (λ k h. steps c.args.few _ _ p.2 (c.places_at.ensures.1 c.if-not-places_at.false k h), e.3, e.4);
+    }
 
 pub faded_by-requires : goal.faded_by-requires
 faded_by-requires c =
@@ -67,9 +67,9 @@ faded_by-requires c =
     let p = c.requires.out_len_bound in
     let few = c.args.few in
     record {
-    t = c.requires.t;
-    out_len_bound = (p.0, c.settle.ensures.0, c.places_at.ensures.0, λ k h. (factor few _ (b z k) p.2 (place z k h) (u z k) (shows z k h), served few _ (b z k) p.2 (place z k h) (u z k) (shows z k h) _ _ (p.3 c.if-exact.true)));
-  }
+      t = c.requires.t;
+      out_len_bound = (p.0, c.settle.ensures.0, c.places_at.ensures.0, λ k h. (factor few _ (b z k) p.2 (place z k h) (u z k) (shows z k h), served few _ (b z k) p.2 (place z k h) (u z k) (shows z k h) _ _ (p.3 c.if-exact.true)));
+    }
 
 pub returns-then-exact : goal.returns-then-exact
 returns-then-exact c = λ t. let z = (goal.at.returns-then-exact c).After-settle in samples z c.faded_by.new.out c.faded_by.auto.out c.faded_by.ensures
@@ -79,9 +79,9 @@ faded_wide-requires c =
     let z = (goal.at.faded_wide-requires c).After-settle in
     let p = c.requires.out_len_bound in
     record {
-    t = c.requires.t;
-    out_len_bound = (p.0, c.settle.ensures.0, c.places_at.ensures.0, λ k h. factor c.args.few _ (b z k) p.2 (place z k h) (u z k) (shows z k h));
-  }
+      t = c.requires.t;
+      out_len_bound = (p.0, c.settle.ensures.0, c.places_at.ensures.0, λ k h. factor c.args.few _ (b z k) p.2 (place z k h) (u z k) (shows z k h));
+    }
 
 pub returns : goal.returns
 returns c = λ t. let z = (goal.at.returns c).After-settle in samples z c.faded_wide.new.out c.faded_wide.auto.out c.faded_wide.ensures

@@ -1,5 +1,5 @@
 -- `runs::target_told` meets its contract. Assumes nothing.
-use Rattle.std.proofs.Common.{◌≡◌, ℕ, ◌+◌, ◌-◌, ◌*◌, ◌/◌, ◌^◌, ◌≤◌, true, T, ◌⊎◌, length, sym, ◌∙◌, subst, true≢false, arith, rules, eqb-true}
+use Rattle.std.proofs.Common.{◌≡◌, ℕ, ◌+◌, ◌-◌, ◌*◌, ◌/◌, ◌^◌, ◌≤◌, T, ◌⊎◌, length, sym, ◌∙◌, subst, true≢false, arith, eqb-true}
 use lib.Ieee.{Float}
 use Rattle.rules.specs.Walk.{from_start}
 use Rattle.samples.specs.At.{target_at}
@@ -30,9 +30,9 @@ pub target_shown-requires : goal.target_shown-requires
 target_shown-requires c =
     let f = c.few_from-few in
     record {
-    out_len_bound = (c.requires.out_len_bound.0, c.requires.out_len_bound.1, f.ensures, λ e. once_cut _ _ c.once_from-b.result f.result c.once_from-b.ensures f.ensures (eqb-true _ _ e));
-    t = c.requires.t;
-  }
+      out_len_bound = (c.requires.out_len_bound.0, c.requires.out_len_bound.1, f.ensures, λ e. once_cut _ _ c.once_from-b.result f.result c.once_from-b.ensures f.ensures (eqb-true _ _ e));
+      t = c.requires.t;
+    }
 
 pub returns-then-start_time-time : goal.returns-then-start_time-time
 unfolding from_start

@@ -1,5 +1,5 @@
 -- `runs::tell` meets its contract. Assumes nothing.
-use Rattle.std.proofs.Common.{◌≡◌, ℕ, ◌-◌, ◌<◌, ◌≤◌, length, get_or, ◌∙◌, subst, inl, inr, arith, length-set}
+use Rattle.std.proofs.Common.{◌≡◌, ℕ, ◌<◌, get_or, ◌∙◌, subst, inl, inr, arith, length-set}
 use Rattle.decays.specs.Told.{Shows}
 use Rattle.runs.proofs.Telling.{Telling, none_told, one_told}
 use Rattle.runs.proofs.tell.Goals as goal
@@ -59,7 +59,7 @@ loop-i-preserved c =
       omega (arith, c.loop-i-test.true),
       one_told 0 (R s) l.us l.slow l.count l.i l.invariant.3 (omega (arith, within m, l.invariant.0)) (omega (arith, room m, l.invariant.1)) u.result c.if-u-gt234.count
           (elim c.if-u-gt234.branch [
-            then-u-gt234 w ↦ inr w.count-is
+            | then-u-gt234 w ↦ inr w.count-is
             | else-u-gt234 w ↦ inl (w.count-is, u.ensures (omega (arith, w.if-u-gt234.false)))
           ]),
     )

@@ -1,7 +1,7 @@
 -- `runs::tell` meets its contract. Assumes nothing.
-use Rattle.std.proofs.Common.{◌≡◌, ℕ, ◌-◌, ◌<◌, ◌≤◌, length, get_or, ◌∙◌, subst, inl, inr, arith, length-set}
+use Rattle.std.proofs.Common.{◌≡◌, ◌-◌, ◌≤◌, length, get_or}
 use Rattle.decays.specs.Told.{Shows}
-use Rattle.runs.proofs.Telling.{Telling, none_told, one_told}
+use Rattle.runs.proofs.Telling.{Telling}
 use Rattle.runs.proofs.tell.Given as goal
 
 abbrev pub invariant-loop-i : goal.invariant-loop-i

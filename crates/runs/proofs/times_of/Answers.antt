@@ -1,9 +1,9 @@
 -- `runs::times_of` meets its contract. Assumes nothing.
-use Rattle.std.proofs.Common.{◌≡◌, ℕ, ◌-◌, length, sym, refl, ap, ◌∙◌, ⊎_elim, add-one, arith, rules}
+use Rattle.std.proofs.Common.{◌≡◌, ℕ, length, sym, refl, ap, ◌∙◌, add-one, arith}
 use lib.Ieee.{Float}
 use Rattle.runs.specs.Passes.{begun}
 use Rattle.runs.proofs.Begun.{and_true, and_false, begun_last}
-use Rattle.runs.proofs.Filling.{Filled, none_filled, one_more, filled-length, all-filled}
+use Rattle.runs.proofs.Filling.{none_filled, one_more, filled-length, all-filled}
 use Rattle.runs.proofs.times_of.Goals as goal
 use Rattle.runs.proofs.times_of.Goals.{At-loop-i, else-t-start_time, then-t-start_time}
 
@@ -28,8 +28,7 @@ loop-i-smaller c = omega (arith, kept (goal.at.loop-i-smaller c).At-loop-i, c.lo
 
 pub loop-i-preserved : goal.loop-i-preserved
 loop-i-preserved c =
-    let l = c.loop-i in
-    (
+    let l = c.loop-i in (
       one_more own c.args.dt c.args.time l.invariant.0 (omega (arith, kept (goal.at.loop-i-preserved c).At-loop-i, c.loop-i-test.true)) _ refl,
       rw (add-one l.i, begun_last c.args.start_time c.args.dt l.i c.args.time, ← l.invariant.0.next, ← l.invariant.1)
           (elim c.if-t-start_time.branch [ then-t-start_time w ↦ rw w.if-t-start_time.true (w.begun-is ∙ sym (and_false l.begun)) | else-t-start_time w ↦ rw w.if-t-start_time.false (w.begun-is ∙ sym (and_true l.begun)) ]),

@@ -1,5 +1,5 @@
 -- `runs::unsure_of` meets its contract. Assumes nothing.
-use Rattle.std.proofs.Common.{◌≡◌, ℕ, ◌+◌, ◌-◌, ◌%◌, ◌^◌, ◌<◌, ◌≤◌, List, length, get_or, set, ◌∙◌, subst, inl, inr, arith, length-set}
+use Rattle.std.proofs.Common.{◌≡◌, ℕ, ◌+◌, ◌-◌, ◌%◌, ◌^◌, ◌<◌, ◌≤◌, List, get_or, set, ◌∙◌, subst, inl, inr, arith, length-set}
 use lib.Seq.{set-get_or}
 use Rattle.runs.specs.Placed.{Ordered, OneCell}
 use Rattle.runs.proofs.Telling.{Telling, none_told, one_told}
@@ -72,7 +72,7 @@ loop-i-preserved c =
       subst (λ (z : List ℕ). Telling 0 (R s) z (set l.slow l.count l.i) c.if-high-ls.count (l.i + 1)) (set-get_or hs l.i 0)
           (one_told 0 (R s) hs l.slow l.count l.i l.invariant.2 (omega (arith, within m, c.requires.slow_len.1)) (omega (arith, room m, l.invariant.0)) (get_or hs l.i 0) c.if-high-ls.count
           (elim c.if-high-ls.branch [
-            then-high-ls w ↦ inr w.count-is
+            | then-high-ls w ↦ inr w.count-is
             | else-high-ls w ↦ inl (w.count-is, one_cell _ _ (ordered m).0 (omega (arith, w.if-high-ls.false)))
           ])),
     )

@@ -1,8 +1,7 @@
 -- `runs::unsure_of` meets its contract. Assumes nothing.
-use Rattle.std.proofs.Common.{◌≡◌, ℕ, ◌+◌, ◌-◌, ◌%◌, ◌^◌, ◌<◌, ◌≤◌, List, length, get_or, set, ◌∙◌, subst, inl, inr, arith, length-set}
-use lib.Seq.{set-get_or}
-use Rattle.runs.specs.Placed.{Ordered, OneCell}
-use Rattle.runs.proofs.Telling.{Telling, none_told, one_told}
+use Rattle.std.proofs.Common.{◌≡◌, ◌-◌, ◌≤◌, length, get_or}
+use Rattle.runs.specs.Placed.{OneCell}
+use Rattle.runs.proofs.Telling.{Telling}
 use Rattle.runs.proofs.unsure_of.Given as goal
 
 abbrev pub invariant-loop-i : goal.invariant-loop-i

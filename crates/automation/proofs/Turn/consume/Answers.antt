@@ -1,0 +1,6 @@
+-- `Turn::consume` meets its contract. Assumes nothing.
+use borrow.Author.Rules.{rules}
+use Rattle.automation.proofs.Turn.consume.Goals as goal
+
+pub returns : goal.returns
+returns c = rw c.consumed.ensures

@@ -1,0 +1,10 @@
+-- `Walk::turned_to_step` meets its contract. Assumes nothing.
+use native.Mathlib.Omega.{arith}
+use borrow.Author.Rules.{rules}
+use Rattle.automation.proofs.Walk.turned_to_step.Goals as goal
+
+pub overflow_add-w : goal.overflow_add-w
+overflow_add-w c = rw c.counted-w.ensures (record { fits = omega (arith, c.requires.1) })
+
+pub returns : goal.returns
+returns c = rw c.counted-w.ensures

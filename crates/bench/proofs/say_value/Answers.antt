@@ -1,0 +1,7 @@
+-- `bench::say_value` meets its contract: the text fits its buffer. Assumes nothing.
+use Rattle.bench.proofs.Cuts.{cut_length, put-within}
+use borrow.Author.Rules.{rules}
+use Rattle.bench.proofs.say_value.Goals as goal
+
+pub slice_bounds-text-end : goal.slice_bounds-text-end
+slice_bounds-text-end c = put-within c.put_value-n.ensures

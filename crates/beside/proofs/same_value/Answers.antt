@@ -1,0 +1,13 @@
+-- `beside::same_value` meets its contract. Assumes nothing.
+use mathlib.Core.Path.{sym, ap₂, ◌∙◌}
+use lib.Dec.{eqb}
+use Rattle.beside.specs.Beside.{same_value}
+use Rattle.beside.proofs.Places.{same_one}
+use borrow.Author.Rules.{rules}
+use Rattle.beside.proofs.same_value.Goals as goal
+
+pub returns : goal.returns
+unfolding same_value
+returns c =
+    let same = ap₂ eqb c.single_bits.ensures c.single_bits-2.ensures in
+    record { is = same; one = λ e. same_one c.well_formed.0.1 c.well_formed.1.0.1 (sym same ∙ e) }

@@ -1,0 +1,53 @@
+-- `CardReader::end` meets its contract. Assumes nothing.
+use mathlib.Core.Path.{◌≡◌, sym, ap}
+use mathlib.Core.Bool.{true}
+use mathlib.Core.List.{[]}
+use Prim.Native.Nat.{ℕ}
+use native.Mathlib.Omega.{arith}
+use lib.ListN.{length, take}
+use lib.Seq.{length-take-le}
+use borrow.Author.Rules.{rules}
+use borrow.Author.Tests.{not-true, not-false}
+use Rattle.refusals.proofs.Rows.{found}
+use Rattle.card.specs.Card.{is_accepted}
+use Rattle.card_reader.proofs.Does.{refuses, stays, same_turn}
+use Rattle.card_reader.proofs.Ends.{end_over, end_field, end_done, end_unranged}
+use Rattle.card_reader.proofs.CardReader.end.Goals as goal
+use Rattle.card_reader.proofs.CardReader.end.Goals.{Else-held-gt0, Else-not-is_accepted, Start}
+
+kept : (c : Else-not-is_accepted) → is_accepted c.args.self.verdict ≡ true
+kept c = found c.is_accepted.ensures (not-false _ c.if-not-is_accepted.false)
+
+-- what is left over stands in the window
+left : (s : Start) → length (take s.args.self.held s.args.window.now) ≡ s.args.self.held
+left s = length-take-le _ _ (omega (arith, s.requires.1.long, s.requires.1.room))
+
+nothing : (c : Else-held-gt0) → let s = c.before.before.before.before.before.before in take s.args.self.held s.args.window.now ≡ []
+nothing c =
+    let s = c.before.before.before.before.before.before in
+    let none : s.args.self.held ≡ 0 = omega (arith, c.if-held-gt0.false) in
+    ap (λ (n : ℕ). take n s.args.window.now) none
+
+pub returns-then-not-is_accepted : goal.returns-then-not-is_accepted
+returns-then-not-is_accepted c =
+    stays c.requires.0 (end_over _ _ (found c.is_accepted.ensures (not-true _ c.if-not-is_accepted.true)))
+
+pub slice_bounds-field_turn-end : goal.slice_bounds-field_turn-end
+slice_bounds-field_turn-end c = sym (left c.before.before.before.before.before.before)
+
+pub field_turn-requires : goal.field_turn-requires
+field_turn-requires c = let s = c.before.before.before.before.before.before.before in (s.requires.0, omega (arith, left s, c.before.before.if2.true))
+
+pub returns-then-held-gt0 : goal.returns-then-held-gt0
+returns-then-held-gt0 c =
+    let t = (goal.at.returns-then-held-gt0 c).Else-not-is_accepted in
+    let s = t.before.before.before.before.before in
+    same_turn (end_field _ _ (kept (goal.at.returns-then-held-gt0 c).After-is_accepted) (omega (arith, left s, t.if2.true))) c.field_turn.ensures
+
+pub returns-then-self : goal.returns-then-self
+returns-then-self c = let e = (goal.at.returns-then-self c).Else-held-gt0 in rw (nothing e) (stays c.requires.0 (end_done _ (kept (goal.at.returns-then-self c).Else-not-is_accepted) c.if-self.true))
+
+pub returns-else-self : goal.returns-else-self
+returns-else-self c =
+    let e = (goal.at.returns-else-self c).Else-held-gt0 in
+    rw (nothing e) (refuses c.requires.0 (end_unranged _ (kept (goal.at.returns-else-self c).Else-not-is_accepted) c.if-self.false) c.refused.ensures)

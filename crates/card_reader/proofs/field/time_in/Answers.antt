@@ -1,0 +1,30 @@
+-- `field::time_in` meets its contract: a curve begins with its time, all else has a value before it. Assumes nothing.
+use mathlib.Core.Path.{sym, ◌∙◌}
+use Prim.Native.Nat.{◌≤◌}
+use native.Mathlib.Omega.{arith}
+use lib.ListN.{length}
+use Rattle.card.specs.Card.{tag_of}
+use Rattle.card.proofs.Fields.{room}
+use Rattle.card_reader.proofs.Events.{time_behind, time_first}
+use Rattle.card_reader.proofs.field.time_in.Goals as goal
+use Rattle.card_reader.proofs.field.time_in.Goals.{Start}
+
+long : (s : Start) → 15 ≤ length s.args.bytes.now
+long s = room s.args.bytes.now s.requires.0.whole s.requires.0.right
+
+pub bounds-bytes-0 : goal.bounds-bytes-0
+bounds-bytes-0 c = omega (arith, long (goal.at.bounds-bytes-0 c).Start)
+
+pub double_at-requires : goal.double_at-requires
+double_at-requires c = long (goal.at.double_at-requires c).Start
+
+pub double_at-requires-else-tag-le4 : goal.double_at-requires-else-tag-le4
+double_at-requires-else-tag-le4 c = omega (arith, long (goal.at.double_at-requires-else-tag-le4 c).Start)
+
+pub returns-then-tag-le4 : goal.returns-then-tag-le4
+unfolding tag_of
+returns-then-tag-le4 c = c.double_at.ensures ∙ sym (time_behind c.args.bytes.now c.requires.0.tag c.if-tag-le4.true)
+
+pub returns-else-tag-le4 : goal.returns-else-tag-le4
+unfolding tag_of
+returns-else-tag-le4 c = c.double_at-else-tag-le4.ensures ∙ sym (time_first c.args.bytes.now c.requires.0.tag c.requires.1 c.if-tag-le4.false)

@@ -1,0 +1,21 @@
+-- `put_events` meets its contract. The invariant of its loop: with the events left written behind, all are. Assumes nothing.
+use mathlib.Core.Path.{◌≡◌, refl}
+use Prim.Native.Nat.{◌+◌, ◌-◌, ◌≤◌}
+use native.Mathlib.Omega.{arith}
+use lib.ListN.{length, take, drop}
+use borrow.Author.Rules.{rules}
+use Rattle.rules.specs.Queue.{lengths_of, attached}
+use Rattle.timeline.specs.Timeline.{waiting}
+use Rattle.card.specs.Card.{fields_of}
+use Rattle.card_writer.proofs.Parts.{Leaves, leaves_fewer, leaves_none, fields-next, fields-length, fields-over}
+use Rattle.card_writer.proofs.Turns.{Walked, walked, Turn, turn, over}
+use Rattle.card_writer.proofs.put_events.Given as goal
+
+abbrev pub invariant-loop-i : goal.invariant-loop-i
+invariant-loop-i l =
+    (l.i ≤ l.n) × (l.from ≡ lengths_of (take l.i (waiting l.q))) × (length l.out ≡ length l.initial.out)
+    × (l.next + length (fields_of (drop l.i (attached (waiting l.q) l.store))) ≡ l.at + length (fields_of (attached (waiting l.q) l.store)))
+    × Leaves l.initial.out l.at (fields_of (attached (waiting l.q) l.store)) l.out l.next (fields_of (drop l.i (attached (waiting l.q) l.store)))
+
+abbrev pub decreases-loop-i : goal.decreases-loop-i
+decreases-loop-i l = l.n - l.i

@@ -1,0 +1,37 @@
+-- `clashes::clash_of` meets its contract: call by call. Assumes nothing.
+use mathlib.Core.Path.{sym, ap, ◌∙◌}
+use lib.Ieee.{of_bits}
+use Rattle.timeline.specs.Timeline.{waiting}
+use Rattle.clashes.specs.Clashes.{clash_of}
+use Rattle.clashes.proofs.Clashing.{no_clash}
+use borrow.Author.Rules.{rules}
+use Rattle.clashes.proofs.clash_of.Goals as goal
+
+pub returns-in-Set : goal.returns-in-Set
+unfolding clash_of of_bits
+returns-in-Set c = c.covered_by.ensures ∙ sym (ap (clash_of (waiting c.args.q)) c.in-Set.is)
+
+pub returns-in-Step : goal.returns-in-Step
+unfolding clash_of
+returns-in-Step c = c.covered_by-in-Step.ensures ∙ sym (ap (clash_of (waiting c.args.q)) c.in-Step.is)
+
+pub returns-in-Linear : goal.returns-in-Linear
+unfolding clash_of
+returns-in-Linear c = c.covered_by-in-Linear.ensures ∙ sym (ap (clash_of (waiting c.args.q)) c.in-Linear.is)
+
+pub returns-in-Exponential : goal.returns-in-Exponential
+unfolding clash_of
+returns-in-Exponential c = c.covered_by-in-Exponential.ensures ∙ sym (ap (clash_of (waiting c.args.q)) c.in-Exponential.is)
+
+pub returns-in-Target : goal.returns-in-Target
+unfolding clash_of
+returns-in-Target c = c.covered_by-in-Target.ensures ∙ sym (ap (clash_of (waiting c.args.q)) c.in-Target.is)
+
+pub returns-in-Curve : goal.returns-in-Curve
+unfolding clash_of
+returns-in-Curve c =
+    rw (c.or_else.ensures, c.covered_by-in-Curve.ensures, c.holding.ensures)
+    (sym (ap (clash_of (waiting c.args.q)) c.in-Curve.is))
+
+pub returns-in_default : goal.returns-in_default
+returns-in_default c = no_clash _ _ c.in_default-own.keys7

@@ -1,0 +1,13 @@
+-- `time_in` meets its contract. Assumes nothing.
+use borrow.Author.Tests.{eq-eqb, ne_eqb}
+use Rattle.coding.specs.Coding.{time_in}
+use borrow.Author.Rules.{rules}
+use Rattle.coding.proofs.event.time_in.Goals as goal
+
+pub returns-then-flag-eq0 : goal.returns-then-flag-eq0
+unfolding time_in
+returns-then-flag-eq0 c = rw (eq-eqb _ 0 c.if-flag-eq0.true)
+
+pub returns-else-flag-eq0 : goal.returns-else-flag-eq0
+unfolding time_in
+returns-else-flag-eq0 c = rw (ne_eqb _ 0 c.if-flag-eq0.false, c.double_in.ensures)

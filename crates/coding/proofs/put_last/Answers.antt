@@ -1,0 +1,16 @@
+-- `put_last` meets its contract. Assumes nothing.
+use mathlib.Core.Path.{refl}
+use Rattle.coding.specs.Coding.{last_in, last_flag, last_time, last_value}
+use borrow.Author.Rules.{rules}
+use Rattle.coding.proofs.put_last.Goals as goal
+
+pub returns-in-None : goal.returns-in-None
+unfolding last_in last_flag last_time last_value
+returns-in-None c = rw c.in-None.is (record { is = refl; back = refl })
+
+pub returns-in-Done : goal.returns-in-Done
+unfolding last_in last_flag last_time last_value
+returns-in-Done c =
+    let t = c.double_bits.ensures in
+    let v = c.single_bits.ensures in
+    rw c.in-Done.is (record { is = rw (t.is, v.is); back = rw (t.back, v.back) })

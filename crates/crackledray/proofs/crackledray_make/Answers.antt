@@ -1,0 +1,6 @@
+-- `crackledray_make` meets its contract. Assumes nothing.
+use borrow.Author.Rules.{rules}
+use Rattle.crackledray.proofs.crackledray_make.Goals as goal
+
+pub returns : goal.returns
+returns c = rw c.rate_of.ensures at c.begin.ensures

@@ -1,0 +1,14 @@
+-- `desk::curve` meets its contract: what the call ensures of the part of the store that it is lent. Assumes nothing.
+use mathlib.Core.Path.{sym, subst}
+use Prim.Native.Nat.{ℕ, ◌≤◌}
+use lib.Seq.{length-take-le}
+use Rattle.desk.proofs.Turns.{lent}
+use borrow.Author.Rules.{rules}
+use Rattle.desk.proofs.curve.Goals as goal
+
+pub slice_bounds-set_value_curve_at_time-end-2 : goal.slice_bounds-set_value_curve_at_time-end-2
+slice_bounds-set_value_curve_at_time-end-2 c =
+    sym (length-take-le c.args.desk.lent c.args.store.now (subst (λ (n : ℕ). c.args.desk.lent ≤ n) (sym c.requires.1) c.requires.0.lent))
+
+pub returns : goal.returns
+returns c = lent _ _ _ _ _ _ _ _ c.requires.0 c.called.ensures _ c.set_value_curve_at_time-r.ensures

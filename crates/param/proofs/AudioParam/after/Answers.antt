@@ -1,0 +1,9 @@
+-- `after` meets its contract. Assumes nothing.
+use lib.Ieee.{of_bits}
+use borrow.Author.Rules.{rules}
+use Rattle.param.proofs.AudioParam.after.Goals as goal
+
+-- src/process.rt:41:5
+pub returns : goal.returns
+unfolding of_bits
+returns c = rw c.mixed_value.ensures

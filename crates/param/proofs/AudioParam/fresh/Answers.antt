@@ -1,0 +1,6 @@
+-- `fresh` meets its contract. Assumes nothing.
+use borrow.Author.Rules.{rules}
+use Rattle.param.proofs.AudioParam.fresh.Goals as goal
+
+pub returns : goal.returns
+returns c = rw c.new.ensures

@@ -1,0 +1,8 @@
+-- `refused` meets its contract. Assumes nothing.
+use lib.Ieee.{of_bits}
+use borrow.Author.Rules.{rules}
+use Rattle.param.proofs.AudioParam.refused.Goals as goal
+
+pub returns : goal.returns
+unfolding of_bits
+returns c = rw c.fresh-param.ensures

@@ -1,0 +1,9 @@
+-- `set_value` meets its contract. Assumes nothing.
+use lib.Ieee.{of_bits}
+use borrow.Author.Rules.{rules}
+use Rattle.param.proofs.Calls.{sets}
+use Rattle.param.proofs.AudioParam.set_value.Goals as goal
+
+pub returns : goal.returns
+unfolding of_bits
+returns c = sets c.set_value_at_time.ensures

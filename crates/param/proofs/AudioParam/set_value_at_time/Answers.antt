@@ -1,0 +1,25 @@
+-- `set_value_at_time` meets its contract. Assumes nothing.
+use mathlib.Core.Path.{◌≡◌, refl, sym, ◌∙◌}
+use borrow.Author.Rules.{rules}
+use Rattle.rules.specs.Refusals.{lowest, value_rows}
+use Rattle.rules.specs.Block.{called}
+use Rattle.laws.proofs.Rows.{value_answered}
+use Rattle.param.specs.Param.{param_of}
+use Rattle.param.proofs.Calls.{schedules}
+use Rattle.param.proofs.AudioParam.set_value_at_time.Goals as goal
+use Rattle.param.proofs.AudioParam.set_value_at_time.Goals.{After-value-verdict}
+
+-- the call's verdict
+verdict : (c : After-value-verdict) → let a = c.args in c.value-verdict.result ≡ lowest (value_rows (param_of a.self).queue a.value a.start_time)
+verdict c =
+    let start = c.before.before.before.before in
+    let inside = rw c.taken_time-time.ensures at c.is_inside-inside.ensures in
+    c.value-verdict.ensures (param_of start.args.self).queue inside c.is_full.ensures
+
+pub schedule-requires : goal.schedule-requires
+schedule-requires c = (c.requires, λ h. (value_answered _ _ _ (sym (verdict c) ∙ h)).1.few)
+
+pub returns : goal.returns
+unfolding called
+returns c =
+    schedules _ _ c.requires refl (rw (verdict (goal.at.returns c).After-value-verdict, c.taken_time-time.ensures) at c.schedule.ensures)

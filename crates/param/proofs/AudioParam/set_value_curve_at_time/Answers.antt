@@ -1,0 +1,72 @@
+-- `set_value_curve_at_time` meets its contract. Assumes nothing.
+use mathlib.Core.List.{List}
+use mathlib.Core.Path.{◌≡◌, refl, sym, ◌∙◌}
+use native.Mathlib.Omega.{arith}
+use lib.Ieee.{Float}
+use borrow.Author.Rules.{rules}
+use Rattle.rules.specs.declared.Verdict.TheVariants as Verdict
+use Rattle.rules.specs.declared.Verdict.{Verdict}
+use Rattle.rules.specs.declared.Event.{Event}
+use Rattle.rules.specs.Numbers.{taken_time}
+use Rattle.rules.specs.Queue.{attached, inserted}
+use Rattle.rules.specs.Refusals.{lowest, curve_rows}
+use Rattle.rules.specs.Block.{called}
+use Rattle.laws.proofs.Answers.{refused_called}
+use Rattle.laws.proofs.Rows.{curve_answered}
+use Rattle.curves.specs.Curves.{curve_of}
+use Rattle.param.specs.Param.{param_of}
+use Rattle.param.proofs.Calls.{counted, crowded, leaves, keeps}
+use Rattle.param.proofs.AudioParam.set_value_curve_at_time.Goals as goal
+use Rattle.param.proofs.AudioParam.set_value_curve_at_time.Goals.{After-curve-verdict, In-Answered, Start}
+
+-- what the call is given
+abbrev queue : Start → List Event
+queue c = (param_of c.args.self).queue
+
+abbrev lent : Start → List Float
+lent c = c.args.store.now
+
+abbrev numbers : Start → List Float
+numbers c = c.args.values.now
+
+-- its verdict
+abbrev Said : Start → Verdict → Type 0
+Said c v = v ≡ lowest (curve_rows (queue c) (lent c) c.args.start_time c.args.duration (numbers c))
+
+verdict : (c : After-curve-verdict) → Said c.before.before.before.before.before.before.before.before.before c.curve-verdict.result
+verdict c =
+    let start = c.before.before.before.before.before.before.before.before.before in
+    let room = crowded (queue start) (numbers start) start.requires.sound.waiting.room c.lengths.ensures in
+    let crossed = rw c.taken_time-start.ensures at c.is_crossed-crossed.ensures in
+    c.curve-verdict.ensures (queue start) (lent start) crossed c.is_full-full.ensures room refl
+
+fine : (c : In-Answered) → Said c.before.before.before.before.before.before.before.before.before.before.before Verdict.Answered
+fine c = sym c.in-Answered.is ∙ verdict c.before.before.before
+
+pub insert-q-requires : goal.insert-q-requires
+insert-q-requires c =
+    let start = (goal.at.insert-q-requires c).Start in
+    let given = curve_answered (queue start) (lent start) _ _ (numbers start) (sym (fine (goal.at.insert-q-requires c).In-Answered)) in
+    (c.requires.neat, omega (arith, given.scheduled.few, counted c.args.self c.requires), omega (arith, given.room, given.lent))
+
+pub returns-in-Answered : goal.returns-in-Answered
+unfolding called
+returns-in-Answered c =
+    let start = (goal.at.returns-in-Answered c).Start in
+    let given = sym (fine (goal.at.returns-in-Answered c).In-Answered) in
+    leaves
+    c.requires
+    (inserted (curve_of (taken_time c.args.start_time) c.args.duration (numbers start)) (attached (queue start) (lent start)))
+    c.args.self.intrinsic
+    (rw given)
+    (curve_answered (queue start) (lent start) _ _ (numbers start) given).lent
+    (rw c.taken_time-start.ensures at c.insert-q.ensures)
+    c.answered.ensures
+
+pub returns-in-Refused : goal.returns-in-Refused
+unfolding called
+returns-in-Refused c =
+    keeps
+    c.requires
+    (refused_called _ _ _ _ _ _ (sym (verdict (goal.at.returns-in-Refused c).After-curve-verdict) ∙ c.in-Refused.is))
+    (rw c.in-Refused.is)

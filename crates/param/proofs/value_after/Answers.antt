@@ -1,0 +1,12 @@
+-- `value_after` meets its contract. Assumes nothing.
+use Rattle.rules.specs.Queue.{returned}
+use borrow.Author.Rules.{rules}
+use Rattle.param.proofs.value_after.Goals as goal
+
+pub returns-in-None : goal.returns-in-None
+unfolding returned
+returns-in-None c = rw (c.if-lost.true, c.in-None.is)
+
+pub returns-in-Done : goal.returns-in-Done
+unfolding returned
+returns-in-Done c = rw (c.if-lost.true, c.in-Done.is)

@@ -1,0 +1,6 @@
+-- `started` meets its contract. Assumes nothing.
+use borrow.Author.Rules.{rules}
+use Rattle.plain.proofs.started.Goals as goal
+
+pub returns : goal.returns
+returns c = rw c.start_of.ensures

@@ -1,0 +1,10 @@
+-- `play::room` meets its contract: behind what waits, or at the front once that is written. Assumes nothing.
+use mathlib.Core.Path.{sym}
+use native.Mathlib.Omega.{arith}
+use lib.Seq.{length-take-le}
+use borrow.Author.Rules.{rules}
+use Rattle.play.proofs.room.Goals as goal
+
+pub slice_bounds-write_all-end : goal.slice_bounds-write_all-end
+slice_bounds-write_all-end c =
+    sym (length-take-le _ _ (omega arith))

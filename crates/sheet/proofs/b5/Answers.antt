@@ -1,0 +1,8 @@
+-- `sheet::b5` meets its contract. Assumes nothing.
+use lib.Ieee.{of_bits}
+use borrow.Author.Rules.{rules}
+use Rattle.sheet.proofs.b5.Goals as goal
+
+pub returns : goal.returns
+unfolding of_bits
+returns c = search rules

@@ -1,0 +1,14 @@
+-- `sheet::play` meets its contract: its calls in turn. Assumes nothing.
+use mathlib.Core.Path.{◌∙◌}
+use lib.Ieee.{of_bits}
+use Rattle.sheet.specs.Played.{input_of}
+use Rattle.sheet.proofs.Rendered.{plays_row}
+use borrow.Author.Rules.{rules}
+use Rattle.sheet.proofs.play.Goals as goal
+
+pub shape_of-store : goal.shape_of-store
+shape_of-store c = c.block-after.auto.1.1.1.1.1.1.0 ∙ c.ask-asked.auto.1.1.0 ∙ c.block-before.auto.1.1.1.1.1.1.0 ∙ c.set_up-p.auto.1.0
+
+pub returns : goal.returns
+unfolding of_bits input_of
+returns c = plays_row c.set_up-p.ensures c.block-before.ensures c.ask-asked.ensures c.block-after.ensures
