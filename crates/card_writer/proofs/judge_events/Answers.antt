@@ -44,6 +44,12 @@ offset_bounds-store-from c = omega (arith, (event c).room)
 pub slice_bounds-numbers-count : goal.slice_bounds-numbers-count
 slice_bounds-numbers-count c = omega arith
 
+pub slice_bounds-numbers-start : goal.slice_bounds-numbers-start
+slice_bounds-numbers-start c = omega arith
+
+pub slice_bounds-numbers-end : goal.slice_bounds-numbers-end
+slice_bounds-numbers-end c = omega (arith, (event c).room, c.requires.1)
+
 pub returns-then-is_unwritable : goal.returns-then-is_unwritable
 returns-then-is_unwritable c =
     rw (← (queue (goal.at.returns-then-is_unwritable c).At-loop-i).same) (looked_not c.loop-i.invariant.2 (event (goal.at.returns-then-is_unwritable c).After-length_of).here _ (sym c.is_unwritable.ensures ∙ c.if-is_unwritable.true))

@@ -41,6 +41,12 @@ offset_bounds-store-from c = omega (arith, (event (goal.at.offset_bounds-store-f
 pub slice_bounds-put_event-count : goal.slice_bounds-put_event-count
 slice_bounds-put_event-count c = omega arith
 
+pub slice_bounds-put_event-start : goal.slice_bounds-put_event-start
+slice_bounds-put_event-start c = omega arith
+
+pub slice_bounds-put_event-end : goal.slice_bounds-put_event-end
+slice_bounds-put_event-end c = omega (arith, (event (goal.at.slice_bounds-put_event-end c).After-length_of).room, c.requires.1)
+
 pub put_event-next-requires : goal.put_event-next-requires
 put_event-next-requires c = omega (arith, room (goal.at.put_event-next-requires c).At-loop-i, c.loop-i.invariant.2, c.loop-i.invariant.3, fields-length (event (goal.at.put_event-next-requires c).After-length_of).here)
 

@@ -31,6 +31,9 @@ overflow_add-to c = omega (arith, within (param_of c.args.p).queue c.args.i c.ar
 pub offset_bounds-store-from : goal.offset_bounds-store-from
 offset_bounds-store-from c = omega (arith, within (param_of c.args.p).queue c.args.i c.args.store.now c.in-Event.e c.offset_of-from.result c.length_of.result (sym c.in-Event.is ∙ c.event_at.ensures) c.offset_of-from.ensures c.length_of.ensures c.requires.0.sound.waiting.room)
 
+pub slice_bounds-put_list-end : goal.slice_bounds-put_list-end
+slice_bounds-put_list-end c = omega (arith, within (param_of c.args.p).queue c.args.i c.args.store.now c.in-Event.e c.offset_of-from.result c.length_of.result (sym c.in-Event.is ∙ c.event_at.ensures) c.offset_of-from.ensures c.length_of.ensures c.requires.0.sound.waiting.room, c.requires.1)
+
 pub put_list-requires : goal.put_list-requires
 put_list-requires c =
     omega (arith, part_length (param_of c.args.p).queue c.args.i c.args.store.now c.in-Event.e c.offset_of-from.result c.length_of.result (sym c.in-Event.is ∙ c.event_at.ensures) c.offset_of-from.ensures c.length_of.ensures c.requires.1 c.requires.0.sound.waiting.room, width (param_of c.args.p).queue c.args.i c.args.store.now c.in-Event.e c.offset_of-from.result c.length_of.result (sym c.in-Event.is ∙ c.event_at.ensures) c.offset_of-from.ensures c.length_of.ensures, c.requires.2, c.put_event-next.ensures.upper_bound, c.put_event-next.auto.0)

@@ -9,6 +9,9 @@ returns-then-writes_none c = none c.args.infos c.requires.0 c.writes_none.ensure
 pub slice_bounds-compute_set_value_curve_samples-count : goal.slice_bounds-compute_set_value_curve_samples-count
 slice_bounds-compute_set_value_curve_samples-count c = upward c.args.infos c.requires.0 c.writes_none.ensures c.if-writes_none.false
 
+pub slice_bounds-compute_set_value_curve_samples-start : goal.slice_bounds-compute_set_value_curve_samples-start
+slice_bounds-compute_set_value_curve_samples-start c = upward c.args.infos c.requires.0 c.writes_none.ensures c.if-writes_none.false
+
 pub returns : goal.returns
 returns c =
     lent c.args.infos c.requires.0 c.writes_none.ensures c.if-writes_none.false c.time_at-time.ensures c.compute_set_value_curve_samples.ensures

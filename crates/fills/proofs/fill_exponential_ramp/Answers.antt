@@ -23,6 +23,9 @@ returns-then-has_no_length c =
 pub slice_bounds-compute_exponential_ramp_samples-count : goal.slice_bounds-compute_exponential_ramp_samples-count
 slice_bounds-compute_exponential_ramp_samples-count c = upward c.args.infos c.requires c.writes_none.ensures c.if-writes_none.false
 
+pub slice_bounds-compute_exponential_ramp_samples-start : goal.slice_bounds-compute_exponential_ramp_samples-start
+slice_bounds-compute_exponential_ramp_samples-start c = upward c.args.infos c.requires c.writes_none.ensures c.if-writes_none.false
+
 pub returns : goal.returns
 returns c =
     rw (ramp_along c.args.value c.args.duration _ (sym c.has_no_length.ensures ∙ c.if-has_no_length.false))

@@ -13,6 +13,9 @@ returns-then-writes_none c =
 pub slice_bounds-compute_set_target_samples-count : goal.slice_bounds-compute_set_target_samples-count
 slice_bounds-compute_set_target_samples-count c = upward c.args.infos c.requires c.writes_none.ensures c.if-writes_none.false
 
+pub slice_bounds-compute_set_target_samples-start : goal.slice_bounds-compute_set_target_samples-start
+slice_bounds-compute_set_target_samples-start c = upward c.args.infos c.requires c.writes_none.ensures c.if-writes_none.false
+
 pub returns : goal.returns
 unfolding target_sample target_at
 returns c =

@@ -112,6 +112,12 @@ offset_bounds-store-from c = omega (arith, past (goal.at.offset_bounds-store-fro
 pub slice_bounds-take_head-count : goal.slice_bounds-take_head-count
 slice_bounds-take_head-count c = omega arith
 
+pub slice_bounds-take_head-start : goal.slice_bounds-take_head-start
+slice_bounds-take_head-start c = omega (arith, past (goal.at.slice_bounds-take_head-start c).After-length_of, room (at_loop (known (goal.at.slice_bounds-take_head-start c).After-length_of)))
+
+pub slice_bounds-take_head-end : goal.slice_bounds-take_head-end
+slice_bounds-take_head-end c = omega (arith, past (goal.at.slice_bounds-take_head-end c).After-length_of, room (at_loop (known (goal.at.slice_bounds-take_head-end c).After-length_of)))
+
 pub take_head-turn-requires : goal.take_head-turn-requires
 take_head-turn-requires c = let m = (goal.at.take_head-turn-requires c).After-length_of in
     let k = known m in

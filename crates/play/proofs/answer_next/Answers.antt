@@ -11,6 +11,14 @@ pub slice_bounds-answer_plain-count : goal.slice_bounds-answer_plain-count
 slice_bounds-answer_plain-count c =
     (line_in _ c.in-Line.is c.requires.1).0
 
+pub slice_bounds-answer_plain-start : goal.slice_bounds-answer_plain-start
+slice_bounds-answer_plain-start c =
+    (line_in _ c.in-Line.is c.requires.1).0
+
+pub slice_bounds-answer_plain-end : goal.slice_bounds-answer_plain-end
+slice_bounds-answer_plain-end c =
+    (line_in _ c.in-Line.is c.requires.1).1
+
 pub answer_plain-requires : goal.answer_plain-requires
 answer_plain-requires c =
     let long = part_length c.args.input.now c.in-Line.from c.in-Line.to (line_in _ c.in-Line.is c.requires.1).1 in

@@ -12,6 +12,12 @@ use Rattle.session.proofs.answer_next.Goals as goal
 pub slice_bounds-answer_line-count : goal.slice_bounds-answer_line-count
 slice_bounds-answer_line-count c = (line_in _ c.in-Line.is c.requires.1).0
 
+pub slice_bounds-answer_line-start : goal.slice_bounds-answer_line-start
+slice_bounds-answer_line-start c = (line_in _ c.in-Line.is c.requires.1).0
+
+pub slice_bounds-answer_line-end : goal.slice_bounds-answer_line-end
+slice_bounds-answer_line-end c = (line_in _ c.in-Line.is c.requires.1).1
+
 pub returns-in-Line : goal.returns-in-Line
 unfolding next_turn
 returns-in-Line c = by_next _ c.in-Line.is c.answer_line.ensures

@@ -8,6 +8,12 @@ use Rattle.strict.proofs.write_next.Goals as goal
 pub slice_bounds-write_line-count : goal.slice_bounds-write_line-count
 slice_bounds-write_line-count c = (line_in _ c.in-Line.is c.requires.0).0
 
+pub slice_bounds-write_line-start : goal.slice_bounds-write_line-start
+slice_bounds-write_line-start c = (line_in _ c.in-Line.is c.requires.0).0
+
+pub slice_bounds-write_line-end : goal.slice_bounds-write_line-end
+slice_bounds-write_line-end c = (line_in _ c.in-Line.is c.requires.0).1
+
 pub write_line-requires : goal.write_line-requires
 write_line-requires c =
     let within = line_in _ c.in-Line.is c.requires.0 in

@@ -33,6 +33,12 @@ overflow_add-to c = record { fits = omega (arith, (piece c).2) }
 pub slice_bounds-take-count : goal.slice_bounds-take-count
 slice_bounds-take-count c = omega arith
 
+pub slice_bounds-take-start : goal.slice_bounds-take-start
+slice_bounds-take-start c = omega arith
+
+pub slice_bounds-take-end : goal.slice_bounds-take-end
+slice_bounds-take-end c = (piece c).2
+
 pub take-fed-requires : goal.take-fed-requires
 take-fed-requires c = (c.loop-from.invariant.3.sound, c.loop-from.invariant.3.fits)
 
