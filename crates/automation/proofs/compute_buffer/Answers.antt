@@ -15,47 +15,17 @@ use Rattle.timeline.proofs.Steps.{none_there, slot_there}
 use Rattle.automation.specs.Walks.{walk_as}
 use Rattle.automation.proofs.Heads.{Going, begins, none_left, inside, past_most, numbered, head_stops, head_goes, few_steps, few_turned, ready, end_room, walks}
 use Rattle.automation.proofs.compute_buffer.Goals as goal
-use Rattle.automation.proofs.compute_buffer.Goals.{At-loop-head, In-Event, Joined-behind-timeline, Start}
-
--- ---- before a head, at k
-
-module _ (k : At-loop-head) where
-  abbrev start : Start
-  start = k.before.before.before.before.before.before.before.before.before
-
-  abbrev queue : AudioParamEventTimeline
-  queue = start.args.timeline
-
-  abbrev es : List Event
-  es = waiting queue
-
-  same : length k.loop-head.buffer ≡ length start.args.buffer.now
-  same = k.loop-head.invariant.whole ∙ k.begin-walk.ensures.whole
-
-  left : length es ≡ queue.len
-  left = count queue start.requires.neat
-
-  few : length es ≤ 64
-  few = start.requires.sound.few
-
--- ---- at a head, m
-
-module _ (m : In-Event) where
-  abbrev at_head : In-Event
-  at_head = m
-
-  is : at_head.loop-head.head ≡ Head.Event m.in-Event.event
-  is = m.in-Event.is
+use Rattle.automation.proofs.compute_buffer.Goals.{Joined-behind-timeline, then-behind-timeline, else-behind-timeline}
 
 -- what is read as the event behind the head
-next_is : (j : Joined-behind-timeline) → j.if-behind-timeline.next ≡ first_of (drop ((at_head j.before.before).loop-head.at + 1) (es (at_head j.before.before)))
+next_is : (j : Joined-behind-timeline) → j.if-behind-timeline.next ≡ first_of (drop (j.loop-head.at + 1) (waiting j.args.timeline))
 next_is j =
-    let k = at_head j.before.before in
-    let l : length (es k) ≡ (queue k).len = left k in
-    ⊎_elim
-    (λ w. w.2 ∙ slot_there (queue k) (start k).requires.neat (k.loop-head.at + 1) w.0.taken)
-    (λ w. w.1 ∙ none_there (es k) (k.loop-head.at + 1) (omega (arith, w.0.left)))
-    j.if-behind-timeline.branch
+    let q = j.args.timeline in
+    let l : length (waiting q) ≡ q.len = count q j.requires.neat in
+    elim j.if-behind-timeline.branch [
+      then-behind-timeline w ↦ w.next-is ∙ slot_there q j.requires.neat (j.loop-head.at + 1) w.if-behind-timeline.true
+    | else-behind-timeline w ↦ w.next-is ∙ none_there (waiting q) (j.loop-head.at + 1) (omega (arith, w.if-behind-timeline.false))
+    ]
 
 pub begin-walk-requires : goal.begin-walk-requires
 begin-walk-requires c = c.requires.some
@@ -68,76 +38,63 @@ loop-head-init c = begins c.begin-walk.ensures c.peek-head.ensures
 
 pub counted-requires : goal.counted-requires
 counted-requires c =
-    let k = (goal.at.counted-requires c).At-loop-head in
-    omega (arith, few_steps (start k).requires c.loop-head.invariant)
+    omega (arith, few_steps c.requires c.loop-head.invariant)
 
 pub end-requires : goal.end-requires
 end-requires c =
-    let k = (goal.at.end-requires c).At-loop-head in
-    rw c.counted.ensures (end_room (start k).requires c.loop-head.invariant.filled (same k))
-
-pub shape_of-buffer-in_default : goal.shape_of-buffer-in_default
-shape_of-buffer-in_default c = (returns-in_default c).whole
+    rw c.counted.ensures (end_room c.requires c.loop-head.invariant.filled (c.loop-head.invariant.whole ∙ c.begin-walk.ensures.whole))
 
 pub returns-in_default : goal.returns-in_default
 returns-in_default c =
     walks c.begin-walk.ensures
     (none_left c.loop-head.invariant c.in_default.is (rw c.counted.ensures at c.end.ensures))
 
+pub shape_of-buffer-in_default : goal.shape_of-buffer-in_default
+shape_of-buffer-in_default c = (returns-in_default c).whole
+
 pub overflow_add-behind : goal.overflow_add-behind
 overflow_add-behind c =
-    let k = at_head c in
-    record { fits = omega (arith, k.loop-head.invariant.few, few k) }
+    record { fits = omega (arith, c.loop-head.invariant.few, c.requires.sound.few) }
 
 pub offset_bounds-timeline-behind : goal.offset_bounds-timeline-behind
 offset_bounds-timeline-behind c =
-    let k = at_head (goal.at.offset_bounds-timeline-behind c).In-Event in
-    record { fits = omega (arith, k.loop-head.invariant.few, few k) }
+    record { fits = omega (arith, c.loop-head.invariant.few, c.requires.sound.few) }
 
 pub bounds-timeline-behind : goal.bounds-timeline-behind
 bounds-timeline-behind c =
-    let k = at_head (goal.at.bounds-timeline-behind c).In-Event in
-    omega (arith, c.if-behind-timeline.true, left k, few k)
+    omega (arith, c.if-behind-timeline.true, count c.args.timeline c.requires.neat, c.requires.sound.few)
 
 pub take_head-turn-requires : goal.take_head-turn-requires
 take_head-turn-requires c =
-    let m = (goal.at.take_head-turn-requires c).In-Event in
-    let g = (at_head m).loop-head.invariant in
-    let p = (start (at_head m)).requires in (
-      ready p g (at_head m).begin-walk.ensures.whole,
+    let g = c.loop-head.invariant in
+    let p = c.requires in (
+      ready p g c.begin-walk.ensures.whole,
       few_steps p g,
       few_turned p g,
-      omega (arith, past_most g (is m), p.lent),
-      numbered g (is m) p.sound p.lent,
+      omega (arith, past_most g c.in-Event.is, p.lent),
+      numbered g c.in-Event.is p.sound p.lent,
     )
 
 pub end-requires-in-Stop : goal.end-requires-in-Stop
 end-requires-in-Stop c =
-    let k = at_head (goal.at.end-requires-in-Stop c).In-Event in
-    end_room (start k).requires c.take_head-turn.ensures.filled (c.take_head-turn.ensures.whole ∙ same k)
+    end_room c.requires c.take_head-turn.ensures.filled (c.take_head-turn.ensures.whole ∙ c.loop-head.invariant.whole ∙ c.begin-walk.ensures.whole)
+
+pub returns-in-Stop : goal.returns-in-Stop
+returns-in-Stop c =
+    walks c.begin-walk.ensures
+    (head_stops c.loop-head.invariant c.in-Event.is (next_is (goal.at.returns-in-Stop c).Joined-behind-timeline) c.take_head-turn.ensures c.in-Stop.is c.end-in-Stop.ensures)
 
 pub shape_of-buffer-in-Stop : goal.shape_of-buffer-in-Stop
 shape_of-buffer-in-Stop c = (returns-in-Stop c).whole
 
-pub returns-in-Stop : goal.returns-in-Stop
-returns-in-Stop c =
-    let m = (goal.at.returns-in-Stop c).In-Event in
-    let k = at_head m in
-    walks k.begin-walk.ensures
-    (head_stops k.loop-head.invariant (is m) (next_is (goal.at.returns-in-Stop c).Joined-behind-timeline) c.take_head-turn.ensures c.in-Stop.is c.end-in-Stop.ensures)
-
 pub overflow_add-offset : goal.overflow_add-offset
 overflow_add-offset c =
-    let m = (goal.at.overflow_add-offset c).In-Event in
-    let k = at_head m in
-    record { fits = omega (arith, c.length_of-offset.ensures, past_most k.loop-head.invariant (is m), (start k).requires.sound.room) }
+    record { fits = omega (arith, c.length_of-offset.ensures, past_most c.loop-head.invariant c.in-Event.is, c.requires.sound.room) }
 
 pub loop-head-smaller : goal.loop-head-smaller
 loop-head-smaller c =
-    let m = (goal.at.loop-head-smaller c).In-Event in
-    omega (arith, inside (at_head m).loop-head.invariant (is m))
+    omega (arith, inside c.loop-head.invariant c.in-Event.is)
 
 pub loop-head-preserved : goal.loop-head-preserved
 loop-head-preserved c =
-    let m = (goal.at.loop-head-preserved c).In-Event in
-    head_goes (at_head m).loop-head.invariant (is m) (next_is (goal.at.loop-head-preserved c).Joined-behind-timeline) c.take_head-turn.ensures c.in_default-go.is c.length_of-offset.ensures
+    head_goes c.loop-head.invariant c.in-Event.is (next_is (goal.at.loop-head-preserved c).Joined-behind-timeline) c.take_head-turn.ensures c.in_default-go.is c.length_of-offset.ensures

@@ -6,10 +6,6 @@ use Rattle.timeline.proofs.Heads.{bare, curve_is, curve_enough, curve_few}
 use borrow.Author.Rules.{rules}
 use Rattle.automation.proofs.compute_event.Goals as goal
 
-compute_exponential_ramp_automation_requires :
-    tie.Need-compute-exponential-ramp-automation-requires
-compute_exponential_ramp_automation_requires c κs = search rules
-
 pub compute_set_value_curve_automation-requires : goal.compute_set_value_curve_automation-requires
 compute_set_value_curve_automation-requires c =
     let e = c.in-Curve.is in

@@ -20,7 +20,7 @@ unfolding ratio_of
 returns-then-not-is_ratio c =
     let a = c.args in
     rw
-    (exponential_steps a.infos a.walk a.buffer.now c.start_of-last_event.ensures _ _ _ _ (sym c.is_ratio.ensures ∙ not-true _ c.if-not-is_ratio.true))
+    (exponential_steps a.infos a.walk a.buffer.now c.start_of-last_event.ensures _ _ _ _ (sym c.is_ratio.ensures ∙ c.if-not-is_ratio.true))
     (rw (c.turned_to_step.ensures, c.with_last-w.ensures, c.hold_or-end_time.ensures) at c.compute_set_value_automation.ensures)
 
 pub exponential_span-requires : goal.exponential_span-requires
@@ -31,7 +31,7 @@ unfolding ratio_of
 returns c =
     let a = c.args in
     rw (
-      exponential_is a.infos a.walk a.buffer.now c.start_of-last_event.ensures _ _ _ _ (sym c.is_ratio.ensures ∙ not-false _ c.if-not-is_ratio.false),
+      exponential_is a.infos a.walk a.buffer.now c.start_of-last_event.ensures _ _ _ _ (sym c.is_ratio.ensures ∙ c.if-not-is_ratio.false),
       exponential-at,
     )
     (rw c.with_last-w.ensures at c.exponential_span.ensures)

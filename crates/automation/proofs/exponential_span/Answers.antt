@@ -27,7 +27,7 @@ module _ (k : After-with_filled-w) where
 
   -- L as it is handed on: a signed number is read back from its bits
   log_is : to_z w64 (of_z w64 k.ratio_log-log.result) ≡ ratio_log start.args.ratio
-  log_is = to_z-of_z (record { sfits = k.ratio_log-log.ok }) ∙ k.ratio_log-log.ensures
+  log_is = to_z-of_z {w = w64} (record { sfits = k.ratio_log-log.type_inv }) ∙ k.ratio_log-log.ensures
 
   -- the ramp's sample, by its L
   abbrev sample : ℤ → Float → Float
