@@ -1,6 +1,5 @@
 -- `samples_c::samples_exponential` meets its contract. Assumes nothing.
-use borrow.Author.Rules.{rules}
-use mathlib.Core.Path.{◌≡◌, ap, ◌∙◌}
+use mathlib.Core.Path.{ap, ◌∙◌}
 use mir.Facts.{to_z-of_z}
 use lib.IntN.{ℤ}
 use lib.ListN.{length}

@@ -3,7 +3,6 @@ use mathlib.Core.Path.{◌≡◌, refl, sym, ◌∙◌}
 use Prim.Native.Nat.{◌%◌, ◌^◌}
 use lib.Ieee.{nan, binary32, div, of_bits}
 use Rattle.vector_line.proofs.Patterns.{nan_pattern, no_nan_pattern}
-use borrow.Author.Rules.{rules}
 use Rattle.vector_line.proofs.float32.Goals as goal
 
 none : div binary32 (of_bits binary32 0) (of_bits binary32 0) ≡ nan

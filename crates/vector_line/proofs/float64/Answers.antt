@@ -2,7 +2,6 @@
 use mathlib.Core.Path.{◌≡◌, refl, sym, ◌∙◌}
 use lib.Ieee.{nan, binary64, div, of_bits}
 use Rattle.vector_line.proofs.Patterns.{nan_pattern, no_nan_pattern}
-use borrow.Author.Rules.{rules}
 use Rattle.vector_line.proofs.float64.Goals as goal
 
 none : div binary64 (of_bits binary64 0) (of_bits binary64 0) ≡ nan

@@ -1,6 +1,5 @@
 -- `vector_line::fuses32` meets its contract. Assumes nothing.
 use Rattle.vector_line.specs.Line.{fuses32_to}
-use borrow.Author.Rules.{rules}
 use Rattle.vector_line.proofs.fuses32.Goals as goal
 
 pub returns : goal.returns

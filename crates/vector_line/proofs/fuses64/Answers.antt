@@ -6,7 +6,6 @@ use borrow.Author.Tests.{lt-ltb, le-ltb}
 use lib.Ieee.{binary64, of_bits}
 use Rattle.rules.specs.Numbers.{fused, wide}
 use Rattle.vector_line.specs.Line.{same, fuses64_to}
-use borrow.Author.Rules.{rules}
 use Rattle.vector_line.proofs.fuses64.Goals as goal
 
 large : (a b c w : ℕ) → 1024 < a → fuses64_to a b c w ≡ false

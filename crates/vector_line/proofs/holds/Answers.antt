@@ -7,7 +7,6 @@ use lib.Dec.{eqb}
 use lib.ListN.{get_or}
 use borrow.Author.Tests.{eq-eqb, ne_eqb}
 use Rattle.vector_line.specs.Line.{number_at, narrows_to, fuses32_to, fuses64_to, holds}
-use borrow.Author.Rules.{rules}
 use Rattle.vector_line.proofs.holds.Goals as goal
 
 -- what a line with a letter says

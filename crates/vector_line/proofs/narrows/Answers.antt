@@ -1,6 +1,5 @@
 -- `vector_line::narrows` meets its contract. Assumes nothing.
 use Rattle.vector_line.specs.Line.{narrows_to}
-use borrow.Author.Rules.{rules}
 use Rattle.vector_line.proofs.narrows.Goals as goal
 
 pub returns : goal.returns

@@ -6,7 +6,6 @@ use mathlib.Core.Path.{◌≡◌, refl, sym, ap, ◌∙◌, subst}
 use Prim.Native.Nat.{ℕ, suc, ◌+◌, ◌*◌, ◌-◌, ◌%◌, ◌^◌, ◌≤◌, ◌<◌, zero-le}
 use native.Mathlib.Omega.{arith}
 use native.Mathlib.Nat.{lt_of_lt_of_le, lt_of_le_of_lt, le-add_right, zero-lt-suc, add-zero}
-use borrow.Author.Rules.{rules}
 use lib.Pow.{pow-add, pow_mono}
 use lib.ListN.{get_or}
 use Rattle.vector_line.specs.Line.{digit_of, digits_from, number_at}

@@ -1,15 +1,7 @@
 -- `vector_line::number` meets its contract: the digits passed and those to come give the number. Assumes nothing.
-use mathlib.Core.List.{List}
-use mathlib.Core.Bool.{Bool, true, false, cond}
-use lib.Dec.{ltb}
-use mathlib.Core.Path.{◌≡◌, refl, sym, ap, ◌∙◌, subst}
-use Prim.Native.Nat.{ℕ, suc, ◌+◌, ◌*◌, ◌-◌, ◌%◌, ◌^◌, ◌≤◌, ◌<◌, zero-le}
-use native.Mathlib.Omega.{arith}
-use native.Mathlib.Nat.{lt_of_lt_of_le, lt_of_le_of_lt, le-add_right, zero-lt-suc, add-zero}
-use borrow.Author.Rules.{rules}
-use lib.Pow.{pow-add, pow_mono}
-use lib.ListN.{get_or}
-use Rattle.vector_line.specs.Line.{digit_of, digits_from, number_at}
+use mathlib.Core.Path.{◌≡◌}
+use Prim.Native.Nat.{◌+◌, ◌*◌, ◌-◌, ◌^◌, ◌≤◌, ◌<◌}
+use Rattle.vector_line.specs.Line.{digits_from, number_at}
 use Rattle.vector_line.proofs.number.Given as goal
 
 abbrev pub invariant-loop-i : goal.invariant-loop-i
