@@ -1,7 +1,7 @@
 -- The walk as a loop over heads: what holds before each, and what each does of the rules' walk. Assumes nothing.
 use mathlib.Core.Path.{◌≡◌, refl, sym, ap, ◌∙◌}
 use mathlib.Core.List.{List, [], ◌∷◌}
-use Prim.Native.Nat.{ℕ, ◌+◌, ◌-◌, ◌*◌, ◌≤◌, ◌<◌, ◌^◌}
+use Prim.Native.Nat.{ℕ, ◌+◌, ◌*◌, ◌≤◌, ◌<◌, ◌^◌}
 use native.Mathlib.Numerals.{add-one}
 use native.Mathlib.Omega.{arith}
 use lib.ListN.{length, take, drop, set, length-set}
@@ -10,7 +10,6 @@ use lib.Ieee.{Float}
 use Rattle.rules.specs.declared.AutomationRate.TheVariants as Rate
 use Rattle.rules.specs.declared.Event.{Event}
 use Rattle.rules.specs.declared.Head.{Head}
-use Rattle.rules.specs.declared.Head.TheVariants as Head
 use Rattle.rules.specs.declared.LastEvent.{LastEvent}
 use Rattle.rules.specs.declared.BlockInfos.{BlockInfos}
 use Rattle.rules.specs.Queue.{Waiting, head_of, length_of, lengths_of, attached}
@@ -29,7 +28,6 @@ use Rattle.automation.specs.declared.Walk.{Walk}
 use Rattle.automation.specs.declared.Walked.{Walked}
 use Rattle.automation.specs.declared.Turn.{Turn}
 use Rattle.automation.specs.declared.Go.{Go}
-use Rattle.automation.specs.declared.Go.TheVariants as Go
 use Rattle.automation.specs.Walks.{walk_as, turn_as, with_filled, counted_once, Ready, Turns}
 use Rattle.automation.specs.Walked.{Begins, Ends, Walkable, Walks}
 

@@ -9,7 +9,6 @@ use Rattle.rules.specs.Walk.{stop, on}
 use Rattle.timeline.specs.Heads.{waiting_as}
 use Rattle.automation.specs.declared.Walk.{Walk}
 use Rattle.automation.specs.declared.Go.{Go}
-use Rattle.automation.specs.declared.Go.TheVariants as Go
 use Rattle.automation.specs.declared.Turn.{Turn}
 
 -- the rules' walk that a walk with the buffer b stands for

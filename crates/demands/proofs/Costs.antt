@@ -47,6 +47,8 @@ settled p (block store c) (rendered r) ok (Code.played m) =
           ∙ rw (m.verdict, m.steps) (block_seen_lem (param_of p) store c);
       sound = m.sound;
     }
+settled p (command store c) (rendered r) ok x = elim x [ ]
+settled p (block store c) (done r) ok x = elim x [ ]
 
 -- ---- a session
 
@@ -57,6 +59,8 @@ session_settled : (p : AudioParam) (calls : List Asked) (gs : List Given) → So
     → (seen_totals p gs ≡ totals (param_of p) calls) × (param_of (last_left left_by_given p gs) ≡ left_by_all (param_of p) calls)
 unfolding seen_totals totals last_left left_by_all
 session_settled p [] [] ok none = (refl, refl)
+session_settled p [] (g ∷ gs) ok x = elim x [ ]
+session_settled p (a ∷ calls) [] ok x = elim x [ ]
 session_settled p (a ∷ calls) (g ∷ gs) ok (more m rest) =
     let one = settled p a g ok m in
     let all = session_settled (left_by_given g) calls gs one.sound rest in
@@ -65,6 +69,8 @@ session_settled p (a ∷ calls) (g ∷ gs) ok (more m rest) =
 first_results : (k : ℕ) (p : AudioParam) (calls : List Asked) (gs : List Given) → Session p calls gs → Session p (take k calls) (take k gs)
 first_results zero p calls gs r = none
 first_results (suc k) p [] [] none = none
+first_results (suc k) p [] (g ∷ gs) r = elim r [ ]
+first_results (suc k) p (a ∷ calls) [] r = elim r [ ]
 first_results (suc k) p (a ∷ calls) (g ∷ gs) (more m rest) = more m (first_results k (left_by_given g) calls gs rest)
 
 -- behind each of its first calls

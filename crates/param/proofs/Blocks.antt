@@ -7,10 +7,8 @@ use Prim.Native.Nat.{◌≤◌}
 use lib.ListN.{length, take, drop}
 use lib.Ieee.{Float}
 use Rattle.rules.specs.declared.Event.{Event}
-use Rattle.rules.specs.declared.Event.TheVariants as Event
 use Rattle.rules.specs.declared.Refusal.{Refusal}
 use Rattle.rules.specs.declared.Verdict.{Verdict}
-use Rattle.rules.specs.declared.Verdict.TheVariants as Verdict
 use Rattle.rules.specs.Numbers.{plus_zero, is_finite, is_zero}
 use Rattle.rules.specs.Queue.{attached}
 use Rattle.rules.specs.Block.{Param, Call, Answer, infos_of, rendered, answer_of, answered_as, verdict_of, answered}

@@ -1,6 +1,6 @@
 -- What the calls have in common. Assumes nothing.
 use mathlib.Core.Path.{◌≡◌, refl, sym, ap, ◌∙◌}
-use mathlib.Core.List.{List, [], ◌∷◌}
+use mathlib.Core.List.{List, []}
 use mathlib.Core.Bool.{Bool, true, false}
 use Prim.Native.Nat.{ℕ, suc, ◌+◌, ◌-◌, ◌≤◌}
 use native.Mathlib.Omega.{arith}
@@ -14,16 +14,14 @@ use Rattle.rules.specs.declared.AutomationRate.{AutomationRate}
 use Rattle.rules.specs.declared.Event.{Event}
 use Rattle.rules.specs.declared.Refusal.{Refusal}
 use Rattle.rules.specs.declared.Verdict.{Verdict}
-use Rattle.rules.specs.declared.Verdict.TheVariants as Verdict
 use Rattle.rules.specs.Numbers.{store_length, plus_zero, is_zero, taken_time}
-use Rattle.rules.specs.Queue.{Waiting, head_of, lengths_of, attached, packed}
+use Rattle.rules.specs.Queue.{Waiting, lengths_of, packed}
 use Rattle.rules.specs.Refusals.{lowest, making_rows}
 use Rattle.rules.specs.Block.{Param, with_queue, made, Command, set, step, Called, called, scheduled_as, called_as}
 use Rattle.laws.specs.Sound.{Sound}
 use Rattle.laws.proofs.Tests.{clash}
 use Rattle.laws.proofs.Kept.{made_sound, called_sound}
 use Rattle.timeline.specs.declared.AudioParamEventTimeline.{AudioParamEventTimeline}
-use Rattle.timeline.specs.Timeline.{waiting, first_of}
 use Rattle.timeline.proofs.Laws.{waits, made_neat, count}
 use Rattle.curves.specs.Curves.{packed_in, Leaves}
 use Rattle.param.specs.declared.AudioParam.{AudioParam}

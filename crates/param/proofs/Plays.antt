@@ -14,12 +14,9 @@ use Rattle.rules.specs.declared.AutomationRate.TheVariants as Rate
 use Rattle.rules.specs.declared.BlockInfos.{BlockInfos}
 use Rattle.rules.specs.declared.Event.{Event}
 use Rattle.rules.specs.declared.Head.{Head}
-use Rattle.rules.specs.declared.Head.TheVariants as Head
-use Rattle.rules.specs.declared.MaybeTime.TheVariants as MaybeTime
 use Rattle.rules.specs.declared.Refusal.{Refusal}
 use Rattle.rules.specs.declared.Verdict.{Verdict}
-use Rattle.rules.specs.declared.Verdict.TheVariants as Verdict
-use Rattle.rules.specs.Numbers.{ceiling_of, most_events, store_length, plus_zero}
+use Rattle.rules.specs.Numbers.{ceiling_of, most_events, store_length}
 use Rattle.rules.specs.Queue.{Waiting, head_of, events_of, lengths_of, attached}
 use Rattle.rules.specs.Walk as Rules
 use Rattle.rules.specs.Block.{Call, Answer, infos_of, rests_for, walk_from, values_before, rendered_as, rendered, says_one, output_of, answer_of, verdict_of, answered}
@@ -37,11 +34,11 @@ use Rattle.curves.specs.Curves.{packed_in, Leaves}
 use Rattle.curves.proofs.Calls.{packed-whole, leaves_replaced}
 use Rattle.automation.specs.declared.Walked.{Walked}
 use Rattle.automation.specs.Walked.{Walks}
-use Rattle.block.specs.Asked.{Given as FilledFor, Fitting, written}
+use Rattle.block.specs.Asked.{Given as FilledFor, written}
 use Rattle.param.specs.declared.AudioParam.{AudioParam}
 use Rattle.param.specs.declared.Processed.{Processed}
 use Rattle.param.specs.declared.process.Played.{Played}
-use Rattle.param.specs.Param.{param_of, struct_of, parts_of, SoundParam}
+use Rattle.param.specs.Param.{param_of, struct_of, SoundParam}
 use Rattle.param.specs.Processed.{length_of_head, unplayed, afterwards, Playable, played, Plays, Gives, Processes}
 use Rattle.param.proofs.Calls.{whole, struct_sound}
 

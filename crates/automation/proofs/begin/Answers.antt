@@ -1,6 +1,5 @@
 -- `begin` meets its contract, by the rate. Assumes nothing.
 use Rattle.automation.proofs.Heads.{begins_a, begins_k}
-use borrow.Author.Rules.{rules}
 use Rattle.automation.proofs.begin.Goals as goal
 
 pub returns-in-A : goal.returns-in-A

@@ -1,19 +1,12 @@
 -- `compute_buffer` meets its contract: the loop goes on as the rules' walk, head by head. Assumes nothing.
 use mathlib.Core.Path.{◌≡◌, ◌∙◌}
-use mathlib.Core.Logic.{⊎_elim}
-use mathlib.Core.List.{List}
-use Prim.Native.Nat.{◌+◌, ◌-◌, ◌≤◌}
+use Prim.Native.Nat.{◌+◌}
 use native.Mathlib.Omega.{arith}
 use lib.ListN.{length, drop}
-use borrow.Author.Rules.{rules}
-use Rattle.rules.specs.declared.Event.{Event}
-use Rattle.rules.specs.declared.Head.TheVariants as Head
-use Rattle.timeline.specs.declared.AudioParamEventTimeline.{AudioParamEventTimeline}
 use Rattle.timeline.specs.Timeline.{waiting, first_of}
 use Rattle.timeline.proofs.Laws.{count}
 use Rattle.timeline.proofs.Steps.{none_there, slot_there}
-use Rattle.automation.specs.Walks.{walk_as}
-use Rattle.automation.proofs.Heads.{Going, begins, none_left, inside, past_most, numbered, head_stops, head_goes, few_steps, few_turned, ready, end_room, walks}
+use Rattle.automation.proofs.Heads.{begins, none_left, inside, past_most, numbered, head_stops, head_goes, few_steps, few_turned, ready, end_room, walks}
 use Rattle.automation.proofs.compute_buffer.Goals as goal
 use Rattle.automation.proofs.compute_buffer.Goals.{Joined-behind-timeline, then-behind-timeline, else-behind-timeline}
 
@@ -23,8 +16,8 @@ next_is j =
     let q = j.args.timeline in
     let l : length (waiting q) ≡ q.len = count q j.requires.neat in
     elim j.if-behind-timeline.branch [
-      then-behind-timeline w ↦ w.next-is ∙ slot_there q j.requires.neat (j.loop-head.at + 1) w.if-behind-timeline.true
-    | else-behind-timeline w ↦ w.next-is ∙ none_there (waiting q) (j.loop-head.at + 1) (omega (arith, w.if-behind-timeline.false))
+      | then-behind-timeline w ↦ w.next-is ∙ slot_there q j.requires.neat (j.loop-head.at + 1) w.if-behind-timeline.true
+      | else-behind-timeline w ↦ w.next-is ∙ none_there (waiting q) (j.loop-head.at + 1) (omega (arith, w.if-behind-timeline.false))
     ]
 
 pub begin-walk-requires : goal.begin-walk-requires

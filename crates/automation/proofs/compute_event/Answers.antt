@@ -3,7 +3,6 @@ use mathlib.Core.Path.{refl}
 use Rattle.rules.specs.Queue.{length_of}
 use Rattle.rules.specs.Walk.{turn_of}
 use Rattle.timeline.proofs.Heads.{bare, curve_is, curve_enough, curve_few}
-use borrow.Author.Rules.{rules}
 use Rattle.automation.proofs.compute_event.Goals as goal
 
 pub compute_set_value_curve_automation-requires : goal.compute_set_value_curve_automation-requires

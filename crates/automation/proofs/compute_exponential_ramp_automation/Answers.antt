@@ -1,10 +1,8 @@
 -- `compute_exponential_ramp_automation` meets its contract: a span, or the step that it becomes. Assumes nothing.
 use mathlib.Core.Path.{refl, sym, ◌∙◌}
-use borrow.Author.Tests.{not-true, not-false}
 use Rattle.rules.specs.Samples.{ratio_of}
 use Rattle.samples.proofs.Once.{exponential_is as exponential-at}
 use Rattle.automation.proofs.Bodies.{ready_as, exponential_is, exponential_steps}
-use borrow.Author.Rules.{rules}
 use Rattle.automation.proofs.compute_exponential_ramp_automation.Goals as goal
 
 pub turned_to_step-requires : goal.turned_to_step-requires

@@ -4,14 +4,12 @@ use mathlib.Core.List.{[]}
 use lib.Ieee as Ieee
 use lib.Ieee.{binary64}
 use Rattle.rules.specs.declared.Event.{Event}
-use Rattle.rules.specs.declared.Event.TheVariants as Event
 use Rattle.rules.specs.declared.Finished.{Finished}
 use Rattle.rules.specs.Queue.{alone}
 use Rattle.rules.specs.Samples.{linear_sample}
 use Rattle.rules.specs.Walk.{linear_turn}
 use Rattle.automation.specs.Walks.{walk_as, with_filled, with_last}
 use Rattle.automation.proofs.Bodies.{ready_room, filled_at, Spanned, span_few, span_stops, span_ends, span_held, linear_is}
-use borrow.Author.Rules.{rules}
 use Rattle.automation.proofs.compute_linear_ramp_automation.Goals as goal
 use Rattle.automation.proofs.compute_linear_ramp_automation.Goals.{After-with_filled-w, Start}
 

@@ -1,7 +1,6 @@
 -- `compute_set_target_automation` meets its contract: it waits, or runs. Assumes nothing.
 use mathlib.Core.Path.{refl}
 use Rattle.automation.proofs.Bodies.{ready_as, stays, target_waits, target_is}
-use borrow.Author.Rules.{rules}
 use Rattle.automation.proofs.compute_set_target_automation.Goals as goal
 
 pub returns-then-time-infos : goal.returns-then-time-infos

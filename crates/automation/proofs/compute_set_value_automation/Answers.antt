@@ -1,6 +1,5 @@
 -- `compute_set_value_automation` meets its contract: it stops, or is consumed. Assumes nothing.
 use Rattle.automation.proofs.Bodies.{ready_room, filled_at, Stepped, step_stops, step_goes}
-use borrow.Author.Rules.{rules}
 use Rattle.automation.proofs.compute_set_value_automation.Goals as goal
 use Rattle.automation.proofs.compute_set_value_automation.Goals.{After-with_filled-w, Start}
 

@@ -1,6 +1,5 @@
 -- `compute_set_value_curve_automation` meets its contract: it waits, or is a span. Assumes nothing.
 use Rattle.automation.proofs.Bodies.{stays, curve_waits, curve_is}
-use borrow.Author.Rules.{rules}
 use Rattle.automation.proofs.compute_set_value_curve_automation.Goals as goal
 
 pub returns-then-start-infos : goal.returns-then-start-infos

@@ -7,7 +7,6 @@ use Rattle.rules.specs.Walk.{from_start, span_turn}
 use Rattle.timeline.specs.Heads.{waiting_as}
 use Rattle.automation.specs.Walks.{walk_as}
 use Rattle.automation.proofs.Bodies.{ready_room, filled_at, last_read, Spanned, span_few, span_stops, span_ends, span_held}
-use borrow.Author.Rules.{rules}
 use Rattle.automation.proofs.curve_span.Goals as goal
 use Rattle.automation.proofs.curve_span.Goals.{After-with_filled-w, Start}
 

@@ -1,6 +1,5 @@
 -- `end` meets its contract. Assumes nothing.
 use Rattle.automation.proofs.Heads.{ends}
-use borrow.Author.Rules.{rules}
 use Rattle.automation.proofs.end.Goals as goal
 
 pub returns : goal.returns

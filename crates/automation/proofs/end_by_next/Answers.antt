@@ -1,6 +1,5 @@
 -- `end_by_next` meets its contract, case by case. Assumes nothing.
 use Rattle.rules.specs.Walk.{end_by_next}
-use borrow.Author.Rules.{rules}
 use Rattle.automation.proofs.end_by_next.Goals as goal
 
 pub returns-in_default : goal.returns-in_default

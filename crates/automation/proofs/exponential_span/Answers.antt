@@ -8,14 +8,12 @@ use mir.Syntax.{w64}
 use mir.Val.{to_z, of_z}
 use mir.Facts.{to_z-of_z}
 use Rattle.rules.specs.declared.Event.{Event}
-use Rattle.rules.specs.declared.Event.TheVariants as Event
 use Rattle.rules.specs.Queue.{alone}
 use Rattle.rules.specs.Samples.{ratio_log, ramp_sample}
 use Rattle.rules.specs.Walk.{span_turn}
 use Rattle.samples.specs.At.{exponential_at}
 use Rattle.automation.specs.Walks.{walk_as}
 use Rattle.automation.proofs.Bodies.{ready_room, filled_at, Spanned, span_few, span_stops, span_ends, span_held}
-use borrow.Author.Rules.{rules}
 use Rattle.automation.proofs.exponential_span.Goals as goal
 use Rattle.automation.proofs.exponential_span.Goals.{After-with_filled-w, Start}
 

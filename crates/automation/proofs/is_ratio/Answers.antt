@@ -1,6 +1,5 @@
 -- `is_ratio` meets its contract. Assumes nothing.
 use Rattle.rules.specs.Samples.{is_ratio}
-use borrow.Author.Rules.{rules}
 use Rattle.automation.proofs.is_ratio.Goals as goal
 
 pub returns-then-is_finite32 : goal.returns-then-is_finite32

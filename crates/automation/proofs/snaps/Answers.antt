@@ -1,7 +1,6 @@
 -- `snaps` meets its contract. Assumes nothing.
 use lib.Ieee as Ieee
 use Rattle.rules.specs.Walk.{snaps}
-use borrow.Author.Rules.{rules}
 use Rattle.automation.proofs.snaps.Goals as goal
 
 pub returns : goal.returns

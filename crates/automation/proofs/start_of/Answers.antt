@@ -2,7 +2,6 @@
 use mathlib.Core.Path.{sym, ap}
 use Rattle.rules.specs.declared.LastEvent.{LastEvent}
 use Rattle.rules.specs.Walk.{last_or}
-use borrow.Author.Rules.{rules}
 use Rattle.automation.proofs.start_of.Goals as goal
 
 pub returns-in-None : goal.returns-in-None

@@ -3,7 +3,6 @@ use mathlib.Core.Path.{refl}
 use native.Mathlib.Omega.{arith}
 use Rattle.automation.proofs.Bodies.{ready_as}
 use Rattle.automation.proofs.Heads.{lent_numbered, takes_head}
-use borrow.Author.Rules.{rules}
 use Rattle.automation.proofs.take_head.Goals as goal
 
 pub compute_event-requires : goal.compute_event-requires

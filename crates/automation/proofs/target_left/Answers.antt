@@ -1,8 +1,6 @@
 -- `target_left` meets its contract: it snaps or stays. Assumes nothing.
 use mathlib.Core.Path.{sym, ◌∙◌}
-use borrow.Author.Tests.{not-true, not-false}
 use Rattle.automation.proofs.Bodies.{left-stays, left-snaps}
-use borrow.Author.Rules.{rules}
 use Rattle.automation.proofs.target_left.Goals as goal
 
 pub returns-then-not-snaps : goal.returns-then-not-snaps

@@ -2,7 +2,6 @@
 use Rattle.rules.specs.Samples.{target_sample}
 use Rattle.rules.specs.Walk.{from_start}
 use Rattle.automation.proofs.Bodies.{ready_room, filled_at, Targeted, target_ends, target_leaves}
-use borrow.Author.Rules.{rules}
 use Rattle.automation.proofs.target_run.Goals as goal
 use Rattle.automation.proofs.target_run.Goals.{After-with_filled-w, Start}
 

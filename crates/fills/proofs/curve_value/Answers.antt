@@ -1,6 +1,5 @@
 -- `curve_value` meets its contract. Assumes nothing.
 use Rattle.rules.specs.Walk.{from_start}
-use borrow.Author.Rules.{rules}
 use Rattle.fills.proofs.curve_value.Goals as goal
 
 pub returns-then-time-start : goal.returns-then-time-start

@@ -1,5 +1,4 @@
 -- `fill_curve` meets its contract: the run is lent the places to fill. Assumes nothing.
-use borrow.Author.Rules.{rules}
 use Rattle.fills.proofs.Along.{none, upward, lent}
 use Rattle.fills.proofs.fill_curve.Goals as goal
 

@@ -5,7 +5,6 @@ use lib.ListN.{length}
 use lib.IntN.{ℤ}
 use mir.Facts.{to_z-of_z}
 use borrow.Rule.Slice.PartMut.{mid_of}
-use borrow.Author.Rules.{rules}
 use Rattle.rules.specs.Numbers.{run}
 use Rattle.laws.proofs.Ramps.{ramp_ended, ramp_along}
 use Rattle.samples.specs.At.{exponential_at}

@@ -1,6 +1,5 @@
 -- `fill_linear_ramp` meets its contract: a ramp of no length fills with one value; else the run is lent the places to fill. Assumes nothing.
 use mathlib.Core.Path.{sym, ◌∙◌}
-use borrow.Author.Rules.{rules}
 use Rattle.laws.proofs.Ramps.{linear_ended}
 use Rattle.samples.proofs.Once.{linear_along}
 use Rattle.fills.proofs.Along.{none, upward, lent}

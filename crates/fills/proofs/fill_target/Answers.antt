@@ -1,5 +1,4 @@
 -- `fill_target` meets its contract: the run is lent the places to fill. Assumes nothing.
-use borrow.Author.Rules.{rules}
 use Rattle.rules.specs.Samples.{target_sample}
 use Rattle.samples.specs.At.{target_at}
 use Rattle.fills.proofs.Along.{none, upward, lent}

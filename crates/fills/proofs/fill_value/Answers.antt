@@ -1,8 +1,6 @@
 -- `fill_value` meets its contract: the loop writes one value. Assumes nothing.
-use Prim.Native.Nat.{◌-◌}
 use native.Mathlib.Omega.{arith}
-use borrow.Author.Rules.{rules}
-use Rattle.fills.proofs.Along.{Along, none, begins, goes_on, ends}
+use Rattle.fills.proofs.Along.{none, begins, goes_on, ends}
 use Rattle.fills.proofs.fill_value.Goals as goal
 
 pub returns-then-writes_none : goal.returns-then-writes_none

@@ -1,8 +1,6 @@
 -- `fill_value` meets its contract: the loop writes one value. Assumes nothing.
 use Prim.Native.Nat.{◌-◌}
-use native.Mathlib.Omega.{arith}
-use borrow.Author.Rules.{rules}
-use Rattle.fills.proofs.Along.{Along, none, begins, goes_on, ends}
+use Rattle.fills.proofs.Along.{Along}
 use Rattle.fills.proofs.fill_value.Given as goal
 
 abbrev pub invariant-loop-i : goal.invariant-loop-i

@@ -1,10 +1,8 @@
 -- `flush` meets its contract: the loop flushes the places filled. Assumes nothing.
-use Prim.Native.Nat.{◌-◌}
 use native.Mathlib.Omega.{arith}
 use lib.Ieee as Ieee
-use borrow.Author.Rules.{rules}
 use Rattle.rules.specs.Numbers.{is_zero}
-use Rattle.fills.proofs.Flushes.{Flushing, begins, goes_on, ends, none}
+use Rattle.fills.proofs.Flushes.{begins, goes_on, ends, none}
 use Rattle.fills.proofs.flush.Goals as goal
 
 pub loop-i-init : goal.loop-i-init

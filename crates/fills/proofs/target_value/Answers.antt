@@ -1,6 +1,5 @@
 -- `target_value` meets its contract. Assumes nothing.
 use Rattle.rules.specs.Walk.{from_start}
-use borrow.Author.Rules.{rules}
 use Rattle.fills.proofs.target_value.Goals as goal
 
 pub returns-then-time-start : goal.returns-then-time-start

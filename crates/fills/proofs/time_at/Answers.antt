@@ -1,6 +1,5 @@
 -- `time_at` meets its contract. Assumes nothing.
 use Rattle.rules.specs.Numbers.{time_at}
-use borrow.Author.Rules.{rules}
 use Rattle.fills.proofs.time_at.Goals as goal
 
 pub returns : goal.returns

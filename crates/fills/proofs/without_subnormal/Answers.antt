@@ -1,6 +1,5 @@
 -- `without_subnormal` meets its contract. Assumes nothing.
 use lib.Ieee as Ieee
-use borrow.Author.Rules.{rules}
 use Rattle.fills.proofs.without_subnormal.Goals as goal
 
 pub returns-then-is_subnormal : goal.returns-then-is_subnormal

@@ -1,6 +1,5 @@
 -- `writes_none` meets its contract, by the rate. Assumes nothing.
 use Rattle.fills.specs.Filled.{writes_none}
-use borrow.Author.Rules.{rules}
 use Rattle.fills.proofs.writes_none.Goals as goal
 
 pub returns-in-K : goal.returns-in-K

@@ -1,6 +1,5 @@
 -- `has_started` meets its contract, variant by variant. Assumes nothing.
 use Rattle.rules.specs.Queue.{has_started}
-use borrow.Author.Rules.{rules}
 use Rattle.param.proofs.has_started.Goals as goal
 
 pub returns-in-Step : goal.returns-in-Step

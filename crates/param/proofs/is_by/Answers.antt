@@ -1,6 +1,5 @@
 -- `is_by` meets its contract. Assumes nothing.
 use Rattle.rules.specs.Queue.{is_by}
-use borrow.Author.Rules.{rules}
 use Rattle.param.proofs.is_by.Goals as goal
 
 pub returns-in-Missing : goal.returns-in-Missing

@@ -1,6 +1,5 @@
 -- `loses_curve` meets its contract. Assumes nothing.
 use Rattle.rules.specs.Queue.{loses_curve}
-use borrow.Author.Rules.{rules}
 use Rattle.param.proofs.loses_curve.Goals as goal
 
 pub returns-in-Empty : goal.returns-in-Empty

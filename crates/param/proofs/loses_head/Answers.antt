@@ -1,6 +1,5 @@
 -- `loses_head` meets its contract. Assumes nothing.
 use Rattle.rules.specs.Queue.{loses_head}
-use borrow.Author.Rules.{rules}
 use Rattle.param.proofs.loses_head.Goals as goal
 
 pub returns-in-Empty : goal.returns-in-Empty

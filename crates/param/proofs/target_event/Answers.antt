@@ -1,5 +1,4 @@
 -- `target_event` meets its contract. Assumes nothing.
-use borrow.Author.Rules.{rules}
 use Rattle.rules.specs.Queue.{target_event}
 use Rattle.refusals.proofs.Rows.{found}
 use Rattle.param.proofs.target_event.Goals as goal

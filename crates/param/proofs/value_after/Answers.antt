@@ -1,6 +1,5 @@
 -- `value_after` meets its contract. Assumes nothing.
 use Rattle.rules.specs.Queue.{returned}
-use borrow.Author.Rules.{rules}
 use Rattle.param.proofs.value_after.Goals as goal
 
 pub returns-in-None : goal.returns-in-None

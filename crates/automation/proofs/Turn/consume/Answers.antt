@@ -1,5 +1,4 @@
 -- `Turn::consume` meets its contract. Assumes nothing.
-use borrow.Author.Rules.{rules}
 use Rattle.automation.proofs.Turn.consume.Goals as goal
 
 pub returns : goal.returns

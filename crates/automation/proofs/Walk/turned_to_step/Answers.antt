@@ -1,6 +1,5 @@
 -- `Walk::turned_to_step` meets its contract. Assumes nothing.
 use native.Mathlib.Omega.{arith}
-use borrow.Author.Rules.{rules}
 use Rattle.automation.proofs.Walk.turned_to_step.Goals as goal
 
 pub overflow_add-w : goal.overflow_add-w

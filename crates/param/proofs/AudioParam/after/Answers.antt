@@ -1,6 +1,5 @@
 -- `after` meets its contract. Assumes nothing.
 use lib.Ieee.{of_bits}
-use borrow.Author.Rules.{rules}
 use Rattle.param.proofs.AudioParam.after.Goals as goal
 
 -- src/process.rt:41:5

@@ -5,9 +5,7 @@ use mathlib.Core.Path.{◌≡◌, refl, sym, ap, ◌∙◌}
 use Prim.Native.Nat.{◌≤◌}
 use native.Mathlib.Omega.{arith}
 use lib.Ieee.{Float}
-use borrow.Author.Rules.{rules}
 use Rattle.rules.specs.declared.Head.{Head}
-use Rattle.rules.specs.declared.Verdict.TheVariants as Verdict
 use Rattle.rules.specs.Numbers.{store_length, taken_time}
 use Rattle.rules.specs.Queue.{lengths_of, attached, cancelled, loses_head, returned, value_after_cancel}
 use Rattle.rules.specs.Refusals.{lowest, cancel_rows}
@@ -18,7 +16,7 @@ use Rattle.param.specs.Param.{param_of}
 use Rattle.timeline.proofs.Heads.{head_attached}
 use Rattle.param.proofs.Calls.{leaves, keeps}
 use Rattle.param.proofs.AudioParam.cancel_scheduled_values.Goals as goal
-use Rattle.param.proofs.AudioParam.cancel_scheduled_values.Goals.{After-cancel-verdict, In-Answered, Start}
+use Rattle.param.proofs.AudioParam.cancel_scheduled_values.Goals.{After-cancel-verdict, Start}
 
 -- the store that is lent
 abbrev lent : Start → List Float
@@ -27,20 +25,16 @@ lent c = c.args.store.now
 verdict : (c : After-cancel-verdict) → c.cancel-verdict.result ≡ lowest (cancel_rows (lent c.before.before.before) c.args.cancel_time)
 verdict c = c.cancel-verdict.ensures (lent c.before.before.before) refl
 
-fine : (c : In-Answered) → lowest (cancel_rows (lent c.before.before.before.before.before) c.args.cancel_time) ≡ Verdict.Answered
-fine c = sym (verdict c.before.before.before) ∙ c.in-Answered.is
-
 pub cancel-q-requires : goal.cancel-q-requires
 cancel-q-requires c =
     let start = (goal.at.cancel-q-requires c).Start in
     let r : lengths_of (param_of c.args.self).queue ≤ store_length = c.requires.sound.waiting.room in
-    (c.requires.neat, omega (arith, (cancel_answered (lent start) c.args.cancel_time (fine (goal.at.cancel-q-requires c).In-Answered)).lent))
+    (c.requires.neat, omega (arith, (cancel_answered (lent start) c.args.cancel_time (sym (verdict (goal.at.cancel-q-requires c).After-cancel-verdict) ∙ c.in-Answered.is)).lent))
 
 pub returns-in-Answered : goal.returns-in-Answered
 unfolding called value_after_cancel
 returns-in-Answered c =
     let start = (goal.at.returns-in-Answered c).Start in
-    let answered = (goal.at.returns-in-Answered c).In-Answered in
     let p = c.args.self in
     let time = taken_time c.args.cancel_time in
     let ws = attached (param_of p).queue (lent start) in
@@ -50,8 +44,8 @@ returns-in-Answered c =
     c.requires
     (cancelled time ws)
     (value_after_cancel time p.end ws p.last p.intrinsic)
-    (rw (fine answered))
-    (cancel_answered (lent start) c.args.cancel_time (fine answered)).lent
+    (rw (sym (verdict (goal.at.returns-in-Answered c).After-cancel-verdict) ∙ c.in-Answered.is))
+    (cancel_answered (lent start) c.args.cancel_time (sym (verdict (goal.at.returns-in-Answered c).After-cancel-verdict) ∙ c.in-Answered.is)).lent
     (rw c.taken_time-c.ensures at c.cancel-q.ensures)
     (rw (value, c.taken_time-c.ensures) at c.answered.ensures)
 

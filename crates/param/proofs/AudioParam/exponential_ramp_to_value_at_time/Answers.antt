@@ -1,6 +1,5 @@
 -- `exponential_ramp_to_value_at_time` meets its contract. Assumes nothing.
 use mathlib.Core.Path.{◌≡◌, refl, sym, ◌∙◌}
-use borrow.Author.Rules.{rules}
 use Rattle.rules.specs.Refusals.{lowest, exponential_rows}
 use Rattle.rules.specs.Block.{called}
 use Rattle.laws.proofs.Rows.{exponential_answered}

@@ -1,5 +1,4 @@
 -- `fresh` meets its contract. Assumes nothing.
-use borrow.Author.Rules.{rules}
 use Rattle.param.proofs.AudioParam.fresh.Goals as goal
 
 pub returns : goal.returns

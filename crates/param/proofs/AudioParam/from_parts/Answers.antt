@@ -4,7 +4,6 @@ use native.Mathlib.Omega.{arith}
 use Rattle.param.specs.declared.AudioParam.{AudioParam}
 use Rattle.param.specs.Param.{parts_of}
 use Rattle.param.proofs.Parts.{too_many, restores_not, restores_all, restores_none}
-use borrow.Author.Rules.{rules}
 use Rattle.param.proofs.AudioParam.from_parts.Goals as goal
 use Rattle.param.proofs.AudioParam.from_parts.Goals.{Start}
 

@@ -1,5 +1,4 @@
 -- `is_crossed` meets its contract. Assumes nothing.
-use borrow.Author.Rules.{rules}
 use Rattle.rules.specs.Refusals.{is_crossed}
 use Rattle.param.proofs.AudioParam.is_crossed.Goals as goal
 

@@ -1,6 +1,5 @@
 -- `leaving` meets its contract. Assumes nothing.
 use Rattle.param.proofs.Plays.{left_neat, gives}
-use borrow.Author.Rules.{rules}
 use Rattle.param.proofs.AudioParam.leaving.Goals as goal
 
 pub replace_peek-timeline-requires : goal.replace_peek-timeline-requires

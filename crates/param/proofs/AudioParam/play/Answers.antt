@@ -3,7 +3,6 @@ use mathlib.Core.Path.{◌≡◌, sym, ap, ◌∙◌}
 use Rattle.rules.specs.Block.{rests_for}
 use Rattle.timeline.specs.Timeline.{first_of}
 use Rattle.param.specs.Param.{param_of}
-use borrow.Author.Rules.{rules}
 use Rattle.param.proofs.AudioParam.play.Goals as goal
 use Rattle.param.proofs.AudioParam.play.Goals.{After-rests_for}
 

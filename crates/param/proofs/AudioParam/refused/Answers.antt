@@ -1,6 +1,5 @@
 -- `refused` meets its contract. Assumes nothing.
 use lib.Ieee.{of_bits}
-use borrow.Author.Rules.{rules}
 use Rattle.param.proofs.AudioParam.refused.Goals as goal
 
 pub returns : goal.returns

@@ -1,7 +1,6 @@
 -- `rest` meets its contract. Assumes nothing.
 use mathlib.Core.Path.{refl}
 use Rattle.param.proofs.Plays.{rests}
-use borrow.Author.Rules.{rules}
 use Rattle.param.proofs.AudioParam.rest.Goals as goal
 
 -- src/process.rt:110:5

@@ -1,6 +1,5 @@
 -- `set_target_at_time` meets its contract. Assumes nothing.
 use mathlib.Core.Path.{◌≡◌, refl, sym, ◌∙◌}
-use borrow.Author.Rules.{rules}
 use Rattle.rules.specs.Refusals.{lowest, target_rows}
 use Rattle.rules.specs.Block.{called}
 use Rattle.laws.proofs.Rows.{target_answered}

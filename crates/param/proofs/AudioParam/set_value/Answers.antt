@@ -1,6 +1,5 @@
 -- `set_value` meets its contract. Assumes nothing.
 use lib.Ieee.{of_bits}
-use borrow.Author.Rules.{rules}
 use Rattle.param.proofs.Calls.{sets}
 use Rattle.param.proofs.AudioParam.set_value.Goals as goal
 

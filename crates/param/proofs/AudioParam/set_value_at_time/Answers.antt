@@ -1,6 +1,5 @@
 -- `set_value_at_time` meets its contract. Assumes nothing.
 use mathlib.Core.Path.{◌≡◌, refl, sym, ◌∙◌}
-use borrow.Author.Rules.{rules}
 use Rattle.rules.specs.Refusals.{lowest, value_rows}
 use Rattle.rules.specs.Block.{called}
 use Rattle.laws.proofs.Rows.{value_answered}

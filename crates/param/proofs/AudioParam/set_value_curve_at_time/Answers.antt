@@ -3,8 +3,6 @@ use mathlib.Core.List.{List}
 use mathlib.Core.Path.{◌≡◌, refl, sym, ◌∙◌}
 use native.Mathlib.Omega.{arith}
 use lib.Ieee.{Float}
-use borrow.Author.Rules.{rules}
-use Rattle.rules.specs.declared.Verdict.TheVariants as Verdict
 use Rattle.rules.specs.declared.Verdict.{Verdict}
 use Rattle.rules.specs.declared.Event.{Event}
 use Rattle.rules.specs.Numbers.{taken_time}
@@ -17,7 +15,7 @@ use Rattle.curves.specs.Curves.{curve_of}
 use Rattle.param.specs.Param.{param_of}
 use Rattle.param.proofs.Calls.{counted, crowded, leaves, keeps}
 use Rattle.param.proofs.AudioParam.set_value_curve_at_time.Goals as goal
-use Rattle.param.proofs.AudioParam.set_value_curve_at_time.Goals.{After-curve-verdict, In-Answered, Start}
+use Rattle.param.proofs.AudioParam.set_value_curve_at_time.Goals.{After-curve-verdict, Start}
 
 -- what the call is given
 abbrev queue : Start → List Event
@@ -40,20 +38,17 @@ verdict c =
     let crossed = rw c.taken_time-start.ensures at c.is_crossed-crossed.ensures in
     c.curve-verdict.ensures (queue start) (lent start) crossed c.is_full-full.ensures room refl
 
-fine : (c : In-Answered) → Said c.before.before.before.before.before.before.before.before.before.before.before Verdict.Answered
-fine c = sym c.in-Answered.is ∙ verdict c.before.before.before
-
 pub insert-q-requires : goal.insert-q-requires
 insert-q-requires c =
     let start = (goal.at.insert-q-requires c).Start in
-    let given = curve_answered (queue start) (lent start) _ _ (numbers start) (sym (fine (goal.at.insert-q-requires c).In-Answered)) in
+    let given = curve_answered (queue start) (lent start) _ _ (numbers start) (sym (sym c.in-Answered.is ∙ verdict (goal.at.insert-q-requires c).After-curve-verdict)) in
     (c.requires.neat, omega (arith, given.scheduled.few, counted c.args.self c.requires), omega (arith, given.room, given.lent))
 
 pub returns-in-Answered : goal.returns-in-Answered
 unfolding called
 returns-in-Answered c =
     let start = (goal.at.returns-in-Answered c).Start in
-    let given = sym (fine (goal.at.returns-in-Answered c).In-Answered) in
+    let given = sym (sym c.in-Answered.is ∙ verdict (goal.at.returns-in-Answered c).After-curve-verdict) in
     leaves
     c.requires
     (inserted (curve_of (taken_time c.args.start_time) c.args.duration (numbers start)) (attached (queue start) (lent start)))

@@ -7,7 +7,6 @@ use Rattle.timeline.specs.Timeline.{made}
 use Rattle.curves.proofs.Calls.{consumed_events, untouched_part}
 use Rattle.param.specs.Param.{param_of}
 use Rattle.param.proofs.Plays.{gives}
-use borrow.Author.Rules.{rules}
 use Rattle.param.proofs.AudioParam.staying.Goals as goal
 
 pub numbers_waiting-requires : goal.numbers_waiting-requires

@@ -5,7 +5,6 @@ use lib.ListN.{length, take}
 use lib.Seq.{length-take-le}
 use Rattle.laws.proofs.Rows.{ceiling_most}
 use Rattle.param.proofs.Plays.{walk_given, values_stand, behind-same, walks}
-use borrow.Author.Rules.{rules}
 use Rattle.param.proofs.AudioParam.walk.Goals as goal
 use Rattle.param.proofs.AudioParam.walk.Goals.{Start}
 
@@ -32,7 +31,7 @@ compute_buffer-done-requires c =
 pub returns : goal.returns
 returns c =
     let walked = c.compute_buffer-done in
-    let start = (goal.at.returns c).After-shared_slice_known-1 in
+    let start = (goal.at.returns c).Start in
     let f = c.args.infos in
     let output = c.args.output.now in
     let values = walked.new.buffer in

@@ -1,9 +1,7 @@
 -- `with_edition` meets its contract. Assumes nothing.
-use mathlib.Core.Path.{sym, ap, ◌∙◌}
+use mathlib.Core.Path.{sym, ◌∙◌}
 use Rattle.rules.specs.Block.{made, made_as}
-use Rattle.param.specs.declared.Outcome.{Outcome}
 use Rattle.param.proofs.Calls.{makes}
-use borrow.Author.Rules.{rules}
 use Rattle.param.proofs.AudioParam.with_edition.Goals as goal
 
 pub returns-in-Answered : goal.returns-in-Answered

@@ -1,7 +1,6 @@
 -- `length_of_head` meets its contract. Assumes nothing.
 use mathlib.Core.Path.{refl}
 use Rattle.param.specs.Processed.{length_of_head}
-use borrow.Author.Rules.{rules}
 use Rattle.param.proofs.process.length_of_head.Goals as goal
 
 -- src/process.rt:47:1

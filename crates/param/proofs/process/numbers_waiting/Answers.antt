@@ -5,7 +5,6 @@ use Rattle.timeline.specs.Timeline.{waiting}
 use Rattle.timeline.proofs.Laws.{count}
 use Rattle.param.specs.Processed.{length_of_head}
 use Rattle.param.proofs.Plays.{head_alone}
-use borrow.Author.Rules.{rules}
 use Rattle.param.proofs.process.numbers_waiting.Goals as goal
 
 pub returns-then-n-le1 : goal.returns-then-n-le1

@@ -1,5 +1,5 @@
 -- `take` meets its contract: with i events taken they are sound, and wait in the slots. Assumes nothing.
-use mathlib.Core.Path.{◌≡◌, refl, sym, ◌∙◌}
+use mathlib.Core.Path.{◌≡◌, refl}
 use Prim.Native.Nat.{◌+◌, ◌≤◌, ◌-◌}
 use native.Mathlib.Omega.{arith}
 use mathlib.Core.Bool.{true, ◌&&◌}
@@ -7,23 +7,22 @@ use mathlib.Core.List.{◌∷◌, [], ◌++◌}
 use lib.Dec.{leb}
 use lib.ListN.{length, take, get_or, length-map, length-take}
 use lib.Ieee as Ieee
-use borrow.Author.Tests.{leb-true, not-true, not-false}
+use borrow.Author.Tests.{leb-true}
 use lib.Ieee.{of_bits, nan_bits}
 use denote.Struct.Laws as LL
-use borrow.Author.Rules.{rules}
 use Rattle.rules.specs.Numbers.{most_events, store_length}
 use Rattle.laws.proofs.Tests.{never, both}
 use Rattle.timeline.specs.Timeline.{slot_of, waiting}
 use Rattle.timeline.proofs.Laws.{nothing}
 use Rattle.timeline.proofs.AudioParamEventTimeline.TheLaws as TL
 use Rattle.timeline.specs.contracts.AudioParamEventTimeline as T
-use Rattle.param.proofs.Parts.{Took, took_none, takes_more, takes_not, took_all, slot_next}
+use Rattle.param.proofs.Parts.{took_none, takes_more, takes_not, took_all, slot_next}
 use Rattle.param.proofs.taking.take.Goals as goal
 use Rattle.param.proofs.taking.take.Goals.{Else-not-fits, In-loop-i, Start}
 
 -- an array of 64 has 64 elements
 full : (c : Start) → length c.args.q.slots ≡ most_events
-full c = sym (length-map c.args.q.slots _) ∙ (LL.owed T.the_type TL.the_laws c.args.q _ c.well_formed.0).0.1.0.1
+full c = (LL.owed T.the_type TL.the_laws c.args.q _ c.well_formed.0).0.1.0.1
 
 -- the event of a turn is the next
 next : (c : In-loop-i)
@@ -34,7 +33,7 @@ next c = slot_next c.args.q c.loop-i.i (full c.before.before.before.before) (ome
 
 fitted : (c : Else-not-fits)
     → (Ieee.le c.loop-i.before c.filed_under-time.result && (c.is_clear-clear.result && c.is_due.result && leb c.length_of-size.result (store_length - c.loop-i.used))) ≡ true
-fitted c = not-false _ c.if-not-fits.false
+fitted c = c.if-not-fits.false
 
 room : (c : Else-not-fits) → c.length_of-size.result ≤ store_length - c.loop-i.used
 room c = leb-true _ _ (both (c.is_clear-clear.result && c.is_due.result) _ (both (Ieee.le _ _) _ (fitted c)).1).1
@@ -63,7 +62,7 @@ returns-then-not-fits c =
           c.is_clear-clear.ensures
           c.is_due.ensures
           c.length_of-size.ensures
-          (not-true _ c.if-not-fits.true);
+          (c.if-not-fits.true);
       queue = λ h. never h;
     }
 
