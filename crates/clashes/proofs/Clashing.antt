@@ -3,13 +3,9 @@ use mathlib.Core.Path.{◌≡◌, refl, ◌∙◌}
 use mathlib.Core.Bool.{Bool, true, false, cond, ◌||◌}
 use mathlib.Core.List.{List, [], ◌∷◌}
 use Prim.Native.Nat.{ℕ}
-use types.Run.{OneOf, miss}
-use denote.Enum.Declared.{tag_of}
 use lib.Ieee.{Float}
 use Rattle.rules.specs.declared.Event.{Event}
-use Rattle.rules.specs.declared.Event.TheVariants as Event
 use Rattle.rules.specs.declared.Head.{Head}
-use Rattle.rules.specs.declared.Head.TheVariants as Head
 use Rattle.rules.specs.declared.MaybeTime.TheVariants as MaybeTime
 use Rattle.rules.specs.Numbers.{taken_time}
 use Rattle.rules.specs.Queue.{curve_end, is_inside, covers, is_filed_inside, any, any_covers, any_inside, those}
@@ -17,37 +13,38 @@ use Rattle.rules.specs.Refusals.{is_crossed}
 use Rattle.timeline.specs.Timeline.{first_of, is_some}
 use Rattle.timeline.proofs.Steps.{any_first}
 use Rattle.calls.specs.declared.Call.{Call}
-use Rattle.calls.specs.declared.Call.TheVariants as Call
-use Rattle.calls.specs.contracts.Call.{the_type}
 use Rattle.clashes.specs.declared.Clash.{Clash}
-use Rattle.clashes.specs.declared.Clash.TheVariants as Clash
 use Rattle.clashes.specs.Clashes.{span_of, curve_in, event_in, or_else, covered_by, holding, clash_of}
 
 -- ---- the calls that are not refused by 11
 
--- their places among the calls, as a `match` tells them
-abbrev others : List ℕ
-others = 0 ∷ 1 ∷ 2 ∷ 9 ∷ 10 ∷ 11 ∷ 12 ∷ 13 ∷ 14 ∷ 15 ∷ 16 ∷ []
-
-pub no_clash : (q : List Event) (call : Call) → OneOf others (tag_of the_type call) → Clash.None ≡ clash_of q call
+-- of every other call
+pub no_clash : (q : List Event) (call : Call)
+    → ((v : Float) → call ≡ Call.Set v → ⊥)
+    → ((v t : Float) → call ≡ Call.Step v t → ⊥)
+    → ((v t : Float) → call ≡ Call.Linear v t → ⊥)
+    → ((v t : Float) → call ≡ Call.Exponential v t → ⊥)
+    → ((v t c : Float) → call ≡ Call.Target v t c → ⊥)
+    → ((t d : Float) (n : ℕ) → call ≡ Call.Curve t d n → ⊥)
+    → Clash.None ≡ clash_of q call
 unfolding clash_of
-no_clash q Call.Nothing h = refl
-no_clash q Call.Unread h = refl
-no_clash q (Call.Make b rate n) h = refl
-no_clash q (Call.Set v) h = absurd (miss others 3 tt h)
-no_clash q (Call.Step v t) h = absurd (miss others 4 tt h)
-no_clash q (Call.Linear v t) h = absurd (miss others 5 tt h)
-no_clash q (Call.Exponential v t) h = absurd (miss others 6 tt h)
-no_clash q (Call.Target v t c) h = absurd (miss others 7 tt h)
-no_clash q (Call.Curve t d n) h = absurd (miss others 8 tt h)
-no_clash q (Call.Cancel t) h = refl
-no_clash q (Call.Hold t) h = refl
-no_clash q (Call.Block by t p n o i) h = refl
-no_clash q (Call.Lend n) h = refl
-no_clash q (Call.Poke i v) h = refl
-no_clash q Call.State h = refl
-no_clash q Call.Save h = refl
-no_clash q (Call.Load part n rate edition) h = refl
+no_clash q Call.Nothing set step linear exponential target curve = refl
+no_clash q Call.Unread set step linear exponential target curve = refl
+no_clash q (Call.Make b rate n) set step linear exponential target curve = refl
+no_clash q (Call.Set v) set step linear exponential target curve = absurd (set v refl)
+no_clash q (Call.Step v t) set step linear exponential target curve = absurd (step v t refl)
+no_clash q (Call.Linear v t) set step linear exponential target curve = absurd (linear v t refl)
+no_clash q (Call.Exponential v t) set step linear exponential target curve = absurd (exponential v t refl)
+no_clash q (Call.Target v t c) set step linear exponential target curve = absurd (target v t c refl)
+no_clash q (Call.Curve t d n) set step linear exponential target curve = absurd (curve t d n refl)
+no_clash q (Call.Cancel t) set step linear exponential target curve = refl
+no_clash q (Call.Hold t) set step linear exponential target curve = refl
+no_clash q (Call.Block by t p n o i) set step linear exponential target curve = refl
+no_clash q (Call.Lend n) set step linear exponential target curve = refl
+no_clash q (Call.Poke i v) set step linear exponential target curve = refl
+no_clash q Call.State set step linear exponential target curve = refl
+no_clash q Call.Save set step linear exponential target curve = refl
+no_clash q (Call.Load part n rate edition) set step linear exponential target curve = refl
 
 -- ---- the others: whether something is in the way
 

@@ -5,7 +5,6 @@ use Prim.Native.Nat.{ℕ}
 use Prim.Native.String.{String}
 use lib.Ieee.{Float, binary64, round, of_bits, to_bits, add, le, lt, eq}
 use Rattle.rules.specs.declared.Event.{Event}
-use Rattle.rules.specs.declared.Event.TheVariants as Event
 use Rattle.rules.specs.declared.MaybeTime.TheVariants as MaybeTime
 use Rattle.rules.specs.Numbers.{plus_zero, is_zero, taken_time}
 use Rattle.rules.specs.Queue.{hold_or, filed_under, curve_end, is_inside, covers, is_filed_inside, those}
@@ -13,7 +12,6 @@ use Rattle.timeline.specs.Timeline.{first_of}
 use Rattle.text.specs.Digits.{glyph_of, digits_of, places_of, decimal_of}
 use Rattle.text.specs.Floats.{float_text}
 use Rattle.calls.specs.declared.Call.{Call}
-use Rattle.calls.specs.declared.Call.TheVariants as Call
 use Rattle.decimal.specs.Codes.{codes}
 use Rattle.decimal.specs.Shown.{millionths, shown_as, shown, sign_text, places_text, shown_text, text_of, plain_text}
 use Rattle.replies.specs.Plain.{table, meaning_in}

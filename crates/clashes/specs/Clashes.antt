@@ -3,20 +3,16 @@
 use Rattle.std.specs.Prelude.{List, ◌++◌, ℕ, Float}
 use Rattle.std.specs.Float.{binary64}
 use Rattle.rules.specs.declared.Event.{Event}
-use Rattle.rules.specs.declared.Event.TheVariants as Event
 use Rattle.rules.specs.declared.Head.{Head}
-use Rattle.rules.specs.declared.Head.TheVariants as Head
 use Rattle.rules.specs.declared.MaybeTime.TheVariants as MaybeTime
 use Rattle.rules.specs.Numbers.{plus_zero, taken_time}
 use Rattle.rules.specs.Queue.{filed_under, curve_end, covers, is_filed_inside, those}
 use Rattle.timeline.specs.Timeline.{first_of}
 use Rattle.calls.specs.declared.Call.{Call}
-use Rattle.calls.specs.declared.Call.TheVariants as Call
 use Rattle.decimal.specs.Codes.{codes}
 use Rattle.decimal.specs.Shown.{plain_text}
 use Rattle.replies.specs.Plain.{table, meaning_in}
 use Rattle.clashes.specs.declared.Clash.{Clash}
-use Rattle.clashes.specs.declared.Clash.TheVariants as Clash
 
 -- ---- what is in the way
 

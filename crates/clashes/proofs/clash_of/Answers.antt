@@ -4,7 +4,6 @@ use lib.Ieee.{of_bits}
 use Rattle.timeline.specs.Timeline.{waiting}
 use Rattle.clashes.specs.Clashes.{clash_of}
 use Rattle.clashes.proofs.Clashing.{no_clash}
-use borrow.Author.Rules.{rules}
 use Rattle.clashes.proofs.clash_of.Goals as goal
 
 pub returns-in-Set : goal.returns-in-Set
@@ -34,4 +33,6 @@ returns-in-Curve c =
     (sym (ap (clash_of (waiting c.args.q)) c.in-Curve.is))
 
 pub returns-in_default : goal.returns-in_default
-returns-in_default c = no_clash _ _ c.in_default-own.keys7
+returns-in_default c =
+    let d = c.in_default in
+    no_clash _ _ d.not-Set d.not-Step d.not-Linear d.not-Exponential d.not-Target d.not-Curve

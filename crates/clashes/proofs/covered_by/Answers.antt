@@ -1,6 +1,5 @@
 -- `clashes::covered_by` meets its contract. Assumes nothing.
 use Rattle.clashes.specs.Clashes.{covered_by}
-use borrow.Author.Rules.{rules}
 use Rattle.clashes.proofs.covered_by.Goals as goal
 
 pub returns : goal.returns

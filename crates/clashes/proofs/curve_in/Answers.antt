@@ -1,7 +1,6 @@
 -- `clashes::curve_in` meets its contract. Assumes nothing.
 use mathlib.Core.Path.{sym, ap, ◌∙◌}
 use Rattle.clashes.specs.Clashes.{curve_in}
-use borrow.Author.Rules.{rules}
 use Rattle.clashes.proofs.curve_in.Goals as goal
 
 pub returns-in-Empty : goal.returns-in-Empty

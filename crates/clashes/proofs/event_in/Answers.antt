@@ -3,7 +3,6 @@ use mathlib.Core.Path.{sym, ap, ◌∙◌}
 use lib.Ieee.{Float}
 use Rattle.clashes.specs.declared.Clash.TheVariants as Clash
 use Rattle.clashes.specs.Clashes.{event_in}
-use borrow.Author.Rules.{rules}
 use Rattle.clashes.proofs.event_in.Goals as goal
 
 pub returns-in-Empty : goal.returns-in-Empty

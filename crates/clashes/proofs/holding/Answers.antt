@@ -1,6 +1,5 @@
 -- `clashes::holding` meets its contract. Assumes nothing.
 use Rattle.clashes.specs.Clashes as rule
-use borrow.Author.Rules.{rules}
 use Rattle.clashes.proofs.holding.Goals as goal
 
 pub returns : goal.returns

@@ -2,7 +2,6 @@
 use mathlib.Core.Path.{sym, ap, ◌∙◌}
 use Rattle.clashes.specs.declared.Clash.{Clash}
 use Rattle.clashes.specs.Clashes.{or_else}
-use borrow.Author.Rules.{rules}
 use Rattle.clashes.proofs.or_else.Goals as goal
 
 pub returns-in-None : goal.returns-in-None

@@ -4,7 +4,6 @@ use lib.Ieee.{binary64}
 use Rattle.text.proofs.Writing.{put_then}
 use Rattle.decimal.proofs.Written.{length_plain}
 use Rattle.clashes.specs.Clashes.{clash_text}
-use borrow.Author.Rules.{rules}
 use Rattle.clashes.proofs.put_held.Goals as goal
 
 pub put_word-requires : goal.put_word-requires
@@ -19,6 +18,6 @@ returns c =
     let v = c.put_word.ensures in
     let most = length_plain binary64 c.args.time in
     record {
-    put = put_then w (put_then t v (omega (arith, w.place, t.place, most))) (omega (arith, w.place));
-    upper_bound = omega (arith, w.place, t.place, v.place, most);
-  }
+      put = put_then w (put_then t v (omega (arith, w.place, t.place, most))) (omega (arith, w.place));
+      upper_bound = omega (arith, w.place, t.place, v.place, most);
+    }

@@ -4,7 +4,6 @@ use lib.Ieee.{binary64}
 use Rattle.text.proofs.Writing.{put_then}
 use Rattle.decimal.proofs.Written.{length_plain}
 use Rattle.clashes.specs.Clashes.{clash_text}
-use borrow.Author.Rules.{rules}
 use Rattle.clashes.proofs.put_span.Goals as goal
 
 pub put_word-to-requires-2 : goal.put_word-to-requires-2
@@ -26,6 +25,6 @@ returns c =
     let most-e = length_plain binary64 c.args.end in
     let behind = put_then s (put_then v e (omega (arith, w.place, s.place, v.place, most-s))) (omega (arith, w.place, s.place, most-s)) in
     record {
-    put = put_then w behind (omega (arith, w.place));
-    upper_bound = omega (arith, w.place, s.place, v.place, e.place, most-s, most-e);
-  }
+      put = put_then w behind (omega (arith, w.place));
+      upper_bound = omega (arith, w.place, s.place, v.place, e.place, most-s, most-e);
+    }

@@ -3,7 +3,6 @@ use mathlib.Core.Path.{sym, ap, ◌∙◌}
 use lib.Ieee.{Float}
 use Rattle.clashes.specs.declared.Clash.TheVariants as Clash
 use Rattle.clashes.specs.Clashes.{span_of}
-use borrow.Author.Rules.{rules}
 use Rattle.clashes.proofs.span_of.Goals as goal
 
 pub returns-in-Step : goal.returns-in-Step

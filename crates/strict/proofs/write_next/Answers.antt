@@ -2,7 +2,6 @@
 use native.Mathlib.Omega.{arith}
 use Rattle.wording.proofs.Steps.{part_length}
 use Rattle.lines.proofs.Taking.{line_in}
-use borrow.Author.Rules.{rules}
 use Rattle.strict.proofs.write_next.Goals as goal
 
 pub slice_bounds-write_line-count : goal.slice_bounds-write_line-count
