@@ -1,6 +1,6 @@
 -- What the writer writes the reader accepts: of a queue before the first block each event is in turn, and its call is answered behind those before it. Assumes nothing.
 use mathlib.Core.Path.{◌≡◌, refl, sym, ◌∙◌}
-use mathlib.Core.Bool.{Bool, true, false, not}
+use mathlib.Core.Bool.{Bool, true, false}
 use mathlib.Core.List.{List, [], ◌∷◌, ◌++◌}
 use Prim.Native.Nat.{suc, ◌+◌, ◌*◌, ◌≤◌, ◌<◌}
 use native.Mathlib.Nat.{zero-mul}
@@ -11,9 +11,7 @@ use lib.Ieee as Ieee
 use lib.Ieee.{Float, nan, inf, fin, binary64, fits}
 use borrow.Author.Tests.{not-true, lt-leb, le-ltb, eq-eqb, leb-true}
 use Rattle.rules.specs.declared.MaybeTime.{MaybeTime}
-use Rattle.rules.specs.declared.MaybeTime.TheVariants as MaybeTime
 use Rattle.rules.specs.declared.Event.{Event}
-use Rattle.rules.specs.declared.Event.TheVariants as Event
 use Rattle.rules.specs.declared.Verdict.TheVariants as Verdict
 use Rattle.rules.specs.Numbers.{most_events, store_length, plus_zero, is_finite, is_zero, is_positive, is_negative, taken_time}
 use Rattle.rules.specs.Queue.{Waiting, hold_or, filed_under, curve_end, covers, any, any_covers, is_filed_inside, any_inside, events_of, packed, length_of, lengths_of}

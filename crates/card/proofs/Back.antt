@@ -2,7 +2,7 @@
 use mathlib.Core.Path.{◌≡◌, refl, sym, ap, ◌∙◌, subst}
 use mathlib.Core.Bool.{Bool, true, false, cond, not, ◌||◌}
 use mathlib.Core.List.{List, [], ◌∷◌, ◌++◌, append_assoc, append-nil}
-use Prim.Native.Nat.{ℕ, suc, ◌+◌, ◌≤◌}
+use Prim.Native.Nat.{ℕ, suc, ◌≤◌}
 use native.Mathlib.Nat.{zero-add}
 use native.Mathlib.Omega.{arith}
 use lib.Dec.{eqb}
@@ -25,7 +25,6 @@ use Rattle.laws.proofs.Events.{events_attached}
 use Rattle.laws.proofs.Store.{attached_fits}
 use Rattle.laws.proofs.Editions.{edition_back}
 use Rattle.card.specs.declared.CardVerdict.{CardVerdict}
-use Rattle.card.specs.declared.CardVerdict.TheVariants as CardVerdict
 use Rattle.card.specs.declared.Fault.TheVariants as Fault
 use Rattle.card.specs.declared.Judged.{Judged}
 use Rattle.card.specs.Card.{is_accepted, Reader, opened, ranged_as, field_turn, taken, fed, at_end, end_turn, read, event_field, fields_of, range_field, file_of, is_unwritable, is_held, Loaded, loaded_as, loaded, bad_store, unwritable, judged_from, judged}

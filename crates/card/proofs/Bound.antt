@@ -7,7 +7,6 @@ use lib.ListN.{length, length-append}
 use lib.Ieee.{Float}
 use Rattle.rules.specs.declared.Bounds.{Bounds}
 use Rattle.rules.specs.declared.Event.{Event}
-use Rattle.rules.specs.declared.Event.TheVariants as Event
 use Rattle.rules.specs.Numbers.{most_events, store_length}
 use Rattle.rules.specs.Queue.{Waiting, numbers_of, attached, length_of, lengths_of}
 use Rattle.rules.specs.Block.{Param}

@@ -8,7 +8,6 @@ use lib.ListN.{length}
 use lib.Ieee.{Float}
 use Rattle.rules.specs.declared.Bounds.{Bounds}
 use Rattle.rules.specs.declared.Event.{Event}
-use Rattle.rules.specs.declared.Event.TheVariants as Event
 use Rattle.rules.specs.Queue.{Waiting}
 use Rattle.text.specs.Hex.{bytes_in, bytes_text}
 use Rattle.words.specs.Words.{bytes_of, AreBytes, single_bytes, double_bytes, numbers_bytes}

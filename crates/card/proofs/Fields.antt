@@ -1,7 +1,7 @@
 -- A field's bytes: where it is whole and its length is its tag's, its numbers lie inside; what stands behind it counts for nothing. Assumes nothing.
 use mathlib.Core.Path.{◌≡◌, refl, sym, ap, ◌∙◌}
 use mathlib.Core.Bool.{Bool, true, false, cond, not, ◌&&◌}
-use mathlib.Core.List.{List, [], ◌++◌}
+use mathlib.Core.List.{List, ◌++◌}
 use Prim.Native.Nat.{ℕ, zero, suc, ◌+◌, ◌-◌, ◌*◌, ◌/◌, ◌%◌, ◌≤◌}
 use native.Mathlib.Omega.{arith}
 use lib.Dec.{leb, eqb}
@@ -9,7 +9,6 @@ use lib.ListN.{length, get_or-append, length-append}
 use lib.Ieee.{Float}
 use borrow.Author.Tests.{leb-true, eqb-true, not-false, le-leb}
 use Rattle.rules.specs.declared.Verdict.{Verdict}
-use Rattle.rules.specs.declared.Verdict.TheVariants as Verdict
 use Rattle.rules.specs.Refusals.{lowest, making_rows}
 use Rattle.rules.specs.Block.{Command, step, linear, exponential, target, curve, Called, called}
 use Rattle.laws.proofs.Tests.{never, both, and}

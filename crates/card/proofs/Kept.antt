@@ -5,11 +5,8 @@ use mathlib.Core.List.{List, [], ◌∷◌, ◌++◌}
 use lib.ListN.{length}
 use lib.Ieee.{Float}
 use Rattle.rules.specs.declared.MaybeTime.{MaybeTime}
-use Rattle.rules.specs.declared.MaybeTime.TheVariants as MaybeTime
 use Rattle.rules.specs.declared.Event.{Event}
-use Rattle.rules.specs.declared.Event.TheVariants as Event
 use Rattle.rules.specs.declared.Verdict.{Verdict}
-use Rattle.rules.specs.declared.Verdict.TheVariants as Verdict
 use Rattle.rules.specs.Queue.{Waiting, alone, hold_or, filed_under, events_of, packed, attached, inserted, length_of, target_event}
 use Rattle.rules.specs.Refusals.{lowest, value_rows, exponential_rows, target_rows, curve_rows, is_earlier}
 use Rattle.rules.specs.Block.{Command, Param, with_queue, Called, called, scheduled_as, called_as}

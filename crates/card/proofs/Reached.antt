@@ -9,11 +9,8 @@ use lib.Ieee.{Float}
 use Rattle.rules.specs.declared.Bounds.{Bounds}
 use Rattle.rules.specs.declared.AutomationRate.{AutomationRate}
 use Rattle.rules.specs.declared.Event.{Event}
-use Rattle.rules.specs.declared.Event.TheVariants as Event
 use Rattle.rules.specs.declared.LastEvent.{LastEvent}
-use Rattle.rules.specs.declared.LastEvent.TheVariants as LastEvent
 use Rattle.rules.specs.declared.Verdict.{Verdict}
-use Rattle.rules.specs.declared.Verdict.TheVariants as Verdict
 use Rattle.rules.specs.Numbers.{plus_zero, store_length, is_zero, taken_time}
 use Rattle.rules.specs.Queue.{Waiting, attached, packed, returned, value_after_cancel, value_after_hold, loses_head, loses_curve, head_of}
 use Rattle.rules.specs.Block.{Param, fresh, with_queue, made, Command, set, step, linear, exponential, target, curve, cancel, hold, called, scheduled_as, called_as}

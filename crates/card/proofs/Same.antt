@@ -14,9 +14,7 @@ use Rattle.rules.specs.declared.MaybeTime.TheVariants as MaybeTime
 use Rattle.rules.specs.declared.Bounds.{Bounds}
 use Rattle.rules.specs.declared.AutomationRate.{AutomationRate}
 use Rattle.rules.specs.declared.Event.{Event}
-use Rattle.rules.specs.declared.Event.TheVariants as Event
 use Rattle.rules.specs.declared.Verdict.{Verdict}
-use Rattle.rules.specs.declared.Verdict.TheVariants as Verdict
 use Rattle.rules.specs.Numbers.{is_finite, store_length}
 use Rattle.rules.specs.Refusals.{all_finite, are_bounds, making_rows, lowest}
 use Rattle.rules.specs.Queue.{Waiting, alone, events_of, numbers_of, packed, length_of}

@@ -15,7 +15,6 @@ use Rattle.rules.proofs.Table.{results, bounds, n0, n1, n2, n3, n5, n6, n10, min
 use Rattle.laws.specs.Sound as Sound
 use Rattle.words.specs.Words as Words
 use Rattle.card.specs.declared.CardVerdict.{CardVerdict}
-use Rattle.card.specs.declared.CardVerdict.TheVariants as CardVerdict
 use Rattle.card.specs.Card as Card
 use Rattle.card.specs.Card.{fault_number, Reader, read, event_field, unwritable, judged, saved}
 

@@ -11,7 +11,6 @@ use lib.Ieee.{Float, binary32, binary64, fits}
 use borrow.Author.Tests.{le-leb, eq-eqb}
 use Rattle.rules.specs.declared.Bounds.{Bounds}
 use Rattle.rules.specs.declared.Event.{Event}
-use Rattle.rules.specs.declared.Event.TheVariants as Event
 use Rattle.rules.specs.Numbers.{store_length}
 use Rattle.rules.specs.Refusals.{lowest, making_rows}
 use Rattle.laws.proofs.Tests.{and}

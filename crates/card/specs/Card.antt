@@ -1,14 +1,11 @@
 -- 02, C-11: a schedule file, "a run of tagged fields", in 02's words and order: the fields, the reader's turn on one, a file read, a parameter written.
 use Rattle.std.specs.Prelude.{Bool, true, false, cond, not, ◌&&◌, ◌||◌, List, [], ◌∷◌, ◌++◌, ℕ, zero, suc, ◌+◌, ◌-◌, ◌/◌, ◌%◌, leb, eqb, length, get_or, drop, replicate, Float}
 use Rattle.rules.specs.declared.MaybeTime.{MaybeTime}
-use Rattle.rules.specs.declared.MaybeTime.TheVariants as MaybeTime
 use Rattle.rules.specs.declared.Bounds.{Bounds}
 use Rattle.rules.specs.declared.AutomationRate.{AutomationRate}
 use Rattle.rules.specs.declared.Event.{Event}
-use Rattle.rules.specs.declared.Event.TheVariants as Event
 use Rattle.rules.specs.declared.Refusal.TheVariants as Refusal
 use Rattle.rules.specs.declared.Verdict.{Verdict}
-use Rattle.rules.specs.declared.Verdict.TheVariants as Verdict
 use Rattle.rules.specs.Numbers.{plus_zero, store_length, is_zero}
 use Rattle.rules.specs.Queue.{Waiting, attached}
 use Rattle.rules.specs.Refusals.{number_of, lowest, making_rows, all_finite, is_earlier}
@@ -17,9 +14,7 @@ use Rattle.laws.specs.Sound.{is_from_zero, has_played}
 use Rattle.words.specs.Words.{bytes_of, word_at, single_at, double_at, singles_at, single_bytes, double_bytes, numbers_bytes}
 use Rattle.param.specs.Param.{nothing_made}
 use Rattle.card.specs.declared.Fault.{Fault}
-use Rattle.card.specs.declared.Fault.TheVariants as Fault
 use Rattle.card.specs.declared.CardVerdict.{CardVerdict}
-use Rattle.card.specs.declared.CardVerdict.TheVariants as CardVerdict
 use Rattle.card.specs.declared.Judged.{Judged}
 
 -- ---- refusals

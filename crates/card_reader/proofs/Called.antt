@@ -10,7 +10,6 @@ use lib.Ieee.{Float}
 use borrow.Author.Tests.{lt-ltb, le-ltb}
 use Rattle.rules.specs.declared.Event.{Event}
 use Rattle.rules.specs.declared.Verdict.{Verdict}
-use Rattle.rules.specs.declared.Verdict.TheVariants as Verdict
 use Rattle.rules.specs.Numbers.{store_length, is_finite}
 use Rattle.rules.specs.Queue.{Waiting, filed_under, lengths_of, attached, place_behind, arrived, inserted}
 use Rattle.rules.specs.Refusals.{lowest, all_finite, curve_rows}

@@ -7,7 +7,6 @@ use native.Mathlib.Omega.{arith}
 use lib.ListN.{length}
 use lib.Ieee.{Float}
 use Rattle.rules.specs.declared.MaybeTime.{MaybeTime}
-use Rattle.rules.specs.declared.MaybeTime.TheVariants as MaybeTime
 use Rattle.rules.specs.declared.Bounds.{Bounds}
 use Rattle.rules.specs.declared.Refusal.{Refusal}
 use Rattle.rules.specs.declared.Verdict.TheVariants as Verdict
@@ -18,7 +17,6 @@ use Rattle.param.specs.declared.Outcome.{Outcome}
 use Rattle.param.specs.Param.{param_of, struct_of, Makes, Answers}
 use Rattle.param.proofs.Calls.{struct_back}
 use Rattle.card.specs.declared.Fault.{Fault}
-use Rattle.card.specs.declared.Fault.TheVariants as Fault
 use Rattle.card.specs.Card.{tag_of, field_length, is_tag, is_range, is_wrong, is_whole, bounds_in, event_in, Reader, refused_by, kept_as, is_misplaced, time_of, is_out_of_turn, ranged_as, taken_as, event_turn, contents_turn, field_turn}
 use Rattle.card_reader.specs.declared.CardReader.{CardReader}
 use Rattle.card_reader.specs.Reader.{reader_of, window_length, SoundReader, refused_reader, kept_reader, Does}

@@ -9,7 +9,6 @@ use denote.Floats.{passes}
 use denote.Laws.{Is}
 use denote.Shadow.{shadow}
 use Rattle.rules.specs.declared.Event.{Event}
-use Rattle.rules.specs.declared.Event.TheVariants as Event
 use Rattle.rules.specs.Queue.{length_of, attached}
 use Rattle.rules.specs.contracts.Event as event-type
 use Rattle.timeline.specs.declared.AudioParamEvent.{AudioParamEvent}
@@ -33,7 +32,7 @@ event_fits (Event.Curve s d n k) h = let f = h.1.1.1.1 in (passes _ f.0.1, passe
 
 -- those of the first n slots of a queue
 slots_fit : (n : ℕ) (ss : List AudioParamEvent) (us : List Val) (store : List Float)
-    → shadow (each (slot-type.the_field).row.Denot (slot-type.the_field).row.own_val (map (slot-type.the_field).into ss) us)
+    → shadow (each (slot-type.the_row).Denot (slot-type.the_row).own_val ss us)
     → AreSingles store → FitWaiting (attached (map (λ (s : AudioParamEvent). s.event) (take n ss)) store)
 unfolding FitWaiting attached
 slots_fit zero ss us store h f = tt

@@ -7,7 +7,6 @@ use lib.ListN.{length, get_or, take, drop, length-take, drop_of_length-le}
 use lib.Ieee.{Float}
 use Rattle.rules.specs.declared.Event.{Event}
 use Rattle.rules.specs.declared.Head.{Head}
-use Rattle.rules.specs.declared.Head.TheVariants as Head
 use Rattle.rules.specs.Numbers.{store_length}
 use Rattle.rules.specs.Queue.{length_of, lengths_of, attached}
 use Rattle.laws.proofs.Store.{attached-length}

@@ -9,9 +9,7 @@ use lib.ListN.{length, get_or, set, take, get_or-append, length-append}
 use lib.Seq.{sets-eq, get_or-append-add, get_or-take}
 use lib.Ieee.{Float}
 use Rattle.rules.specs.declared.MaybeTime.{MaybeTime}
-use Rattle.rules.specs.declared.MaybeTime.TheVariants as MaybeTime
 use Rattle.rules.specs.declared.Event.{Event}
-use Rattle.rules.specs.declared.Event.TheVariants as Event
 use Rattle.words.specs.Words.{SingleBits, DoubleBits}
 use Rattle.coding.specs.Coding.{event_words, place_of, time_in, event_of, event_at, events_in, flag_of, bits_of, words_of, words_for, written_at, TimeBits, PutsWords, PutsEvent}
 

@@ -11,7 +11,6 @@ use borrow.Author.Tests.{leb-true, leb-false}
 use Rattle.rules.specs.declared.BlockInfos.{BlockInfos}
 use Rattle.rules.specs.declared.Event.{Event}
 use Rattle.rules.specs.declared.Head.{Head}
-use Rattle.rules.specs.declared.Head.TheVariants as Head
 use Rattle.rules.specs.Numbers.{plus_zero}
 use Rattle.rules.specs.Queue.{Waiting, head_of, length_of, lengths_of, attached}
 use Rattle.rules.specs.Walk as rule
@@ -26,7 +25,6 @@ use Rattle.timeline.specs.Heads.{waiting_as, numbers_at, with_head}
 use Rattle.timeline.proofs.Heads.{lent, lent_is, none_waits, inside, waits_here, numbered, behind_is}
 use Rattle.plain.specs.declared.Look.{Look}
 use Rattle.plain.specs.declared.Turn.{Turn}
-use Rattle.plain.specs.declared.Turn.TheVariants as Turn
 use Rattle.plain.specs.Seen.{filled_of, seen, seen_turn, counted_as, ended_as, Finds}
 use Rattle.plain.proofs.Sees.{fill_passed, fill_other, fill-found, counted_is}
 

@@ -15,12 +15,9 @@ use Rattle.rules.specs.declared.AutomationRate.{AutomationRate}
 use Rattle.rules.specs.declared.AutomationRate.TheVariants as Rate
 use Rattle.rules.specs.declared.BlockInfos.{BlockInfos}
 use Rattle.rules.specs.declared.Event.{Event}
-use Rattle.rules.specs.declared.Event.TheVariants as Event
 use Rattle.rules.specs.declared.Head.{Head}
 use Rattle.rules.specs.declared.LastEvent.{LastEvent}
-use Rattle.rules.specs.declared.LastEvent.TheVariants as LastEvent
 use Rattle.rules.specs.declared.MaybeTime.{MaybeTime}
-use Rattle.rules.specs.declared.MaybeTime.TheVariants as MaybeTime
 use Rattle.rules.specs.Numbers.{plus_zero, is_zero, is_subnormal, end_place, run, time_at, filled}
 use Rattle.rules.specs.Samples.{is_ratio, ratio_of, last_number}
 use Rattle.rules.specs.Queue.{Waiting, hold_or, filed_under}
@@ -29,7 +26,6 @@ use Rattle.laws.proofs.Places.{run_length, fill_a, fill_k, flushed_for-length}
 use Rattle.timeline.specs.Heads.{waiting_as}
 use Rattle.plain.specs.declared.Look.{Look}
 use Rattle.plain.specs.declared.Turn.{Turn}
-use Rattle.plain.specs.declared.Turn.TheVariants as Turn
 use Rattle.plain.specs.Seen.{filled_of, seen, seen_turn, sample_from, sample_of, sample_seen, time_after, ran, begun_turn, counted_as, started_as}
 
 -- ---- one value of many

@@ -6,7 +6,6 @@ use Rattle.rules.specs.declared.AutomationRate.{AutomationRate}
 use Rattle.rules.specs.declared.AutomationRate.TheVariants as Rate
 use Rattle.rules.specs.declared.BlockInfos.{BlockInfos}
 use Rattle.rules.specs.declared.Event.{Event}
-use Rattle.rules.specs.declared.Event.TheVariants as Event
 use Rattle.rules.specs.declared.Finished.{Finished}
 use Rattle.rules.specs.declared.Head.{Head}
 use Rattle.rules.specs.declared.LastEvent.TheVariants as LastEvent
@@ -28,7 +27,6 @@ use Rattle.param.specs.Processed.{Processes}
 use Rattle.plain.specs.declared.Look.{Look}
 use Rattle.plain.specs.declared.Looked.{Looked}
 use Rattle.plain.specs.declared.Turn.{Turn}
-use Rattle.plain.specs.declared.Turn.TheVariants as Turn
 
 -- ---- a walk of the block f, as a look for place n has it
 

@@ -10,7 +10,6 @@ use Rattle.param.specs.declared.Outcome.{Outcome}
 use Rattle.param.specs.Param.{param_of, struct_of, SoundParam, Makes, Answers}
 use Rattle.param.proofs.Calls.{whole, struct_back}
 use Rattle.sheet.specs.declared.Call.{Call}
-use Rattle.sheet.specs.declared.Call.TheVariants as Call
 use Rattle.sheet.specs.declared.Row.{Row}
 use Rattle.sheet.specs.Played.{applied, set_up, Applies, SetsUp}
 

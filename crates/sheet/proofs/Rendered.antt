@@ -1,5 +1,5 @@
 -- A row's two blocks, by what each call ensures. Assumes nothing.
-use mathlib.Core.Path.{◌≡◌, sym, ap, ap₂, ◌∙◌}
+use mathlib.Core.Path.{◌≡◌, ap, ap₂, ◌∙◌}
 use mathlib.Core.List.{List, []}
 use lib.Ieee.{Float}
 use Rattle.rules.specs.Block.{Param, Answer, Call, answered}

@@ -7,7 +7,6 @@ use Rattle.rules.specs.Block.{step, linear, exponential, curve, cancel, hold}
 use Rattle.rules.proofs.Table.{Act, make, ask, play, intrinsic, Case, n0, n4}
 use Rattle.rules.proofs.Sheet.{sheet}
 use Rattle.sheet.specs.declared.Call.{Call}
-use Rattle.sheet.specs.declared.Call.TheVariants as Call
 use Rattle.sheet.specs.declared.Row.{Row}
 use Rattle.sheet.specs.Rows.{row_of}
 use Rattle.sheet.specs.Played.{input_of}

@@ -10,7 +10,6 @@ use Rattle.param.specs.Param.{param_of, struct_of, SoundParam}
 use Rattle.block.specs.Asked.{asked}
 use Rattle.sheet.specs.declared.Blocks.{Blocks}
 use Rattle.sheet.specs.declared.Call.{Call}
-use Rattle.sheet.specs.declared.Call.TheVariants as Call
 use Rattle.sheet.specs.declared.Row.{Row}
 use Rattle.sheet.specs.Rows.{n0, n4}
 

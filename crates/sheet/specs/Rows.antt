@@ -4,7 +4,6 @@ use Rattle.std.specs.Float.{fin}
 use Rattle.rules.specs.declared.Bounds.{Bounds}
 use Rattle.rules.specs.declared.AutomationRate.TheVariants as Rate
 use Rattle.sheet.specs.declared.Call.{Call}
-use Rattle.sheet.specs.declared.Call.TheVariants as Call
 use Rattle.sheet.specs.declared.Row.{Row}
 
 -- ---- numbers

@@ -1,6 +1,5 @@
 -- `field_length` meets its contract, kind by kind. Assumes nothing.
 use native.Mathlib.Omega.{arith}
-use borrow.Author.Rules.{rules}
 use Rattle.words.specs.Words.{bytes_of, single_bytes, double_bytes}
 use Rattle.words.proofs.Bytes.{length-numbers}
 use Rattle.card.specs.Card.{event_field}

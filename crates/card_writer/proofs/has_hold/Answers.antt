@@ -1,5 +1,4 @@
 -- `has_hold` meets its contract. Assumes nothing.
-use borrow.Author.Rules.{rules}
 use Rattle.card.specs.Card.{has_hold}
 use Rattle.card_writer.proofs.has_hold.Goals as goal
 

@@ -1,5 +1,4 @@
 -- `is_held` meets its contract, kind by kind. Assumes nothing.
-use borrow.Author.Rules.{rules}
 use Rattle.card.specs.Card.{is_held}
 use Rattle.card_writer.proofs.is_held.Goals as goal
 

@@ -1,5 +1,4 @@
 -- `is_unwritable` meets its contract. Assumes nothing.
-use borrow.Author.Rules.{rules}
 use Rattle.card.specs.Card.{is_unwritable}
 use Rattle.card_writer.proofs.is_unwritable.Goals as goal
 

@@ -1,6 +1,5 @@
 -- `judge` meets its contract. Assumes nothing.
 use mathlib.Core.Path.{sym, ap, ◌∙◌}
-use borrow.Author.Rules.{rules}
 use Rattle.laws.specs.Sound.{has_played}
 use Rattle.card_writer.proofs.Judging.{judged_store, judged-played, judged_events}
 use Rattle.card_writer.proofs.judge.Goals as goal

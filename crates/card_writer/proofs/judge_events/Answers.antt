@@ -1,9 +1,8 @@
 -- `judge_events` meets its contract: at each turn the events before the place are looked at. Assumes nothing.
-use mathlib.Core.Path.{◌≡◌, refl, sym, ◌∙◌}
-use Prim.Native.Nat.{◌-◌, ◌≤◌}
+use mathlib.Core.Path.{refl, sym, ◌∙◌}
+use Prim.Native.Nat.{◌≤◌}
 use native.Mathlib.Omega.{arith}
-use lib.ListN.{length, take}
-use borrow.Author.Rules.{rules}
+use lib.ListN.{length}
 use Rattle.rules.specs.Queue.{lengths_of, attached}
 use Rattle.timeline.specs.Timeline.{waiting}
 use Rattle.param.specs.Param.{param_of}
@@ -11,7 +10,7 @@ use Rattle.card.specs.Card.{file_of}
 use Rattle.card.proofs.Bound.{written_bound}
 use Rattle.card.specs.Back.{most_bytes}
 use Rattle.card_writer.proofs.Turns.{Walked, walked, Turn, turn, over}
-use Rattle.card_writer.proofs.Judging.{Looked, looked_none, looked_all, looked_not, looked_few, looked_more}
+use Rattle.card_writer.proofs.Judging.{looked_none, looked_all, looked_not, looked_few, looked_more}
 use Rattle.card_writer.proofs.judge_events.Goals as goal
 use Rattle.card_writer.proofs.judge_events.Goals.{After-length_of, At-loop-i}
 
@@ -23,7 +22,7 @@ most : (c : At-loop-i) → length (file_of (param_of c.args.p).bounds (attached 
 most c = rw (queue c).same (written_bound (param_of c.args.p) c.args.store.now c.requires.0.sound c.requires.1)
 
 event : (c : After-length_of) → Turn c.timeline-q.result c.args.store.now c.loop-i.i c.loop-i.from c.length_of.result
-event c = turn (queue c.before.before.before.before) _ _ c.loop-i-test.true c.loop-i.invariant.1 c.length_of.ensures
+event c = turn (walked c.requires.0 c.timeline-q.ensures) _ _ c.loop-i-test.true c.loop-i.invariant.1 c.length_of.ensures
 
 pub loop-i-init : goal.loop-i-init
 unfolding lengths_of

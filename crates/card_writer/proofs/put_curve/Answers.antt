@@ -3,7 +3,6 @@ use mathlib.Core.Path.{sym, ap}
 use mathlib.Core.List.{◌∷◌}
 use Prim.Native.Nat.{ℕ}
 use native.Mathlib.Omega.{arith}
-use borrow.Author.Rules.{rules}
 use Rattle.text.proofs.Writing.{put_same, put_then}
 use Rattle.words.specs.Words.{bytes_of, double_bytes}
 use Rattle.card.proofs.Written.{curve_long}

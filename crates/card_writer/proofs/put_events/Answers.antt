@@ -1,13 +1,12 @@
 -- `put_events` meets its contract. The invariant of its loop: with the events left written behind, all are. Assumes nothing.
-use mathlib.Core.Path.{◌≡◌, refl}
-use Prim.Native.Nat.{◌+◌, ◌-◌, ◌≤◌}
+use mathlib.Core.Path.{refl}
+use Prim.Native.Nat.{◌+◌, ◌≤◌}
 use native.Mathlib.Omega.{arith}
-use lib.ListN.{length, take, drop}
-use borrow.Author.Rules.{rules}
+use lib.ListN.{length}
 use Rattle.rules.specs.Queue.{lengths_of, attached}
 use Rattle.timeline.specs.Timeline.{waiting}
 use Rattle.card.specs.Card.{fields_of}
-use Rattle.card_writer.proofs.Parts.{Leaves, leaves_fewer, leaves_none, fields-next, fields-length, fields-over}
+use Rattle.card_writer.proofs.Parts.{leaves_fewer, leaves_none, fields-next, fields-length, fields-over}
 use Rattle.card_writer.proofs.Turns.{Walked, walked, Turn, turn, over}
 use Rattle.card_writer.proofs.put_events.Goals as goal
 use Rattle.card_writer.proofs.put_events.Goals.{After-length_of, At-loop-i}
@@ -20,7 +19,7 @@ room : (c : At-loop-i) → c.args.at + length (fields_of (attached (waiting c.ti
 room c = rw (queue c).same c.requires.2
 
 event : (c : After-length_of) → Turn c.timeline-q.result c.args.store.now c.loop-i.i c.loop-i.from c.length_of.result
-event c = turn (queue c.before.before.before.before) _ _ c.loop-i-test.true c.loop-i.invariant.1 c.length_of.ensures
+event c = turn (walked c.requires.0 c.timeline-q.ensures) _ _ c.loop-i-test.true c.loop-i.invariant.1 c.length_of.ensures
 
 pub loop-i-init : goal.loop-i-init
 unfolding lengths_of

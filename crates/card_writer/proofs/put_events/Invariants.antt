@@ -1,14 +1,11 @@
 -- `put_events` meets its contract. The invariant of its loop: with the events left written behind, all are. Assumes nothing.
-use mathlib.Core.Path.{◌≡◌, refl}
+use mathlib.Core.Path.{◌≡◌}
 use Prim.Native.Nat.{◌+◌, ◌-◌, ◌≤◌}
-use native.Mathlib.Omega.{arith}
 use lib.ListN.{length, take, drop}
-use borrow.Author.Rules.{rules}
 use Rattle.rules.specs.Queue.{lengths_of, attached}
 use Rattle.timeline.specs.Timeline.{waiting}
 use Rattle.card.specs.Card.{fields_of}
-use Rattle.card_writer.proofs.Parts.{Leaves, leaves_fewer, leaves_none, fields-next, fields-length, fields-over}
-use Rattle.card_writer.proofs.Turns.{Walked, walked, Turn, turn, over}
+use Rattle.card_writer.proofs.Parts.{Leaves}
 use Rattle.card_writer.proofs.put_events.Given as goal
 
 abbrev pub invariant-loop-i : goal.invariant-loop-i

@@ -1,6 +1,5 @@
 -- `put_head` meets its contract. Assumes nothing.
 use native.Mathlib.Omega.{arith}
-use borrow.Author.Rules.{rules}
 use Rattle.text.proofs.Writing.{put_then}
 use Rattle.card_writer.proofs.put_head.Goals as goal
 

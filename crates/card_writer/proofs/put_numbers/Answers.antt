@@ -1,11 +1,8 @@
 -- `put_numbers` meets its contract. The invariant of its loop: with the numbers left written behind, all are. Assumes nothing.
-use mathlib.Core.Path.{◌≡◌, refl}
-use Prim.Native.Nat.{◌+◌, ◌-◌, ◌*◌, ◌≤◌}
+use mathlib.Core.Path.{refl}
 use native.Mathlib.Omega.{arith}
-use lib.ListN.{length, drop}
-use borrow.Author.Rules.{rules}
-use Rattle.words.specs.Words.{bytes_of, single_bytes, numbers_bytes}
-use Rattle.card_writer.proofs.Parts.{Leaves, leaves_fewer, leaves_none, numbers-next, numbers-over}
+use Rattle.words.specs.Words.{bytes_of, single_bytes}
+use Rattle.card_writer.proofs.Parts.{leaves_fewer, leaves_none, numbers-next, numbers-over}
 use Rattle.card_writer.proofs.put_numbers.Goals as goal
 
 pub loop-i-init : goal.loop-i-init

@@ -1,11 +1,9 @@
 -- `put_numbers` meets its contract. The invariant of its loop: with the numbers left written behind, all are. Assumes nothing.
-use mathlib.Core.Path.{◌≡◌, refl}
+use mathlib.Core.Path.{◌≡◌}
 use Prim.Native.Nat.{◌+◌, ◌-◌, ◌*◌, ◌≤◌}
-use native.Mathlib.Omega.{arith}
 use lib.ListN.{length, drop}
-use borrow.Author.Rules.{rules}
-use Rattle.words.specs.Words.{bytes_of, single_bytes, numbers_bytes}
-use Rattle.card_writer.proofs.Parts.{Leaves, leaves_fewer, leaves_none, numbers-next, numbers-over}
+use Rattle.words.specs.Words.{numbers_bytes}
+use Rattle.card_writer.proofs.Parts.{Leaves}
 use Rattle.card_writer.proofs.put_numbers.Given as goal
 
 abbrev pub invariant-loop-i : goal.invariant-loop-i

@@ -1,6 +1,5 @@
 -- `put_range` meets its contract: one part behind the other. Assumes nothing.
 use native.Mathlib.Omega.{arith}
-use borrow.Author.Rules.{rules}
 use Rattle.text.proofs.Writing.{put_then}
 use Rattle.words.specs.Words.{bytes_of, single_bytes}
 use Rattle.card.specs.Card.{range_field}

@@ -1,6 +1,5 @@
 -- `put_value` meets its contract: one part behind the other. Assumes nothing.
 use native.Mathlib.Omega.{arith}
-use borrow.Author.Rules.{rules}
 use Rattle.text.proofs.Writing.{put_then}
 use Rattle.words.specs.Words.{bytes_of, single_bytes, double_bytes}
 use Rattle.card_writer.proofs.put_value.Goals as goal

@@ -3,8 +3,6 @@ use mathlib.Core.Path.{◌≡◌, sym, ◌∙◌}
 use mathlib.Core.Bool.{true}
 use native.Mathlib.Omega.{arith}
 use lib.Ieee.{nan}
-use borrow.Author.Rules.{rules}
-use borrow.Author.Tests.{not-true, not-false}
 use Rattle.words.proofs.Bytes.{are_singles}
 use Rattle.param.specs.Param.{param_of}
 use Rattle.card.specs.Card.{is_accepted}
@@ -20,12 +18,10 @@ floats : (c : After-shared_slice_known-1) → Printable (param_of c.args.p) c.ar
 floats c = printable c.args.p c.args.store.now c.well_formed.0 (are_singles _ nan c.shared_slice_known-1.given)
 
 answered : (c : Else-not-is_accepted) → is_accepted c.judge-said.result.verdict ≡ true
-answered c = sym c.is_accepted.ensures ∙ not-false _ c.if-not-is_accepted.false
-
-}
+answered c = sym c.is_accepted.ensures ∙ c.if-not-is_accepted.false
 
 pub returns-then-not-is_accepted : goal.returns-then-not-is_accepted
-returns-then-not-is_accepted c = record { saved = saved_not _ _ c.judge-said.ensures _ (sym c.is_accepted.ensures ∙ not-true _ c.if-not-is_accepted.true); printable = floats (goal.at.returns-then-not-is_accepted c).After-shared_slice_known-1 }
+returns-then-not-is_accepted c = record { saved = saved_not _ _ c.judge-said.ensures _ (sym c.is_accepted.ensures ∙ c.if-not-is_accepted.true); printable = floats (goal.at.returns-then-not-is_accepted c).After-shared_slice_known-1 }
 
 pub returns-then-out-at : goal.returns-then-out-at
 returns-then-out-at c = record { saved = saved_short _ _ c.judge-said.ensures (answered (goal.at.returns-then-out-at c).Else-not-is_accepted) _ c.if-out-at.true; printable = floats (goal.at.returns-then-out-at c).After-shared_slice_known-1 }
@@ -43,3 +39,4 @@ pub returns : goal.returns
 returns c = record {
   saved = saved-whole _ _ c.judge-said.ensures (answered (goal.at.returns c).Else-not-is_accepted) _ c.if-out-at.false c.bounds.ensures c.put_range-next.ensures c.put_events-at.ensures;
   printable = floats (goal.at.returns c).After-shared_slice_known-1;
+}

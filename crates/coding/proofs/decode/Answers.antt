@@ -1,9 +1,7 @@
 -- `decode` meets its contract. Assumes nothing.
 use mathlib.Core.Path.{sym, ◌∙◌}
-use borrow.Author.Tests.{not-true, not-false}
 use native.Mathlib.Omega.{arith}
 use Rattle.coding.proofs.Read.{decodes_none, decodes_other, decodes_no_rate, decodes_no_edition, decodes}
-use borrow.Author.Rules.{rules}
 use Rattle.coding.proofs.decode.Goals as goal
 
 pub returns-then-state-ne-LENGTH : goal.returns-then-state-ne-LENGTH
@@ -17,9 +15,9 @@ returns-then-state-gt1 c = decodes_no_rate _ c.if-state-ne-LENGTH.false c.if-sta
 
 pub returns-then-not-is_edition : goal.returns-then-not-is_edition
 returns-then-not-is_edition c =
-    decodes_no_edition _ c.if-state-ne-LENGTH.false c.if-state-ne-VERSION.false (omega (arith, c.if-state-gt1.false)) (sym c.is_edition.ensures ∙ not-true _ c.if-not-is_edition.true) c.none-then-not-is_edition.ensures.0 c.none-then-not-is_edition.ensures.1
+    decodes_no_edition _ c.if-state-ne-LENGTH.false c.if-state-ne-VERSION.false (omega (arith, c.if-state-gt1.false)) (sym c.is_edition.ensures ∙ c.if-not-is_edition.true) c.none-then-not-is_edition.ensures.0 c.none-then-not-is_edition.ensures.1
 
 pub returns : goal.returns
 returns c =
-    decodes c.args.state.now c.queue_in-timeline.result c.if-state-ne-LENGTH.false c.if-state-ne-VERSION.false (omega (arith, c.if-state-gt1.false)) (sym c.is_edition.ensures ∙ not-false _ c.if-not-is_edition.false) c.queue_in-timeline.ensures
+    decodes c.args.state.now c.queue_in-timeline.result c.if-state-ne-LENGTH.false c.if-state-ne-VERSION.false (omega (arith, c.if-state-gt1.false)) (sym c.is_edition.ensures ∙ c.if-not-is_edition.false) c.queue_in-timeline.ensures
     (rw (c.single_in.ensures, c.single_in-2.ensures, c.single_in-3.ensures, c.rate_in-rate.ensures, c.edition_of-edition.ensures, c.single_in-intrinsic.ensures, c.time_in-block.ensures, c.time_in-end.ensures, c.last_in-last.ensures) at c.from_parts.ensures)

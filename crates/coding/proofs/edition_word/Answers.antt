@@ -1,6 +1,5 @@
 -- `edition_word` meets its contract. Assumes nothing.
 use Rattle.laws.specs.Editions.{number_of_edition}
-use borrow.Author.Rules.{rules}
 use Rattle.coding.proofs.edition_word.Goals as goal
 
 pub returns-in-First : goal.returns-in-First

@@ -1,9 +1,8 @@
 -- `encode` meets its contract: at each turn the first i events are written, and give themselves back. Assumes nothing.
 use mathlib.Core.Path.{◌≡◌, refl, ap, ◌∙◌}
-use Prim.Native.Nat.{◌+◌, ◌-◌, ◌≤◌}
+use Prim.Native.Nat.{◌+◌, ◌≤◌}
 use native.Mathlib.Omega.{arith}
 use lib.ListN.{length}
-use borrow.Author.Rules.{rules}
 use Rattle.timeline.specs.Timeline.{Neat, waiting}
 use Rattle.timeline.proofs.Laws.{neat_of, waits_of, count, full}
 use Rattle.param.specs.Param.{param_of}

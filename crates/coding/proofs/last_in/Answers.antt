@@ -1,7 +1,6 @@
 -- `last_in` meets its contract. Assumes nothing.
 use borrow.Author.Tests.{eq-eqb, ne_eqb}
 use Rattle.coding.specs.Coding.{last_in}
-use borrow.Author.Rules.{rules}
 use Rattle.coding.proofs.last_in.Goals as goal
 
 pub returns-then-flag-eq0 : goal.returns-then-flag-eq0

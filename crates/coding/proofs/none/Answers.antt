@@ -5,7 +5,6 @@ use lib.Ieee.{of_bits}
 use Rattle.rules.specs.Numbers.{is_finite}
 use Rattle.rules.specs.Refusals.{all_finite, are_bounds}
 use Rattle.coding.proofs.Read.{nothing-made}
-use borrow.Author.Rules.{rules}
 use Rattle.coding.proofs.none.Goals as goal
 
 pub returns : goal.returns

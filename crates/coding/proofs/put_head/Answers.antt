@@ -4,7 +4,6 @@ use native.Mathlib.Omega.{arith}
 use lib.ListN.{length-set}
 use Rattle.param.specs.Param.{param_of}
 use Rattle.coding.proofs.Written.{last_length, puts_head}
-use borrow.Author.Rules.{rules}
 use Rattle.coding.proofs.put_head.Goals as goal
 
 pub bounds-state-4 : goal.bounds-state-4

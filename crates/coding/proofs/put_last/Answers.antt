@@ -1,7 +1,6 @@
 -- `put_last` meets its contract. Assumes nothing.
 use mathlib.Core.Path.{refl}
 use Rattle.coding.specs.Coding.{last_in, last_flag, last_time, last_value}
-use borrow.Author.Rules.{rules}
 use Rattle.coding.proofs.put_last.Goals as goal
 
 pub returns-in-None : goal.returns-in-None

@@ -1,6 +1,5 @@
 -- `rate_word` meets its contract. Assumes nothing.
 use Rattle.coding.specs.Coding.{rate_word}
-use borrow.Author.Rules.{rules}
 use Rattle.coding.proofs.rate_word.Goals as goal
 
 pub returns-in-A : goal.returns-in-A

@@ -10,7 +10,6 @@ use Rattle.laws.proofs.Tests.{both}
 use Rattle.plain.specs.declared.Look.{Look}
 use Rattle.plain.specs.Seen.{filled_of, seen, sample_of, time_after}
 use Rattle.plain.proofs.Sees.{fill_passed, fill_other, fill-found, sample_is}
-use borrow.Author.Rules.{rules}
 use Rattle.plain.proofs.fill.Goals as goal
 
 pub returns-then-to-look : goal.returns-then-to-look

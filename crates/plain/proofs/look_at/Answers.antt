@@ -1,6 +1,5 @@
 -- `look_at` meets its contract: of one value, or walked. Assumes nothing.
 use mathlib.Core.Path.{◌≡◌, sym, ap, ◌∙◌}
-use mathlib.Core.Logic.{⊎_elim}
 use native.Mathlib.Omega.{arith}
 use lib.Ieee as Ieee
 use Rattle.rules.specs.Block.{rests_for, walk_from, values_before}
@@ -9,9 +8,8 @@ use Rattle.plain.specs.declared.Look.{Look}
 use Rattle.plain.specs.Seen.{seen, place_for}
 use Rattle.plain.proofs.Sees.{infos_is, place_is}
 use Rattle.plain.proofs.Blocks.{place_inside, begun_a, begun_k, not_walked, rests, walks}
-use borrow.Author.Rules.{rules}
 use Rattle.plain.proofs.look_at.Goals as goal
-use Rattle.plain.proofs.look_at.Goals.{Joined-rate}
+use Rattle.plain.proofs.look_at.Goals.{Joined-rate, in-A, in_default}
 
 -- before the first head
 begun : (j : Joined-rate)
@@ -21,10 +19,10 @@ unfolding Ieee.of_bits
 begun j =
     let a = j.args in
     rw (← j.last_event-last.ensures, ← j.intrinsic_value-intrinsic.ensures)
-    (⊎_elim
-    (λ came. came.2 ∙ begun_a a.infos a.place _ _ came.1.given.1)
-    (λ came. came.2 ∙ begun_k a.infos a.place _ _ came.1.given.1)
-    j.match-rate.branch)
+    (elim j.match-rate.branch [
+      | in-A came ↦ came.look-is ∙ begun_a a.infos a.place _ _ came.in-A.is
+      | in_default came ↦ came.look-is ∙ begun_k a.infos a.place _ _ came.in_default.is
+    ])
 
 first_steps : (j : Joined-rate) → j.match-rate.look.steps ≡ 0
 unfolding seen

@@ -1,28 +1,25 @@
 -- `render` meets its contract: the first places have their samples. Assumes nothing.
 use mathlib.Core.Path.{◌≡◌, refl, ◌∙◌}
-use mathlib.Core.Logic.{⊎_elim}
-use Prim.Native.Nat.{◌-◌, ◌<◌}
+use Prim.Native.Nat.{◌<◌}
 use native.Mathlib.Omega.{arith}
 use lib.ListN.{length, get_or}
 use lib.Ieee as Ieee
 use lib.Ieee.{nan}
-use borrow.Author.Rules.{rules}
 use Rattle.rules.specs.Numbers.{plus_zero}
 use Rattle.rules.specs.Mix.{inputs}
-use Rattle.mix.proofs.Writes.{Writes, begins, goes_on, ends}
+use Rattle.mix.proofs.Writes.{begins, goes_on, ends}
 use Rattle.block.proofs.Tests.{not_silent, fits_whole}
 use Rattle.plain.specs.Seen.{samples_of}
 use Rattle.plain.proofs.Blocks.{lookable, place_inside, silent_at, input_at, samples_many, sample_is, all-written}
 use Rattle.plain.proofs.render.Goals as goal
-use Rattle.plain.proofs.render.Goals.{Then-input-gt0}
+use Rattle.plain.proofs.render.Goals.{Then-input-gt0, else-input-gt0, then-input-gt0}
 
 -- an input that is there is there at the place of the look
 in_input : (k : Then-input-gt0) → k.look_at-looked.result.look.place < length k.args.input.now
 in_input k =
-    let s = k.before.before.before.before.before.before.before.before.before in
     let l = k.loop-place in
-    let a = s.args in
-    let w : length a.input.now ≡ a.infos.count = fits_whole a.input.now a.infos.count s.requires.fits.lent (not_silent a.input.now (λ z. omega (arith, k.if-input-gt0.true))) in
+    let a = k.args in
+    let w : length a.input.now ≡ a.infos.count = fits_whole a.input.now a.infos.count k.requires.fits.lent (not_silent a.input.now (λ z. omega (arith, k.if-input-gt0.true))) in
     let h : l.place < a.infos.count = omega arith in
     let i = place_inside a.infos l.place h in
     rw k.look_at-looked.ensures.place (omega (arith, i))
@@ -60,10 +57,7 @@ loop-place-preserved c = let l = c.loop-place in
     let h : l.place < a.infos.count = omega arith in
     let looks = c.look_at-looked.ensures in
     let added : c.if-input-gt0.added ≡ get_or (inputs a.infos.rate a.infos.count a.input.now) l.place nan =
-    ⊎_elim
-    (λ came. came.2 ∙ rw looks.place (input_at a.infos.count l.place h a.infos.rate a.input.now came.0.taken))
-    (λ came. came.1 ∙ silent_at a.infos.count l.place h a.infos.rate a.input.now (omega (arith, came.0.left)))
-    c.if-input-gt0.branch in
+    (elim c.if-input-gt0.branch [ then-input-gt0 came ↦ came.added-is ∙ rw looks.place (input_at a.infos.count l.place h a.infos.rate a.input.now came.if-input-gt0.true) | else-input-gt0 came ↦ came.added-is ∙ silent_at a.infos.count l.place h a.infos.rate a.input.now (omega (arith, came.if-input-gt0.false)) ]) in
     let value : c.mixed_value.result ≡ get_or (samples_of a.param a.infos a.input.now a.store.now) l.place plus_zero =
     c.mixed_value.ensures ∙ rw c.bounds.ensures (sample_is a.param a.infos a.input.now a.store.now p.fits.lent l.place h looks added) in
     (goes_on (samples_of a.param a.infos a.input.now a.store.now) a.infos.count a.output.now l.place l.output l.invariant.0 c.mixed_value.result h value, l.invariant.1)

@@ -6,7 +6,6 @@ use Rattle.laws.proofs.Walks.{end_most}
 use Rattle.timeline.specs.Heads.{waiting_as}
 use Rattle.plain.specs.Seen.{sample_of}
 use Rattle.plain.proofs.Sees.{infos_is, sample_is, run_stops, run_goes}
-use borrow.Author.Rules.{rules}
 use Rattle.plain.proofs.run.Goals as goal
 
 pub fill-filled-requires : goal.fill-filled-requires

@@ -1,9 +1,6 @@
 -- `sample_time` meets its contract: what is left to add ends at the same time. Assumes nothing.
-use mathlib.Core.Path.{◌≡◌, refl, sym, ap, ◌∙◌}
-use Prim.Native.Nat.{ℕ, suc, ◌+◌, ◌-◌}
-use native.Mathlib.Omega.{arith}
-use borrow.Author.Rules.{rules}
-use Rattle.rules.specs.Numbers.{time_at}
+use mathlib.Core.Path.{◌≡◌}
+use Prim.Native.Nat.{◌-◌}
 use Rattle.plain.specs.Seen.{time_after}
 use Rattle.plain.proofs.sample_time.Given as goal
 

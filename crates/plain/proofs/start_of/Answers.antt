@@ -1,6 +1,5 @@
 -- `start_of` meets its contract. Assumes nothing.
 use Rattle.rules.specs.Walk.{last_or}
-use borrow.Author.Rules.{rules}
 use Rattle.plain.proofs.start_of.Goals as goal
 
 pub returns-in_default : goal.returns-in_default

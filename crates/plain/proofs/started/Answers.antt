@@ -1,5 +1,4 @@
 -- `started` meets its contract. Assumes nothing.
-use borrow.Author.Rules.{rules}
 use Rattle.plain.proofs.started.Goals as goal
 
 pub returns : goal.returns

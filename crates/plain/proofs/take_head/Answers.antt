@@ -11,7 +11,6 @@ use Rattle.timeline.proofs.Heads.{curve_enough, curve_few}
 use Rattle.mix.proofs.Writes.{any_default}
 use Rattle.plain.specs.Seen.{seen, seen_turn}
 use Rattle.plain.proofs.Sees.{infos_is, starts, counted_is, started_is, linear_is, exponential_is, exponential_turns, target_is, curve_waits, curve_is}
-use borrow.Author.Rules.{rules}
 use Rattle.plain.proofs.take_head.Goals as goal
 
 pub span-requires : goal.span-requires

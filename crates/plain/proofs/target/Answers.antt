@@ -1,10 +1,8 @@
 -- `target` meets its contract: it waits, ends in the block, or does not. Assumes nothing.
 use mathlib.Core.Path.{◌≡◌, sym, ap, ◌∙◌}
 use mathlib.Core.Bool.{Bool, true, false}
-use mathlib.Core.Logic.{⊎_elim}
 use Prim.Native.Nat.{ℕ}
 use native.Mathlib.Omega.{arith}
-use borrow.Author.Tests.{not-true, not-false}
 use lib.Ieee as Ieee
 use Rattle.rules.specs.declared.BlockInfos.{BlockInfos}
 use Rattle.rules.specs.Numbers.{end_place, is_zero, is_subnormal}
@@ -14,9 +12,8 @@ use Rattle.timeline.specs.Heads.{waiting_as}
 use Rattle.plain.specs.declared.Look.{Look}
 use Rattle.plain.specs.Seen.{seen, seen_turn, sample_of}
 use Rattle.plain.proofs.Sees.{infos_is, sample_is, found_zero, flush_found, flush_none, flush_other, target_waits, target_ends, target_stays, target_snaps}
-use borrow.Author.Rules.{rules}
 use Rattle.plain.proofs.target.Goals as goal
-use Rattle.plain.proofs.target.Goals.{After-magnitude}
+use Rattle.plain.proofs.target.Goals.{After-magnitude, else-value-via-then-value+else-is_subnormal, else-value-via-else-value}
 
 -- whether it snaps is what was tested
 tested : (m : After-magnitude) (f : BlockInfos) (n : ℕ) (w : Walk)
@@ -48,7 +45,7 @@ returns-then-not-magnitude c = λ f n w e.
     let a = c.args in
     let infos = infos_is f n w e in
     rw infos at (c.run-then-not-magnitude.ensures f n w e)
-    ∙ ap (seen_turn f n) (target_stays f n w (waiting_as a.event a.numbers.now) a.value (sample_of a.event a.numbers.now f w) (rw (c.filed_under.ensures, infos) at c.if-filed_under-next.false) c.in_default.is (tested (goal.at.returns-then-not-magnitude c).After-magnitude f n w e false (not-true _ c.if-not-magnitude.true)) _)
+    ∙ ap (seen_turn f n) (target_stays f n w (waiting_as a.event a.numbers.now) a.value (sample_of a.event a.numbers.now f w) (rw (c.filed_under.ensures, infos) at c.if-filed_under-next.false) c.in_default.is (tested (goal.at.returns-then-not-magnitude c).After-magnitude f n w e false c.if-not-magnitude.true) _)
 
 pub fill-filled-requires : goal.fill-filled-requires
 fill-filled-requires c = (omega (arith, end_most c.args.look.infos c.args.look.infos.next, c.end_place_of.ensures), c.requires.0, c.requires.1)
@@ -62,7 +59,7 @@ returns-then-is_subnormal c = λ f n w e.
     let is : c.fill-filled.result ≡ seen f n filled = rw (c.end_place_of.ensures, infos) at (c.fill-filled.ensures f n w e) in
     let small = ap (λ (l : Look). is_subnormal l.found) (sym is) ∙ sym c.is_subnormal.ensures ∙ c.if-is_subnormal.true in
     let flushed : found_zero c.fill-filled.result ≡ seen f n (with_values (flushed_for a.value filled.values) filled) = rw is (sym (flush_found f a.value filled n c.if-value.true small)) in
-    rw infos (target_snaps f n w (waiting_as a.event a.numbers.now) a.value (sample_of a.event a.numbers.now f w) (rw (c.filed_under.ensures, infos) at c.if-filed_under-next.false) c.in_default.is (tested (goal.at.returns-then-is_subnormal c).Else-not-magnitude f n w e true (not_false _ c.if-not-magnitude.false)) flushed)
+    rw infos (target_snaps f n w (waiting_as a.event a.numbers.now) a.value (sample_of a.event a.numbers.now f w) (rw (c.filed_under.ensures, infos) at c.if-filed_under-next.false) c.in_default.is (tested (goal.at.returns-then-is_subnormal c).After-magnitude f n w e true c.if-not-magnitude.false) flushed)
 
 pub returns-else-value : goal.returns-else-value
 unfolding seen is_zero Ieee.of_bits
@@ -72,8 +69,8 @@ returns-else-value c = λ f n w e.
     let filled = fill f (end_place f f.next) (sample_of a.event a.numbers.now f w) w in
     let is : c.fill-filled.result ≡ seen f n filled = rw (c.end_place_of.ensures, infos) at (c.fill-filled.ensures f n w e) in
     let same : seen f n (with_values (flushed_for a.value filled.values) filled) ≡ seen f n filled =
-    ⊎_elim
-    (λ came. flush_other f a.value filled n came.0.taken (ap (λ (l : Look). is_subnormal l.found) (sym is) ∙ sym came.1.ensures ∙ came.2.left))
-    (λ came. flush_none f a.value filled n came.left)
-    c.else-value.branch in
-    rw infos (target_snaps f n w (waiting_as a.event a.numbers.now) a.value (sample_of a.event a.numbers.now f w) (rw (c.filed_under.ensures, infos) at c.if-filed_under-next.false) c.in_default.is (tested (goal.at.returns-else-value c).Else-not-magnitude f n w e true (not_false _ c.if-not-magnitude.false)) (is ∙ sym same))
+    elim c.else-value.branch [
+      | else-value-via-then-value+else-is_subnormal came ↦ flush_other f a.value filled n came.if-value.true (ap (λ (l : Look). is_subnormal l.found) (sym is) ∙ sym came.is_subnormal.ensures ∙ came.if-is_subnormal.false)
+      | else-value-via-else-value came ↦ flush_none f a.value filled n came.if-value.false
+    ] in
+    rw infos (target_snaps f n w (waiting_as a.event a.numbers.now) a.value (sample_of a.event a.numbers.now f w) (rw (c.filed_under.ensures, infos) at c.if-filed_under-next.false) c.in_default.is (tested (goal.at.returns-else-value c).After-magnitude f n w e true c.if-not-magnitude.false) (is ∙ sym same))

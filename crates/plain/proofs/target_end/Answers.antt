@@ -4,12 +4,10 @@ use mathlib.Core.Bool.{true, false}
 use lib.Ieee as Ieee
 use Rattle.rules.specs.declared.BlockInfos.{BlockInfos}
 use Rattle.rules.specs.declared.MaybeTime.{MaybeTime}
-use Rattle.rules.specs.declared.MaybeTime.TheVariants as MaybeTime
 use Rattle.rules.specs.Queue.{hold_or}
 use Rattle.rules.specs.Walk.{end_by_hold, end_by_next}
 use Rattle.laws.proofs.Tests.{clash}
 use Rattle.laws.proofs.Order.{lt_le, lt_not_le}
-use borrow.Author.Rules.{rules}
 use Rattle.plain.proofs.target_end.Goals as goal
 use Rattle.plain.proofs.target_end.Goals.{Else-hold_or-infos}
 

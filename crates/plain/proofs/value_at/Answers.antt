@@ -9,7 +9,6 @@ use mir.Syntax.{w64}
 use mir.Val.{to_z, of_z}
 use mir.Facts.{to_z-of_z}
 use Rattle.rules.specs.declared.Event.{Event}
-use Rattle.rules.specs.declared.Event.TheVariants as Event
 use Rattle.rules.specs.declared.Finished.{Finished}
 use Rattle.rules.specs.Queue.{is_ramp, filed_under}
 use Rattle.rules.specs.Samples.{ratio_of, ratio_log, ramp_sample, exponential_sample, target_sample}
@@ -17,7 +16,6 @@ use Rattle.rules.specs.Walk.{from_start}
 use Rattle.laws.proofs.Tests.{never}
 use Rattle.samples.specs.At.{exponential_at, target_at}
 use Rattle.plain.specs.Seen.{sample_from}
-use borrow.Author.Rules.{rules}
 use Rattle.plain.proofs.value_at.Goals as goal
 
 -- before the start of what is no ramp the value is the one before it
@@ -48,7 +46,7 @@ unfolding sample_from exponential_sample exponential_at ratio_of
 returns-in-Exponential c = let from = c.start_of-from.result in
     -- L as it is handed on: a signed number is read back from its bits
     let log_is : to_z w64 (of_z w64 c.ratio_log-log.result) ≡ ratio_log (Ieee.div binary32 c.in-Exponential.value from.value) =
-    to_z-of_z (record { sfits = c.ratio_log-log.type_inv }) ∙ c.ratio_log-log.ensures in
+    to_z-of_z {w = w64} (record { sfits = c.ratio_log-log.type_inv }) ∙ c.ratio_log-log.ensures in
     rw (c.in-Exponential.is, ← c.start_of-from.ensures)
     (c.exponential_value.ensures
     ∙ ap

@@ -1,6 +1,5 @@
 -- `sheet::ask` meets its contract: each call by its own. Assumes nothing.
 use Rattle.sheet.proofs.Asks.{asks_nothing, asks_step, asks_linear, asks_exponential, asks_curve, asks_hold, asks_cancel}
-use borrow.Author.Rules.{rules}
 use Rattle.sheet.proofs.ask.Goals as goal
 
 pub returns-in-Nothing : goal.returns-in-Nothing

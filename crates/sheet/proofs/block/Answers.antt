@@ -1,7 +1,6 @@
 -- `sheet::block` meets its contract: what the renderer ensures, with the row's input. Assumes nothing.
 use lib.Ieee.{of_bits, div}
 use Rattle.sheet.specs.Played.{input_of}
-use borrow.Author.Rules.{rules}
 use Rattle.sheet.proofs.block.Goals as goal
 
 pub returns-then-noisy : goal.returns-then-noisy

@@ -3,11 +3,10 @@ use mathlib.Core.Path.{◌∙◌}
 use lib.Ieee.{of_bits}
 use Rattle.sheet.specs.Played.{input_of}
 use Rattle.sheet.proofs.Rendered.{plays_row}
-use borrow.Author.Rules.{rules}
 use Rattle.sheet.proofs.play.Goals as goal
 
 pub shape_of-store : goal.shape_of-store
-shape_of-store c = c.block-after.auto.1.1.1.1.1.1.0 ∙ c.ask-asked.auto.1.1.0 ∙ c.block-before.auto.1.1.1.1.1.1.0 ∙ c.set_up-p.auto.1.0
+shape_of-store c = c.block-after.auto.store ∙ c.ask-asked.auto.store ∙ c.block-before.auto.store ∙ c.set_up-p.auto.store
 
 pub returns : goal.returns
 unfolding of_bits input_of

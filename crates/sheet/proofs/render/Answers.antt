@@ -1,6 +1,5 @@
 -- `sheet::render` meets its contract: each renderer by its own. Assumes nothing.
 use lib.Ieee.{of_bits}
-use borrow.Author.Rules.{rules}
 use Rattle.sheet.proofs.render.Goals as goal
 
 pub returns-in-Process : goal.returns-in-Process

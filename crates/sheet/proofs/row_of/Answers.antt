@@ -1,6 +1,5 @@
 -- `sheet::row_of` meets its contract. Assumes nothing.
 use mathlib.Core.Path.{refl, ◌∙◌}
-use borrow.Author.Rules.{rules}
 use borrow.Author.Tests.{ne_eqb}
 use Rattle.sheet.specs.Rows.{row_of}
 use Rattle.sheet.proofs.row_of.Goals as goal

@@ -1,6 +1,5 @@
 -- `sheet::set_up` meets its contract: its calls in turn. Assumes nothing.
 use Rattle.sheet.proofs.Asks.{sets_up}
-use borrow.Author.Rules.{rules}
 use Rattle.sheet.proofs.set_up.Goals as goal
 
 pub returns : goal.returns

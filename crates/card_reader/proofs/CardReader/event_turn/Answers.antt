@@ -2,7 +2,6 @@
 use mathlib.Core.Path.{◌≡◌, sym, ◌∙◌}
 use mathlib.Core.Bool.{false}
 use native.Mathlib.Omega.{arith}
-use borrow.Author.Rules.{rules}
 use Rattle.refusals.proofs.Rows.{found}
 use Rattle.param.proofs.Settled.{refused_same}
 use Rattle.card.specs.Card.{event_in, is_out_of_turn}
@@ -12,7 +11,7 @@ use Rattle.card_reader.proofs.CardReader.event_turn.Goals as goal
 use Rattle.card_reader.proofs.CardReader.event_turn.Goals.{Else-is_out_of_turn}
 
 -- the event is in turn
-due : (c : Else-is_out_of_turn) → let s = c.before.before.before.before.before in is_out_of_turn s.args.self.before (event_in s.args.bytes.now) ≡ false
+due : (c : Else-is_out_of_turn) → is_out_of_turn c.args.self.before (event_in c.args.bytes.now) ≡ false
 due c = found c.is_out_of_turn.ensures c.if-is_out_of_turn.false
 
 pub returns-then-is_out_of_turn : goal.returns-then-is_out_of_turn
@@ -30,7 +29,7 @@ kept-requires c =
 pub returns-in-Answered : goal.returns-in-Answered
 returns-in-Answered c =
     let e = (goal.at.returns-in-Answered c).Else-is_out_of_turn in
-    does_event c.args.bytes.now c.requires.0 c.field_length.ensures c.requires.3 c.requires.2 (due e) c.schedule-called.ensures c.schedule-called.auto.1.1.0 c.in-Answered.is c.time_in.ensures
+    does_event c.args.bytes.now c.requires.0 c.field_length.ensures c.requires.3 c.requires.2 (due e) c.schedule-called.ensures c.schedule-called.auto.store c.in-Answered.is c.time_in.ensures
     c.kept.ensures
 
 pub returns-in-Refused : goal.returns-in-Refused

@@ -6,7 +6,6 @@ use native.Mathlib.Omega.{arith}
 use lib.ListN.{length, drop_of_length-le}
 use lib.Seq.{take-length, paste}
 use lib.Ieee.{Float}
-use borrow.Author.Rules.{rules}
 use Rattle.refusals.proofs.Rows.{found}
 use Rattle.card_reader.proofs.Ends.{loads_bad, loads_good, loads_refused}
 use Rattle.card_reader.proofs.CardReader.finish.Goals as goal
@@ -20,12 +19,9 @@ returns-then-store-ne-STORE c = loads_bad c.requires.2 c.if-store-ne-STORE.true
 
 pub returns-then-is_accepted : goal.returns-then-is_accepted
 returns-then-is_accepted c =
-    let k = (goal.at.returns-then-is_accepted c).After-is_accepted in
-    let e = (goal.at.returns-then-is_accepted c).After-end-arg-1 in
-    let s = e.before.before.before.before.before.before in
-    let ends = e.end.ensures in
-    let long = e.before.before.if1.false in
-    loads_good s.requires.2 e.end.result _ ends.reader long ends.sound (found k.before.is-accepted.ensures k.if2.true)
+    let ends = c.end-r.ensures in
+    let long = c.if-store-ne-STORE.false in
+    loads_good c.requires.2 c.end-r.result _ ends.reader long ends.sound (found c.is_accepted.ensures c.if-is_accepted.true)
     (c.write.ensures ∙ pasted _ _ (long ∙ sym ends.sound.long))
 
 pub returns-else-is_accepted : goal.returns-else-is_accepted

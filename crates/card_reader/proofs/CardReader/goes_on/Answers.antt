@@ -1,5 +1,4 @@
 -- `CardReader::goes_on` meets its contract. Assumes nothing.
-use borrow.Author.Rules.{rules}
 use Rattle.card_reader.proofs.CardReader.goes_on.Goals as goal
 
 pub returns : goal.returns

@@ -1,7 +1,6 @@
 -- `CardReader::range_turn` meets its contract. Assumes nothing.
 use mathlib.Core.Path.{sym, ◌∙◌}
 use native.Mathlib.Omega.{arith}
-use borrow.Author.Rules.{rules}
 use Rattle.card.proofs.Fields.{room, whole_parts}
 use Rattle.card_reader.proofs.Does.{range_refused, at_start, refuses, does_range}
 use Rattle.card_reader.proofs.CardReader.range_turn.Goals as goal

@@ -1,13 +1,12 @@
 -- `CardReader::take` meets its contract. The invariant of its loop: the part up to `from` is read. Assumes nothing.
-use mathlib.Core.Path.{◌≡◌, refl, sym, ap, ◌∙◌}
-use Prim.Native.Nat.{◌+◌, ◌-◌, ◌≤◌}
+use mathlib.Core.Path.{refl, sym, ap, ◌∙◌}
+use Prim.Native.Nat.{◌+◌, ◌≤◌}
 use native.Mathlib.Omega.{arith}
-use lib.ListN.{length, take, length-take}
+use lib.ListN.{length, length-take}
 use lib.Seq.{take_all}
-use borrow.Author.Rules.{rules}
 use borrow.Author.Tests.{lt-leb, le-leb}
 use Rattle.card.specs.Card.{fed}
-use Rattle.card_reader.specs.Reader.{reading_of, part_length, SoundReader, SoundWindow, TakesPart}
+use Rattle.card_reader.specs.Reader.{part_length, TakesPart}
 use Rattle.card_reader.proofs.Feeding.{fed_none, fed_further}
 use Rattle.card_reader.proofs.CardReader.take.Goals as goal
 

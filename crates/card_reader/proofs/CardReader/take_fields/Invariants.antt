@@ -1,21 +1,9 @@
 -- `CardReader::take_fields` meets its contract. The invariant of its loop: what is left, read by the reader so far, gives what all gives. Assumes nothing.
-use mathlib.Core.Path.{◌≡◌, refl, ◌∙◌}
-use mathlib.Core.Bool.{true, false, ◌&&◌}
-use mathlib.Core.List.{List}
-use Prim.Native.Nat.{ℕ, ◌+◌, ◌-◌, ◌≤◌, ◌<◌}
-use native.Mathlib.Nat.{le_refl}
-use native.Mathlib.Omega.{arith}
-use lib.ListN.{length, take, drop, length-drop}
-use borrow.Author.Rules.{part_to_end}
-use borrow.Author.Rules.{rules}
-use borrow.Author.Tests.{not-true, not-false}
-use Rattle.refusals.proofs.Rows.{found}
-use Rattle.laws.proofs.Tests.{both}
-use Rattle.words.proofs.Bytes.{are_bytes, bytes_drop}
-use Rattle.card.specs.Card.{is_accepted, field_length, is_whole, taken}
-use Rattle.card.proofs.Fields.{whole_parts}
+use mathlib.Core.Path.{◌≡◌}
+use Prim.Native.Nat.{◌-◌, ◌≤◌}
+use lib.ListN.{length, drop}
+use Rattle.card.specs.Card.{taken}
 use Rattle.card_reader.specs.Reader.{reader_of, SoundReader}
-use Rattle.card_reader.proofs.Taking.{taken-turn, taken_waits, taken_stops, unfinished}
 use Rattle.card_reader.proofs.CardReader.take_fields.Given as goal
 
 abbrev pub invariant-loop-numbers : goal.invariant-loop-numbers

@@ -1,5 +1,4 @@
 -- `field::bounds_in` meets its contract. Assumes nothing.
-use borrow.Author.Rules.{rules}
 use Rattle.card.specs.Card.{bounds_in}
 use Rattle.card_reader.proofs.field.bounds_in.Goals as goal
 

@@ -1,7 +1,6 @@
 -- `field::has_no_constant` meets its contract. Assumes nothing.
 use mathlib.Core.Path.{sym, ap, ◌∙◌}
 use native.Mathlib.Omega.{arith}
-use borrow.Author.Rules.{rules}
 use Rattle.rules.specs.Numbers.{is_zero}
 use Rattle.card.specs.Card.{tag_of}
 use Rattle.card.proofs.Fields.{room, target_room}

@@ -1,5 +1,4 @@
 -- `field::is_earlier` meets its contract. Assumes nothing.
-use borrow.Author.Rules.{rules}
 use Rattle.rules.specs.Refusals.{is_earlier}
 use Rattle.card_reader.proofs.field.is_earlier.Goals as goal
 
@@ -9,4 +8,4 @@ returns-in-Missing c = rw c.in-Missing.is
 
 pub returns-in-At : goal.returns-in-At
 unfolding is_earlier
-returns-in-At c = rw (goal.at.returns-in-At c).In-At-12.given.1
+returns-in-At c = rw c.in-At.is

@@ -1,5 +1,4 @@
 -- `field::is_minus_zero` meets its contract. Assumes nothing.
-use borrow.Author.Rules.{rules}
 use Rattle.card.specs.Card.{is_minus_zero}
 use Rattle.card_reader.proofs.field.is_minus_zero.Goals as goal
 

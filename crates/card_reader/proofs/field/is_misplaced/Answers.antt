@@ -1,5 +1,4 @@
 -- `field::is_misplaced` meets its contract. Assumes nothing.
-use borrow.Author.Rules.{rules}
 use borrow.Author.Tests.{eq-eqb, ne_eqb}
 use Rattle.card.specs.Card.{tag_of, is_range, is_misplaced}
 use Rattle.card_reader.proofs.field.is_misplaced.Goals as goal

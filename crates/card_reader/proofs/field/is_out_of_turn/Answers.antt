@@ -1,5 +1,4 @@
 -- `field::is_out_of_turn` meets its contract. Assumes nothing.
-use borrow.Author.Rules.{rules}
 use Rattle.card.specs.Card.{is_out_of_turn}
 use Rattle.card_reader.proofs.field.is_out_of_turn.Goals as goal
 

@@ -1,5 +1,4 @@
 -- `field::is_whole` meets its contract. Assumes nothing.
-use borrow.Author.Rules.{rules}
 use borrow.Author.Tests.{leb-true}
 use Rattle.refusals.proofs.Rows.{found}
 use Rattle.card.specs.Card.{has_head, is_whole}

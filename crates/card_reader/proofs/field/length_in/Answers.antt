@@ -1,6 +1,5 @@
 -- `field::length_in` meets its contract: two bytes' number is below 65,536. Assumes nothing.
 use native.Mathlib.Omega.{arith}
-use borrow.Author.Rules.{rules}
 use Rattle.words.proofs.Bytes.{are_bytes, word_at_small}
 use Rattle.card.specs.Card.{length_in}
 use Rattle.card_reader.proofs.field.length_in.Goals as goal

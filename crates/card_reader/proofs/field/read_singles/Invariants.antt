@@ -1,13 +1,10 @@
 -- `field::read_singles` meets its contract. The invariant of its loop: the numbers read, with those left behind them, are all. Assumes nothing.
-use mathlib.Core.Path.{◌≡◌, refl, sym, ◌∙◌}
+use mathlib.Core.Path.{◌≡◌}
 use mathlib.Core.List.{◌++◌}
-use Prim.Native.Nat.{◌+◌, ◌-◌, ◌≤◌}
-use native.Mathlib.Nat.{add-zero, mul-zero, sub-zero}
-use native.Mathlib.Omega.{arith}
-use lib.ListN.{length, take, length-set}
-use borrow.Author.Rules.{rules}
+use Prim.Native.Nat.{◌-◌, ◌≤◌}
+use lib.ListN.{length, take}
 use Rattle.words.specs.Words.{singles_at}
-use Rattle.card_reader.proofs.Singles.{singles_from, read-turn, read-over}
+use Rattle.card_reader.proofs.Singles.{singles_from}
 use Rattle.card_reader.proofs.field.read_singles.Given as goal
 
 abbrev pub invariant-loop-i : goal.invariant-loop-i

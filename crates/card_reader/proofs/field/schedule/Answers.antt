@@ -3,7 +3,6 @@ use mathlib.Core.Path.{◌≡◌}
 use Prim.Native.Nat.{◌≤◌}
 use native.Mathlib.Omega.{arith}
 use lib.ListN.{length}
-use borrow.Author.Rules.{rules}
 use Rattle.card.specs.Card.{tag_of}
 use Rattle.card.proofs.Fields.{room, target_room}
 use Rattle.card_reader.proofs.Events.{target_tag}

@@ -2,7 +2,6 @@
 use mathlib.Core.Path.{sym, ◌∙◌}
 use native.Mathlib.Omega.{arith}
 use lib.ListN.{replicate, length-replicate}
-use borrow.Author.Rules.{rules}
 use Rattle.card_reader.proofs.Called.{does_long, alike_finite}
 use Rattle.card_reader.proofs.field.schedule_long.Goals as goal
 

@@ -1,16 +1,11 @@
 -- `field::worst_of` meets its contract: with i numbers passed, the others decide. Assumes nothing.
-use mathlib.Core.Path.{◌≡◌, sym, ◌∙◌}
-use Prim.Native.Nat.{◌-◌, ◌≤◌}
+use mathlib.Core.Path.{sym, ◌∙◌}
 use native.Mathlib.Nat.{add-zero, mul-zero, sub-zero}
 use native.Mathlib.Omega.{arith}
 use lib.Ieee.{of_bits, of_fields, odd}
-use borrow.Author.Tests.{not-true, not-false}
-use borrow.Author.Rules.{rules}
 use Rattle.rules.specs.Numbers.{is_finite}
-use Rattle.rules.specs.Refusals.{all_finite}
 use Rattle.refusals.proofs.Rows.{found}
-use Rattle.words.specs.Words.{singles_at}
-use Rattle.card_reader.proofs.Singles.{singles_from, finite_turn, finite_not, finite_over}
+use Rattle.card_reader.proofs.Singles.{finite_turn, finite_not, finite_over}
 use Rattle.card_reader.proofs.field.worst_of.Goals as goal
 
 pub loop-i-init : goal.loop-i-init
@@ -19,7 +14,7 @@ loop-i-init c = let a = c.args in (omega arith, rw (mul-zero 4, add-zero a.at, s
 pub returns-then-not-is_finite32 : goal.returns-then-not-is_finite32
 returns-then-not-is_finite32 c =
     let a = c.args in
-    let odd = found c.is_finite32.ensures (not-true _ c.if-not-is_finite32.true) in
+    let odd = found c.is_finite32.ensures c.if-not-is_finite32.true in
     odd ∙ sym (c.loop-i.invariant.1 ∙ finite_not a.bytes.now a.at a.n c.loop-i.i (omega arith) (rw c.single_at-x.ensures at odd))
 
 pub loop-i-smaller : goal.loop-i-smaller
@@ -28,7 +23,7 @@ loop-i-smaller c = omega arith
 pub loop-i-preserved : goal.loop-i-preserved
 loop-i-preserved c =
     let a = c.args in
-    let fine = found c.is_finite32.ensures (not-false _ c.if-not-is_finite32.false) in
+    let fine = found c.is_finite32.ensures c.if-not-is_finite32.false in
     (omega arith, c.loop-i.invariant.1 ∙ finite_turn a.bytes.now a.at a.n c.loop-i.i (omega arith) (rw c.single_at-x.ensures at fine))
 
 pub returns : goal.returns

@@ -1,5 +1,4 @@
 -- `event_at` meets its contract. Assumes nothing.
-use borrow.Author.Rules.{rules}
 use Rattle.coding.proofs.event.event_at.Goals as goal
 
 pub returns : goal.returns

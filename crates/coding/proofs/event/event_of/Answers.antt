@@ -1,7 +1,6 @@
 -- `event_of` meets its contract, kind by kind. Assumes nothing.
 use borrow.Author.Tests.{eq-eqb, ne_eqb}
 use Rattle.coding.specs.Coding.{event_of}
-use borrow.Author.Rules.{rules}
 use Rattle.coding.proofs.event.event_of.Goals as goal
 
 pub returns-then-kind-eq0 : goal.returns-then-kind-eq0

@@ -1,6 +1,5 @@
 -- `flag_of` meets its contract. Assumes nothing.
 use Rattle.coding.specs.Coding.{flag_of}
-use borrow.Author.Rules.{rules}
 use Rattle.coding.proofs.event.flag_of.Goals as goal
 
 pub returns-in-Missing : goal.returns-in-Missing

@@ -1,6 +1,5 @@
 -- `put_event` meets its contract, kind by kind. Assumes nothing.
 use Rattle.coding.proofs.Words.{puts_step, puts_linear, puts_exponential, puts_target, puts_curve}
-use borrow.Author.Rules.{rules}
 use Rattle.coding.proofs.event.put_event.Goals as goal
 
 pub returns-in-Step : goal.returns-in-Step

@@ -2,7 +2,6 @@
 use native.Mathlib.Omega.{arith}
 use lib.ListN.{length-set}
 use Rattle.coding.proofs.Words.{puts_six, puts_words}
-use borrow.Author.Rules.{rules}
 use Rattle.coding.proofs.event.put_words.Goals as goal
 
 pub bounds-state-at-2 : goal.bounds-state-at-2

@@ -1,6 +1,5 @@
 -- `time_bits` meets its contract. Assumes nothing.
 use Rattle.coding.proofs.Words.{missing_bits, time_bits}
-use borrow.Author.Rules.{rules}
 use Rattle.coding.proofs.event.time_bits.Goals as goal
 
 pub returns-in-Missing : goal.returns-in-Missing

@@ -1,7 +1,6 @@
 -- `time_in` meets its contract. Assumes nothing.
 use borrow.Author.Tests.{eq-eqb, ne_eqb}
 use Rattle.coding.specs.Coding.{time_in}
-use borrow.Author.Rules.{rules}
 use Rattle.coding.proofs.event.time_in.Goals as goal
 
 pub returns-then-flag-eq0 : goal.returns-then-flag-eq0
