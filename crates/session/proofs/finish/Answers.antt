@@ -1,10 +1,7 @@
 -- `session::finish` meets its contract: its last answer lies in the buffer. Assumes nothing.
-use mathlib.Core.Path.{sym, subst}
-use native.Mathlib.Omega.{arith}
-use lib.Seq.{length-take-le}
+use Rattle.std.proofs.Common.{sym, subst, arith}
 use Rattle.lines.specs.Lines.{LineIn}
 use Rattle.lines.proofs.Cases.{last_in_lem}
-use borrow.Author.Rules.{rules}
 use Rattle.session.proofs.finish.Goals as goal
 
 pub answer_next-r-requires : goal.answer_next-r-requires
@@ -15,9 +12,4 @@ answer_next-r-requires c =
 pub slice_bounds-write_all-end : goal.slice_bounds-write_all-end
 slice_bounds-write_all-end c =
     let r = c.answer_next-r in
-    omega (arith, r.ensures.room, r.auto.1.1.1.1.1.1.0, c.requires.lent.out_long)
-
-pub slice_bounds-write_all-end-2 : goal.slice_bounds-write_all-end-2
-slice_bounds-write_all-end-2 c =
-    let r = c.answer_next-r in
-    sym (length-take-le r.result.next r.new.out (omega (arith, r.ensures.room, r.auto.1.1.1.1.1.1.0, c.requires.lent.out_long)))
+    omega (arith, r.ensures.room, r.auto.out, c.requires.lent.out_long)
