@@ -6,13 +6,12 @@ use Prim.Native.Nat.{ℕ, suc, ◌+◌, ◌≤◌, ◌<◌}
 use native.Mathlib.Numerals.{add-one}
 use native.Mathlib.Omega.{arith}
 use lib.Dec.{T}
-use lib.ListN.{length, get_or, take, drop, length-drop, drop_of_length-le}
+use lib.ListN.{length, get_or, take, drop, drop_of_length-le}
 use lib.Seq.{take-suc, take_all, drop-cons}
 use lib.Ieee.{Float, nan, binary32, fits, of_bits, to_bits}
 use lib.Ieee.Bits.{of_bits-to_bits}
 use borrow.Author.Tests.{eq-eqb, eqb-true}
 use Rattle.beside.specs.declared.Place.{Place}
-use Rattle.beside.specs.declared.Place.TheVariants as Place
 use Rattle.beside.specs.Beside.{same_value, differs_from, first_difference, Tells, FirstPlace}
 use Rattle.beside.proofs.Same.{yes, no}
 

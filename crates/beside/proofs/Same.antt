@@ -8,7 +8,6 @@ use lib.Ieee.{Float, binary32, to_bits}
 use borrow.Author.Tests.{eq-eqb, eqb-true}
 use Rattle.rules.specs.declared.Refusal.TheVariants as Refusal
 use Rattle.rules.specs.declared.Verdict.{Verdict}
-use Rattle.rules.specs.declared.Verdict.TheVariants as Verdict
 use Rattle.rules.specs.Refusals.{number_of}
 use Rattle.text.proofs.Reading.{and_true}
 use Rattle.param.specs.declared.AudioParam.{AudioParam}

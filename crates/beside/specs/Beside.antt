@@ -3,10 +3,8 @@ use Rattle.std.specs.Prelude.{◌≡◌, Bool, true, cond, List, [], ◌∷◌, 
 use Rattle.std.specs.Float.{binary32}
 use Rattle.std.specs.Float.Ieee.{to_bits}
 use Rattle.rules.specs.declared.Verdict.{Verdict}
-use Rattle.rules.specs.declared.Verdict.TheVariants as Verdict
 use Rattle.rules.specs.Refusals.{number_of}
 use Rattle.beside.specs.declared.Place.{Place}
-use Rattle.beside.specs.declared.Place.TheVariants as Place
 
 -- "All NaNs count as equal; the two zeros differ in a sample's bits"
 unfoldable pub same_value : Float → Float → Bool

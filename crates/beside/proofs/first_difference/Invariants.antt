@@ -1,11 +1,8 @@
 -- `beside::first_difference` meets its contract. The invariant of its loop: the place is that of what is left, and what is passed is the same. Assumes nothing.
-use mathlib.Core.Path.{◌≡◌, refl, sym, ◌∙◌}
+use mathlib.Core.Path.{◌≡◌}
 use Prim.Native.Nat.{◌-◌, ◌≤◌}
 use lib.ListN.{length, take, drop}
-use borrow.Author.Rules.{rules}
-use borrow.Author.Tests.{not-true, not-false}
 use Rattle.beside.specs.Beside.{differs_from, first_difference}
-use Rattle.beside.proofs.Places.{one_more, goes_on, differs_here, first_ends, second_ends, both_end, all_shared, a_place, no_place}
 use Rattle.beside.proofs.first_difference.Given as goal
 
 abbrev pub invariant-loop-i : goal.invariant-loop-i

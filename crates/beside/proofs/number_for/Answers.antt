@@ -1,6 +1,5 @@
 -- `beside::number_for` meets its contract. Assumes nothing.
 use Rattle.beside.specs.Beside.{number_for}
-use borrow.Author.Rules.{rules}
 use Rattle.beside.proofs.number_for.Goals as goal
 
 pub returns-in-Answered : goal.returns-in-Answered

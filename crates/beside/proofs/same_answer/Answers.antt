@@ -1,6 +1,5 @@
 -- `beside::same_answer` meets its contract: part by part. Assumes nothing.
 use Rattle.beside.proofs.Same.{by_parts}
-use borrow.Author.Rules.{rules}
 use Rattle.beside.proofs.same_answer.Goals as goal
 
 pub returns : goal.returns

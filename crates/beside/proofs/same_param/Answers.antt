@@ -1,6 +1,5 @@
 -- `beside::same_param` meets its contract: each state gives its parameter back. Assumes nothing.
 use Rattle.beside.proofs.Same.{by_states}
-use borrow.Author.Rules.{rules}
 use Rattle.beside.proofs.same_param.Goals as goal
 
 pub returns : goal.returns

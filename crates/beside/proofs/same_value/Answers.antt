@@ -3,7 +3,6 @@ use mathlib.Core.Path.{sym, ap₂, ◌∙◌}
 use lib.Dec.{eqb}
 use Rattle.beside.specs.Beside.{same_value}
 use Rattle.beside.proofs.Places.{same_one}
-use borrow.Author.Rules.{rules}
 use Rattle.beside.proofs.same_value.Goals as goal
 
 pub returns : goal.returns

@@ -1,6 +1,5 @@
 -- `beside::same_values` meets its contract. Assumes nothing.
 use Rattle.beside.proofs.Places.{none_exactly, none_exactly_not}
-use borrow.Author.Rules.{rules}
 use Rattle.beside.proofs.same_values.Goals as goal
 
 pub returns-in-None : goal.returns-in-None

@@ -1,10 +1,6 @@
 -- `speed_value` is safe and ends. Assumes nothing.
-use mathlib.Core.Path.{◌≡◌, refl}
-use Prim.Native.Nat.{◌-◌}
+use mathlib.Core.Path.{refl}
 use native.Mathlib.Omega.{arith}
-use lib.ListN.{length}
-use borrow.Author.Rules.{rules}
-use Rattle.param.specs.Param.{SoundParam}
 use Rattle.speed_c.proofs.speed_value.Goals as goal
 
 pub loop-i-init : goal.loop-i-init
@@ -14,4 +10,4 @@ pub process-r-requires : goal.process-r-requires
 process-r-requires c = c.loop-i.invariant.0
 
 pub overflow_add-i : goal.overflow_add-i
-overflow_add-i c = omega (arith, c.loop-i-test.true, c.ranges.blocks)
+overflow_add-i c = omega arith

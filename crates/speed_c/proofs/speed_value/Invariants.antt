@@ -1,9 +1,7 @@
 -- `speed_value` is safe and ends. Assumes nothing.
-use mathlib.Core.Path.{◌≡◌, refl}
+use mathlib.Core.Path.{◌≡◌}
 use Prim.Native.Nat.{◌-◌}
-use native.Mathlib.Omega.{arith}
 use lib.ListN.{length}
-use borrow.Author.Rules.{rules}
 use Rattle.param.specs.Param.{SoundParam}
 use Rattle.speed_c.proofs.speed_value.Given as goal
 

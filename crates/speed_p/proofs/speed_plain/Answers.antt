@@ -1,21 +1,16 @@
 -- `speed_plain` is safe and ends. Assumes nothing.
-use mathlib.Core.Path.{◌≡◌, refl, sym, ◌∙◌, subst}
-use mathlib.Core.Logic.{inl, inr}
-use Prim.Native.Nat.{◌-◌}
+use mathlib.Core.Path.{refl, sym, ◌∙◌, subst}
 use native.Mathlib.Omega.{arith}
-use lib.ListN.{length}
-use borrow.Author.Rules.{rules}
 use Rattle.param.specs.Param.{SoundParam}
 use Rattle.speed_p.proofs.speed_plain.Goals as goal
-use Rattle.speed_p.proofs.speed_plain.Goals.{Joined-not-again}
+use Rattle.speed_p.proofs.speed_plain.Goals.{Joined-not-again, else-not-again, then-not-again}
 
 -- the parameter that the block left, or the one before
 left : (j : Joined-not-again) → SoundParam j.if-not-again.p
 left j =
-    let done = j.before.before.before.before.before.before in
     elim j.if-not-again.branch [
-      | inl h ↦ subst SoundParam (sym h.2) done.process-r.ensures.sound
-      | inr h ↦ subst SoundParam (sym h.1) done.loop-i.invariant.0
+      | then-not-again came ↦ subst SoundParam (sym came.p-is) j.process-r.ensures.sound
+      | else-not-again came ↦ subst SoundParam (sym came.p-is) j.loop-i.invariant.0
     ]
 
 pub loop-i-init : goal.loop-i-init
@@ -25,7 +20,7 @@ pub process-r-requires : goal.process-r-requires
 process-r-requires c = c.loop-i.invariant.0
 
 pub overflow_add-i : goal.overflow_add-i
-overflow_add-i c = omega (arith, c.loop-i-test.true, c.ranges.blocks)
+overflow_add-i c = omega arith
 
 pub loop-i-smaller : goal.loop-i-smaller
 loop-i-smaller c = omega (arith, c.loop-i-test.true)
@@ -33,4 +28,4 @@ loop-i-smaller c = omega (arith, c.loop-i-test.true)
 pub loop-i-preserved : goal.loop-i-preserved
 loop-i-preserved c =
     let l = c.loop-i in
-    (left c, c.output-1.given ∙ l.invariant.1, c.store-1.given ∙ l.invariant.2)
+    (left (goal.at.loop-i-preserved c).Joined-not-again, c.process-r.auto.output ∙ l.invariant.1, c.process-r.auto.store ∙ l.invariant.2)

@@ -1,10 +1,7 @@
 -- `speed_plain` is safe and ends. Assumes nothing.
-use mathlib.Core.Path.{◌≡◌, refl, sym, ◌∙◌, subst}
-use mathlib.Core.Logic.{inl, inr}
+use mathlib.Core.Path.{◌≡◌}
 use Prim.Native.Nat.{◌-◌}
-use native.Mathlib.Omega.{arith}
 use lib.ListN.{length}
-use borrow.Author.Rules.{rules}
 use Rattle.param.specs.Param.{SoundParam}
 use Rattle.speed_p.proofs.speed_plain.Given as goal
 

@@ -1,5 +1,4 @@
 -- `ticks::is_same` meets its contract. Assumes nothing.
-use borrow.Author.Rules.{rules}
 use Rattle.ticks.proofs.is_same.Goals as goal
 
 pub same_answer-requires : goal.same_answer-requires
