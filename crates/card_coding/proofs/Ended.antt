@@ -17,7 +17,6 @@ use Rattle.param.proofs.Calls.{struct_back}
 use Rattle.coding.specs.Coding.{state_length, is_state, param_in, state_of, Encodes}
 use Rattle.coding.proofs.Read.{reads_back}
 use Rattle.card.specs.declared.CardVerdict.{CardVerdict}
-use Rattle.card.specs.declared.CardVerdict.TheVariants as CardVerdict
 use Rattle.card.specs.declared.Judged.{Judged}
 use Rattle.card.specs.Card.{fault_number, is_accepted, Reader, Reading, at_end, Loaded, loaded_as, bad_store, loaded}
 use Rattle.card.proofs.Fields.{and_false}

@@ -14,7 +14,6 @@ use Rattle.rules.specs.declared.AutomationRate.{AutomationRate}
 use Rattle.rules.specs.declared.MaybeTime.{MaybeTime}
 use Rattle.rules.specs.declared.Verdict.TheVariants as Verdict
 use Rattle.rules.specs.declared.Refusal.{Refusal}
-use Rattle.rules.specs.declared.Refusal.TheVariants as Refusal
 use Rattle.rules.specs.Numbers.{store_length}
 use Rattle.rules.specs.Refusals.{number_of}
 use Rattle.rules.specs.Block.{Param}
@@ -26,9 +25,7 @@ use Rattle.coding.specs.Coding.{state_length, is_state, param_in, state_of, time
 use Rattle.coding.proofs.Written.{rate_back}
 use Rattle.coding.proofs.Read.{accepted_long, reads_back, answered_state, refused_state}
 use Rattle.card.specs.declared.Fault.{Fault}
-use Rattle.card.specs.declared.Fault.TheVariants as Fault
 use Rattle.card.specs.declared.CardVerdict.{CardVerdict}
-use Rattle.card.specs.declared.CardVerdict.TheVariants as CardVerdict
 use Rattle.card.specs.Card.{fault_number, is_accepted, is_whole, Reading}
 use Rattle.card_reader.specs.declared.CardReader.{CardReader}
 use Rattle.card_reader.specs.Reader.{reader_of, reading_of, window_length, SoundReader, SoundWindow}

@@ -5,7 +5,6 @@ use Rattle.rules.specs.Numbers.{store_length}
 use Rattle.param.specs.Param.{param_of, struct_of, SoundParam}
 use Rattle.coding.specs.Coding.{is_state, param_in, state_of, time_in, rate_in, flag_of, bits_of, rate_word}
 use Rattle.card.specs.declared.CardVerdict.{CardVerdict}
-use Rattle.card.specs.declared.CardVerdict.TheVariants as CardVerdict
 use Rattle.card.specs.Card.{fault_number, is_whole, Reader, Reading}
 use Rattle.card_reader.specs.declared.CardReader.{CardReader}
 use Rattle.card_reader.specs.Reader.{reader_of, reading_of, window_length}

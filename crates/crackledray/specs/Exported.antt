@@ -4,7 +4,6 @@ use Rattle.rules.specs.declared.AutomationRate.{AutomationRate}
 use Rattle.rules.specs.declared.AutomationRate.TheVariants as Rate
 use Rattle.rules.specs.declared.Bounds.{Bounds}
 use Rattle.rules.specs.declared.Verdict.{Verdict}
-use Rattle.rules.specs.declared.Verdict.TheVariants as Verdict
 use Rattle.rules.specs.Refusals.{number_of, lowest, making_rows}
 use Rattle.rules.specs.Block.{Param, made, Command, Called, called, Call, Answer, answered}
 use Rattle.coding.specs.Coding.{state_length, param_in, is_state, state_of}

@@ -10,7 +10,6 @@ use lib.Seq.{take_at, length-take-le}
 use lib.Ieee.{Float, binary32, of_bits}
 use Rattle.rules.specs.declared.Refusal.{Refusal}
 use Rattle.rules.specs.declared.Verdict.{Verdict}
-use Rattle.rules.specs.declared.Verdict.TheVariants as Verdict
 use Rattle.rules.specs.Block as rule
 use Rattle.rules.specs.Block.{Param, answered}
 use Rattle.laws.proofs.Rows.{ceiling_most}

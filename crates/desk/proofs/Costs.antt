@@ -4,7 +4,6 @@ use mathlib.Core.Bool.{Bool, true, false, cond}
 use mathlib.Core.List.{List, [], ◌∷◌, ◌++◌}
 use mathlib.Core.Option.{Option, none, some}
 use Prim.Native.Nat.{ℕ, ◌<◌}
-use native.Mathlib.Omega.{arith}
 use lib.ListN.{length, take}
 use lib.Dec.{eqb}
 use lib.Ieee.{Float}
@@ -15,7 +14,6 @@ use Rattle.rules.specs.Block.{Param, made, Command}
 use Rattle.rules.specs.Block as rule
 use Rattle.calls.specs.Language.{Said}
 use Rattle.calls.specs.declared.Call.{Call}
-use Rattle.calls.specs.declared.Call.TheVariants as Call
 use Rattle.costs.specs.declared.Totals.{Totals}
 use Rattle.costs.specs.Costs.{Asked, command, block, left, left_by_all, waiting_in, cost_of, plus, totals, Sums}
 use Rattle.costs.proofs.Costs.{one_more_left, one_more_costs, session_sums}
@@ -23,7 +21,6 @@ use Rattle.tally.specs.Tally.{largest, capped, kept}
 use Rattle.tally.proofs.Kept.{kept-plus, kept_sums}
 use Rattle.rules.specs.Numbers.{store_length}
 use Rattle.card.specs.declared.CardVerdict.{CardVerdict}
-use Rattle.card.specs.declared.CardVerdict.TheVariants as CardVerdict
 use Rattle.card.specs.Card.{Reader, read, Loaded, loaded, loaded_as, bad_store}
 use Rattle.desk.specs.Desk.{Table, unread, making, asked, lending, poking, playing, marks, stating, saving, loaded_turn, loading_by, loading, answer_of, said_turn, table_of, unmade_desk}
 use Rattle.param.proofs.Calls.{struct_back}

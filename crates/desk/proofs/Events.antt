@@ -11,7 +11,6 @@ use Rattle.rules.specs.declared.Bounds.{Bounds}
 use Rattle.rules.specs.declared.AutomationRate.{AutomationRate}
 use Rattle.rules.specs.declared.AutomationRate.TheVariants as Rate
 use Rattle.rules.specs.declared.Verdict.{Verdict}
-use Rattle.rules.specs.declared.Verdict.TheVariants as Verdict
 use Rattle.rules.specs.Refusals.{lowest, making_rows}
 use Rattle.rules.specs.Block.{Param, made, step, linear, exponential, target, curve, Called, called}
 use Rattle.laws.specs.Sound.{Sound}
@@ -23,7 +22,6 @@ use Rattle.costs.proofs.Costs.{one_more_left, one_more_costs}
 use Rattle.costs.proofs.Seen.{command_seen_lem}
 use Rattle.words.specs.Words.{single_at, double_at, singles_at}
 use Rattle.card.specs.declared.Fault.{Fault}
-use Rattle.card.specs.declared.Fault.TheVariants as Fault
 use Rattle.card.specs.Card.{tag_of, is_tag, is_range, is_wrong, is_misplaced, is_whole, is_accepted, numbers_in, bounds_in, event_in, time_of, is_out_of_turn, Reader, refused_by, ranged_as, taken_as, event_turn, contents_turn, field_turn, Reading, stopped, taken, fed, begun, end_turn, at_end, read, field_length}
 use Rattle.desk.specs.Desk.{events_stored}
 use Rattle.desk.proofs.Turns.{no_range}

@@ -3,29 +3,23 @@ use mathlib.Core.Path.{◌≡◌, refl, sym, ap, ◌∙◌, subst}
 use mathlib.Core.Bool.{Bool, true, false, cond}
 use mathlib.Core.List.{List, [], ◌∷◌}
 use mathlib.Core.Option.{Option, none, some}
-use Prim.Native.Nat.{ℕ, zero, suc, ◌≤◌, ◌<◌, zero-le}
+use Prim.Native.Nat.{ℕ, zero, suc, ◌≤◌, zero-le}
 use native.Mathlib.Omega.{arith}
 use lib.Dec.{ltb, eqb}
 use lib.ListN.{length, take}
 use lib.Seq.{take-take}
-use lib.Ieee.{Float, binary32, binary64}
+use lib.Ieee.{Float}
 use borrow.Author.Tests.{ltb-true}
-use Rattle.rules.specs.declared.AutomationRate.{AutomationRate}
 use Rattle.rules.specs.Block as rule
-use Rattle.text.specs.Floats.{float_in}
 use Rattle.text.specs.Words.{Word, same_word, words_of, taken, is_over, count_in}
 use Rattle.text.specs.Hex.{Sized, bytes_up_to}
 use Rattle.text.proofs.Splitting.{count_below}
 use Rattle.text.proofs.Pairs.{bytes_below}
 use Rattle.calls.specs.declared.Call.{Call}
-use Rattle.calls.specs.declared.Call.TheVariants as Call
 use Rattle.calls.specs.declared.Timed.{Timed}
-use Rattle.calls.specs.declared.Timed.TheVariants as Timed
 use Rattle.calls.specs.declared.Cancelling.{Cancelling}
-use Rattle.calls.specs.declared.Cancelling.TheVariants as Cancelling
 use Rattle.calls.specs.declared.Renderer.{Renderer}
-use Rattle.calls.specs.declared.Renderer.TheVariants as Renderer
-use Rattle.calls.specs.Language.{with_taken, with_single, with_double, with_count, with_part, ending, rate_in, and_more, singles, make_of, set_of, timed_as, timed, target_of, cancelled_as, cancelling, lend_of, poke_of, state_of, save_of, Said, curve_of, block_of, load_of, bare, Row, row, scheduling, calls, found, by_first, call_of, Heard}
+use Rattle.calls.specs.Language.{with_taken, with_single, with_double, with_count, with_part, ending, and_more, singles, make_of, set_of, timed_as, timed, target_of, cancelled_as, cancelling, lend_of, poke_of, state_of, save_of, Said, curve_of, block_of, load_of, bare, Row, row, scheduling, calls, found, by_first, call_of, Heard}
 use Rattle.desk.specs.Desk.{InRange, asked, playing, marks, loading, answer_of, said_turn}
 
 -- ---- a property of what is read, if anything is

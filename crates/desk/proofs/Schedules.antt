@@ -27,7 +27,6 @@ use Rattle.param.specs.Param.{param_of, struct_of, SoundParam}
 use Rattle.param.proofs.Calls.{whole, struct_back}
 use Rattle.card.specs.declared.Fault.{Fault}
 use Rattle.card.specs.declared.CardVerdict.{CardVerdict}
-use Rattle.card.specs.declared.CardVerdict.TheVariants as CardVerdict
 use Rattle.card.specs.declared.Judged.{Judged}
 use Rattle.card.specs.Card as card
 use Rattle.card.specs.Card.{fault_number, is_accepted, has_head, is_whole, Reader, Reading, begun, fed, taken, at_end, loaded_as, file_of, judged, written_to, saved_as, Saved}

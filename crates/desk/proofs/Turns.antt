@@ -7,8 +7,6 @@ use native.Mathlib.Numerals.{add-one}
 use native.Mathlib.Omega.{arith}
 use lib.ListN.{length, take, drop, set, replicate, take-append-drop}
 use lib.Count.{count_trailing_zeros}
-use types.Run.{OneOf, miss}
-use denote.Enum.Declared.{tag_of}
 use lib.Ieee.{Float, binary32, of_bits, of_fields, odd, lt, eq, le}
 use Rattle.rules.specs.declared.Bounds.{Bounds}
 use Rattle.rules.specs.declared.AutomationRate.{AutomationRate}
@@ -22,8 +20,7 @@ use Rattle.text.specs.Put.{Put}
 use Rattle.text.proofs.Writing.{put_same, put_then}
 use Rattle.answers.specs.Answers.{verdict_text}
 use Rattle.calls.specs.declared.Call.{Call}
-use Rattle.calls.specs.declared.Call.TheVariants as Call
-use Rattle.calls.specs.contracts.Call.{the_type}
+use Rattle.calls.specs.declared.Renderer.{Renderer}
 use Rattle.costs.specs.declared.Totals.{Totals}
 use Rattle.costs.specs.Costs.{waiting_in, nothing, plus, command_cost}
 use Rattle.costs.specs.Seen.{command_seen}
@@ -173,32 +170,66 @@ ranged e h = subst InRange e h
 
 -- ---- the calls that change the waiting events
 
--- their places among the calls, and those of the others, as a `match` tells them
-abbrev theirs : List ℕ
-theirs = 3 ∷ 4 ∷ 5 ∷ 6 ∷ 7 ∷ 8 ∷ 9 ∷ 10 ∷ []
-
-abbrev others : List ℕ
-others = 0 ∷ 1 ∷ 2 ∷ 11 ∷ 12 ∷ 13 ∷ 14 ∷ 15 ∷ 16 ∷ []
-
-pub scheduling_by : (call : Call) → (OneOf theirs (tag_of the_type call) → is_scheduling call ≡ true) × (OneOf others (tag_of the_type call) → is_scheduling call ≡ false)
+-- a call that is none of the others is one of them
+pub is_scheduling-others : (call : Call)
+    → (call ≡ Call.Nothing → ⊥)
+    → (call ≡ Call.Unread → ⊥)
+    → ((b : Bounds) (rate : AutomationRate) (n : ℕ) → call ≡ Call.Make b rate n → ⊥)
+    → ((by : Renderer) (t : Float) (p : Float) (n : ℕ) (o : ℕ) (i : ℕ) → call ≡ Call.Block by t p n o i → ⊥)
+    → ((n : ℕ) → call ≡ Call.Lend n → ⊥)
+    → ((i : ℕ) (v : Float) → call ≡ Call.Poke i v → ⊥)
+    → (call ≡ Call.State → ⊥)
+    → (call ≡ Call.Save → ⊥)
+    → ((part : ℕ) (n : ℕ) (rate : AutomationRate) (edition : ℕ) → call ≡ Call.Load part n rate edition → ⊥)
+    → is_scheduling call ≡ true
 unfolding is_scheduling
-scheduling_by Call.Nothing = (λ h. absurd (miss theirs 0 tt h), λ h. refl)
-scheduling_by Call.Unread = (λ h. absurd (miss theirs 1 tt h), λ h. refl)
-scheduling_by (Call.Make b rate n) = (λ h. absurd (miss theirs 2 tt h), λ h. refl)
-scheduling_by (Call.Set v) = (λ h. refl, λ h. absurd (miss others 3 tt h))
-scheduling_by (Call.Step v t) = (λ h. refl, λ h. absurd (miss others 4 tt h))
-scheduling_by (Call.Linear v t) = (λ h. refl, λ h. absurd (miss others 5 tt h))
-scheduling_by (Call.Exponential v t) = (λ h. refl, λ h. absurd (miss others 6 tt h))
-scheduling_by (Call.Target v t c) = (λ h. refl, λ h. absurd (miss others 7 tt h))
-scheduling_by (Call.Curve t d n) = (λ h. refl, λ h. absurd (miss others 8 tt h))
-scheduling_by (Call.Cancel t) = (λ h. refl, λ h. absurd (miss others 9 tt h))
-scheduling_by (Call.Hold t) = (λ h. refl, λ h. absurd (miss others 10 tt h))
-scheduling_by (Call.Block by t p n o i) = (λ h. absurd (miss theirs 11 tt h), λ h. refl)
-scheduling_by (Call.Lend n) = (λ h. absurd (miss theirs 12 tt h), λ h. refl)
-scheduling_by (Call.Poke i v) = (λ h. absurd (miss theirs 13 tt h), λ h. refl)
-scheduling_by Call.State = (λ h. absurd (miss theirs 14 tt h), λ h. refl)
-scheduling_by Call.Save = (λ h. absurd (miss theirs 15 tt h), λ h. refl)
-scheduling_by (Call.Load part n rate edition) = (λ h. absurd (miss theirs 16 tt h), λ h. refl)
+is_scheduling-others Call.Nothing no_nothing no_unread no_make no_block no_lend no_poke no_state no_save no_load = absurd (no_nothing refl)
+is_scheduling-others Call.Unread no_nothing no_unread no_make no_block no_lend no_poke no_state no_save no_load = absurd (no_unread refl)
+is_scheduling-others (Call.Make b rate n) no_nothing no_unread no_make no_block no_lend no_poke no_state no_save no_load = absurd (no_make b rate n refl)
+is_scheduling-others (Call.Set v) no_nothing no_unread no_make no_block no_lend no_poke no_state no_save no_load = refl
+is_scheduling-others (Call.Step v t) no_nothing no_unread no_make no_block no_lend no_poke no_state no_save no_load = refl
+is_scheduling-others (Call.Linear v t) no_nothing no_unread no_make no_block no_lend no_poke no_state no_save no_load = refl
+is_scheduling-others (Call.Exponential v t) no_nothing no_unread no_make no_block no_lend no_poke no_state no_save no_load = refl
+is_scheduling-others (Call.Target v t k) no_nothing no_unread no_make no_block no_lend no_poke no_state no_save no_load = refl
+is_scheduling-others (Call.Curve t d n) no_nothing no_unread no_make no_block no_lend no_poke no_state no_save no_load = refl
+is_scheduling-others (Call.Cancel t) no_nothing no_unread no_make no_block no_lend no_poke no_state no_save no_load = refl
+is_scheduling-others (Call.Hold t) no_nothing no_unread no_make no_block no_lend no_poke no_state no_save no_load = refl
+is_scheduling-others (Call.Block by t p n o i) no_nothing no_unread no_make no_block no_lend no_poke no_state no_save no_load = absurd (no_block by t p n o i refl)
+is_scheduling-others (Call.Lend n) no_nothing no_unread no_make no_block no_lend no_poke no_state no_save no_load = absurd (no_lend n refl)
+is_scheduling-others (Call.Poke i v) no_nothing no_unread no_make no_block no_lend no_poke no_state no_save no_load = absurd (no_poke i v refl)
+is_scheduling-others Call.State no_nothing no_unread no_make no_block no_lend no_poke no_state no_save no_load = absurd (no_state refl)
+is_scheduling-others Call.Save no_nothing no_unread no_make no_block no_lend no_poke no_state no_save no_load = absurd (no_save refl)
+is_scheduling-others (Call.Load part n rate edition) no_nothing no_unread no_make no_block no_lend no_poke no_state no_save no_load = absurd (no_load part n rate edition refl)
+
+-- a call that is none of them is another
+pub is_scheduling-theirs : (call : Call)
+    → ((v : Float) → call ≡ Call.Set v → ⊥)
+    → ((v : Float) (t : Float) → call ≡ Call.Step v t → ⊥)
+    → ((v : Float) (t : Float) → call ≡ Call.Linear v t → ⊥)
+    → ((v : Float) (t : Float) → call ≡ Call.Exponential v t → ⊥)
+    → ((v : Float) (t : Float) (k : Float) → call ≡ Call.Target v t k → ⊥)
+    → ((t : Float) (d : Float) (n : ℕ) → call ≡ Call.Curve t d n → ⊥)
+    → ((t : Float) → call ≡ Call.Cancel t → ⊥)
+    → ((t : Float) → call ≡ Call.Hold t → ⊥)
+    → is_scheduling call ≡ false
+unfolding is_scheduling
+is_scheduling-theirs Call.Nothing no_set no_step no_linear no_exponential no_target no_curve no_cancel no_hold = refl
+is_scheduling-theirs Call.Unread no_set no_step no_linear no_exponential no_target no_curve no_cancel no_hold = refl
+is_scheduling-theirs (Call.Make b rate n) no_set no_step no_linear no_exponential no_target no_curve no_cancel no_hold = refl
+is_scheduling-theirs (Call.Set v) no_set no_step no_linear no_exponential no_target no_curve no_cancel no_hold = absurd (no_set v refl)
+is_scheduling-theirs (Call.Step v t) no_set no_step no_linear no_exponential no_target no_curve no_cancel no_hold = absurd (no_step v t refl)
+is_scheduling-theirs (Call.Linear v t) no_set no_step no_linear no_exponential no_target no_curve no_cancel no_hold = absurd (no_linear v t refl)
+is_scheduling-theirs (Call.Exponential v t) no_set no_step no_linear no_exponential no_target no_curve no_cancel no_hold = absurd (no_exponential v t refl)
+is_scheduling-theirs (Call.Target v t k) no_set no_step no_linear no_exponential no_target no_curve no_cancel no_hold = absurd (no_target v t k refl)
+is_scheduling-theirs (Call.Curve t d n) no_set no_step no_linear no_exponential no_target no_curve no_cancel no_hold = absurd (no_curve t d n refl)
+is_scheduling-theirs (Call.Cancel t) no_set no_step no_linear no_exponential no_target no_curve no_cancel no_hold = absurd (no_cancel t refl)
+is_scheduling-theirs (Call.Hold t) no_set no_step no_linear no_exponential no_target no_curve no_cancel no_hold = absurd (no_hold t refl)
+is_scheduling-theirs (Call.Block by t p n o i) no_set no_step no_linear no_exponential no_target no_curve no_cancel no_hold = refl
+is_scheduling-theirs (Call.Lend n) no_set no_step no_linear no_exponential no_target no_curve no_cancel no_hold = refl
+is_scheduling-theirs (Call.Poke i v) no_set no_step no_linear no_exponential no_target no_curve no_cancel no_hold = refl
+is_scheduling-theirs Call.State no_set no_step no_linear no_exponential no_target no_curve no_cancel no_hold = refl
+is_scheduling-theirs Call.Save no_set no_step no_linear no_exponential no_target no_curve no_cancel no_hold = refl
+is_scheduling-theirs (Call.Load part n rate edition) no_set no_step no_linear no_exponential no_target no_curve no_cancel no_hold = refl
 
 -- ---- its newline
 

@@ -1,5 +1,5 @@
 -- What the calls of a session do, and what is answered: the page's table over document 01's rules.
-use Rattle.std.specs.Prelude.{◌≡◌, Bool, true, false, List, [], ◌∷◌, ◌++◌, ℕ, zero, suc, ◌+◌, ◌*◌, ◌≤◌, ◌<◌, length, take, drop, set, replicate, Float}
+use Rattle.std.specs.Prelude.{◌≡◌, Bool, true, false, List, [], ◌∷◌, ◌++◌, ℕ, ◌+◌, ◌*◌, ◌≤◌, ◌<◌, length, take, drop, set, replicate, Float}
 use Rattle.std.proofs.Math.Option.{Option, none, some}
 use Rattle.std.specs.Float.{binary32}
 use Rattle.std.specs.Float.Ieee.{of_bits}
@@ -7,7 +7,6 @@ use Rattle.rules.specs.declared.Bounds.{Bounds}
 use Rattle.rules.specs.declared.AutomationRate.{AutomationRate}
 use Rattle.rules.specs.declared.Event.{Event}
 use Rattle.rules.specs.declared.Verdict.{Verdict}
-use Rattle.rules.specs.declared.Verdict.TheVariants as Verdict
 use Rattle.rules.specs.Numbers.{plus_zero, store_length}
 use Rattle.rules.specs.Queue.{attached, length_of, lengths_of}
 use Rattle.rules.specs.Refusals.{lowest, making_rows}
@@ -16,7 +15,6 @@ use Rattle.rules.specs.Block as rule
 use Rattle.text.specs.Put.{Put}
 use Rattle.calls.specs.Language.{Said, call_of}
 use Rattle.calls.specs.declared.Call.{Call}
-use Rattle.calls.specs.declared.Call.TheVariants as Call
 use Rattle.answers.specs.Answers.{verdict_text, saved_text, fault_text, block_text, rest_text, state_text, event_text, list_text, zeros_text, are_marks, are_zeros}
 use Rattle.costs.specs.declared.Totals.{Totals}
 use Rattle.costs.specs.Costs.{waiting_in, nothing, plus, command_cost, block_cost}
@@ -27,7 +25,6 @@ use Rattle.param.specs.declared.Outcome.{Outcome}
 use Rattle.param.specs.declared.Processed.{Processed}
 use Rattle.param.specs.Param.{param_of, struct_of, nothing_made, SoundParam}
 use Rattle.card.specs.declared.CardVerdict.{CardVerdict}
-use Rattle.card.specs.declared.CardVerdict.TheVariants as CardVerdict
 use Rattle.card.specs.declared.Judged.{Judged}
 use Rattle.card.specs.Card.{fault_number, Reader, begun, fed, read, Loaded, loaded, file_of, judged}
 use Rattle.card_reader.specs.declared.CardReader.{CardReader}

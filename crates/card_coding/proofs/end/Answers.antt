@@ -2,20 +2,18 @@
 use mathlib.Core.Path.{◌≡◌, refl}
 use mathlib.Core.Bool.{true}
 use native.Mathlib.Omega.{arith}
-use borrow.Author.Tests.{not-true, not-false}
 use Rattle.refusals.proofs.Rows.{found}
 use Rattle.card_coding.specs.Array.{is_card}
 use Rattle.card_coding.proofs.Kept.{passes, number_small, state_good, reader_sound, window_sound}
 use Rattle.card_coding.proofs.Ended.{ends_no_card, ends_no_state, ends_no_store, ends_refused, ends_kept, ends_left}
-use borrow.Author.Rules.{rules}
 use Rattle.card_coding.proofs.end.Goals as goal
 use Rattle.card_coding.proofs.end.Goals.{Else-not-is_card}
 
-good : (c : Else-not-is_card) → is_card c.before.before.before.before.before.before.before.before.args.card.now c.before.before.before.before.before.before.before.before.args.numbers.now c.before.before.before.before.before.before.before.before.args.window.now ≡ true
-good c = found c.is_card.ensures (not-false _ c.if-not-is_card.false)
+good : (c : Else-not-is_card) → is_card c.args.card.now c.args.numbers.now c.args.window.now ≡ true
+good c = found c.is_card.ensures c.if-not-is_card.false
 
 pub returns-then-not-is_card : goal.returns-then-not-is_card
-returns-then-not-is_card c = ends_no_card _ _ _ _ refl (found c.is_card.ensures (not-true _ c.if-not-is_card.true))
+returns-then-not-is_card c = ends_no_card _ _ _ _ refl (found c.is_card.ensures c.if-not-is_card.true)
 
 pub returns-then-state-ne-LENGTH : goal.returns-then-state-ne-LENGTH
 returns-then-state-ne-LENGTH c = ends_no_state _ _ _ _ refl c.if-state-ne-LENGTH.true

@@ -1,6 +1,5 @@
 -- `write` meets its contract. Assumes nothing.
 use Rattle.card_coding.proofs.Calls.{writes_bad, writes}
-use borrow.Author.Rules.{rules}
 use Rattle.card_coding.proofs.write.Goals as goal
 
 pub returns-in_default : goal.returns-in_default

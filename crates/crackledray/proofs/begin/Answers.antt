@@ -1,6 +1,5 @@
 -- `begin` meets its contract. Assumes nothing.
 use Rattle.crackledray.proofs.Closing.{begins_bad, begins}
-use borrow.Author.Rules.{rules}
 use Rattle.crackledray.proofs.begin.Goals as goal
 
 pub returns-then-state-ne-LENGTH : goal.returns-then-state-ne-LENGTH

@@ -1,7 +1,6 @@
 -- `close` meets its contract. Assumes nothing.
 use native.Mathlib.Omega.{arith}
 use Rattle.crackledray.proofs.Closing.{closes_answered, closes_refused}
-use borrow.Author.Rules.{rules}
 use Rattle.crackledray.proofs.close.Goals as goal
 
 pub returns-then-number-eq0 : goal.returns-then-number-eq0

@@ -2,7 +2,6 @@
 use mathlib.Core.Path.{refl}
 use Rattle.coding.proofs.Read.{answered_long}
 use Rattle.crackledray.proofs.Closing.{plays_bad, plays}
-use borrow.Author.Rules.{rules}
 use Rattle.crackledray.proofs.crackledray_block.Goals as goal
 
 pub returns-in_default : goal.returns-in_default

@@ -1,6 +1,5 @@
 -- `crackledray_card_open` meets its contract. Assumes nothing.
-use borrow.Author.Rules.{rules}
 use Rattle.crackledray.proofs.crackledray_card_open.Goals as goal
 
 pub returns : goal.returns
-returns c = rw c.rate_of.ensures at (goal.at.returns c).After-open.«open».ensures
+returns c = rw c.rate_of.ensures at c.open.ensures

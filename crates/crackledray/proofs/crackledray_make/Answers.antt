@@ -1,5 +1,4 @@
 -- `crackledray_make` meets its contract. Assumes nothing.
-use borrow.Author.Rules.{rules}
 use Rattle.crackledray.proofs.crackledray_make.Goals as goal
 
 pub returns : goal.returns

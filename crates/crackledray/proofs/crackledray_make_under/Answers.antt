@@ -1,5 +1,4 @@
 -- `crackledray_make_under` meets its contract. Assumes nothing.
-use borrow.Author.Rules.{rules}
 use Rattle.crackledray.proofs.crackledray_make_under.Goals as goal
 
 pub returns : goal.returns

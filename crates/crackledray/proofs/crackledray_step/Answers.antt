@@ -1,7 +1,6 @@
 -- `crackledray_step` meets its contract. Assumes nothing.
 use Rattle.coding.proofs.Read.{answered_long}
 use Rattle.crackledray.proofs.Closing.{tells_bad, tells}
-use borrow.Author.Rules.{rules}
 use Rattle.crackledray.proofs.crackledray_step.Goals as goal
 
 pub returns-in_default : goal.returns-in_default

@@ -1,6 +1,5 @@
 -- `number_of` meets its contract. Assumes nothing.
 use Rattle.crackledray.specs.Exported.{number_as}
-use borrow.Author.Rules.{rules}
 use Rattle.crackledray.proofs.number_of.Goals as goal
 
 pub returns-in-Answered : goal.returns-in-Answered

@@ -5,22 +5,20 @@ use native.Mathlib.Omega.{arith}
 use lib.Seq.{length-take-le}
 use Rattle.text.proofs.Writing.{put-nothing}
 use Rattle.desk.specs.Desk.{InRange, unread, answer_of}
-use Rattle.desk.proofs.Turns.{said, by_call, ranged, scheduling_by}
-use borrow.Author.Rules.{rules}
+use Rattle.desk.proofs.Turns.{said, by_call, ranged, is_scheduling-others}
 use Rattle.desk.proofs.answer.Goals as goal
 
 pub slice_bounds-block-end : goal.slice_bounds-block-end
 unfolding InRange
 slice_bounds-block-end c =
-    let s = c.before.before.before.before.before.before.before.before in
-    let h = ranged c.before.before.call2.given.1 s.requires.1 in
-    sym (length-take-le c.before.before.call2.given.0.1.1.1.1.1.0 s.args.numbers.now (omega (arith, h.1, s.requires.2)))
+    let h = ranged c.in-Block.is c.requires.1 in
+    sym (length-take-le c.in-Block.input c.args.numbers.now (omega (arith, h.1, c.requires.2)))
 
 pub block-requires : goal.block-requires
 unfolding InRange
 block-requires c =
-    let a = c.before.before.before.before.before.before.before.before.before.before.requires in
-    (a.0, (ranged c.before.before.before.before.call2.given.1 a.1).0, a.4, a.5)
+    let a = c.requires in
+    (a.0, (ranged c.in-Block.is a.1).0, a.4, a.5)
 
 pub lend-requires : goal.lend-requires
 unfolding InRange
@@ -41,20 +39,19 @@ slice_bounds-load-end c = let a = c.requires in omega (arith, (ranged c.in-Load.
 pub slice_bounds-load-end-in-Load : goal.slice_bounds-load-end-in-Load
 unfolding InRange
 slice_bounds-load-end-in-Load c =
-    let s = c.before.before.before.before.before.before.before.before in
-    let h = ranged c.before.before.call5.given.1 s.requires.1 in
-    sym (length-take-le c.before.before.call5.given.0.1.0 s.args.file.now (omega (arith, h.2, s.requires.3)))
+    let h = ranged c.in-Load.is c.requires.1 in
+    sym (length-take-le c.in-Load.len c.args.file.now (omega (arith, h.2, c.requires.3)))
 
 pub load-requires : goal.load-requires
 unfolding InRange
 load-requires c =
-    let a = c.before.before.before.before.before.before.before.before.before.before.requires in
-    let h = ranged c.before.before.before.before.call5.given.1 a.1 in
+    let a = c.requires in
+    let h = ranged c.in-Load.is a.1 in
     (a.0, h.0, h.1, a.4, a.5)
 
 pub answer_scheduling-requires : goal.answer_scheduling-requires
 answer_scheduling-requires c =
-    (c.requires.0, c.requires.1, (scheduling_by c.args.call).0 c.in_default-own.keys10, c.requires.2, c.requires.4, c.requires.5)
+    (c.requires.0, c.requires.1, is_scheduling-others c.args.call c.in_default.not-Nothing c.in_default.not-Unread c.in_default.not-Make c.in_default.not-Block c.in_default.not-Lend c.in_default.not-Poke c.in_default.not-State c.in_default.not-Save c.in_default.not-Load, c.requires.2, c.requires.4, c.requires.5)
 
 pub returns-in-Nothing : goal.returns-in-Nothing
 unfolding answer_of
@@ -73,7 +70,7 @@ returns-in-Make c = let a = c.args in by_call a.numbers.now a.file.now c.in-Make
 
 pub returns-in-Block : goal.returns-in-Block
 unfolding answer_of
-returns-in-Block c = let a = c.before.before.before.before.before.before.before.before.before.before.before.before.before.before.before.args in by_call a.numbers.now a.file.now c.before.before.before.before.before.before.before.before.before.call2.given.1 c.block.ensures
+returns-in-Block c = let a = c.args in by_call a.numbers.now a.file.now c.in-Block.is c.block.ensures
 
 pub returns-in-Lend : goal.returns-in-Lend
 unfolding answer_of
@@ -85,15 +82,15 @@ returns-in-Poke c = let a = c.args in by_call a.numbers.now a.file.now c.in-Poke
 
 pub returns-in-State : goal.returns-in-State
 unfolding answer_of
-returns-in-State c = let a = c.before.before.before.before.before.before.before.before.before.before.before.args in by_call a.numbers.now a.file.now c.before.before.before.before.before.enum-told3.given.1 c.state.ensures
+returns-in-State c = let a = c.args in by_call a.numbers.now a.file.now c.in-State.is c.state.ensures
 
 pub returns-in-Save : goal.returns-in-Save
 unfolding answer_of
-returns-in-Save c = let a = c.before.before.before.before.before.before.before.before.before.before.before.before.before.before.args in by_call a.numbers.now a.file.now c.before.before.before.before.before.before.before.before.enum-told4.given.1 c.save.ensures
+returns-in-Save c = let a = c.args in by_call a.numbers.now a.file.now c.in-Save.is c.save.ensures
 
 pub returns-in-Load : goal.returns-in-Load
 unfolding answer_of
-returns-in-Load c = let a = c.before.before.before.before.before.before.before.before.before.before.before.before.before.before.before.args in by_call a.numbers.now a.file.now c.before.before.before.before.before.before.before.before.before.call5.given.1 c.load.ensures
+returns-in-Load c = let a = c.args in by_call a.numbers.now a.file.now c.in-Load.is c.load.ensures
 
 pub returns-in_default : goal.returns-in_default
 returns-in_default c = c.answer_scheduling.ensures c.args.file.now

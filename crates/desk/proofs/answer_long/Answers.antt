@@ -3,7 +3,6 @@ use mathlib.Core.Path.{refl}
 use native.Mathlib.Omega.{arith}
 use Rattle.desk.specs.Desk.{unread, with_newline}
 use Rattle.desk.proofs.Turns.{said}
-use borrow.Author.Rules.{rules}
 use Rattle.desk.proofs.answer_long.Goals as goal
 
 pub returns : goal.returns

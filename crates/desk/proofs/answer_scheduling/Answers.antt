@@ -5,16 +5,14 @@ use native.Mathlib.Nat.{le_trans}
 use native.Mathlib.Omega.{arith}
 use lib.Seq.{length-take-le}
 use Rattle.desk.specs.Desk.{InRange, answer_of}
-use Rattle.desk.proofs.Turns.{by_call, ranged, scheduling_by}
-use borrow.Author.Rules.{rules}
+use Rattle.desk.proofs.Turns.{by_call, ranged, is_scheduling-theirs}
 use Rattle.desk.proofs.answer_scheduling.Goals as goal
 
 pub slice_bounds-curve-end : goal.slice_bounds-curve-end
 unfolding InRange
 slice_bounds-curve-end c =
-    let s = c.before.before.before.before.before.before.before in
-    let h = ranged c.before.before.call6.given.1 s.requires.1 in
-    sym (length-take-le c.before.before.call6.given.0.1.1.0 s.args.numbers.now (le_trans h s.requires.3))
+    let h = ranged c.in-Curve.is c.requires.1 in
+    sym (length-take-le c.in-Curve.len c.args.numbers.now (le_trans h c.requires.3))
 
 pub returns-in-Set : goal.returns-in-Set
 unfolding answer_of
@@ -48,7 +46,7 @@ returns-in-Target c =
 
 pub returns-in-Curve : goal.returns-in-Curve
 unfolding answer_of
-returns-in-Curve c = λ file. by_call c.before.before.before.before.before.before.before.before.before.before.before.before.before.before.args.numbers.now file c.before.before.before.before.before.before.before.before.before.call6.given.1 c.curve.ensures
+returns-in-Curve c = λ file. by_call c.args.numbers.now file c.in-Curve.is c.curve.ensures
 
 pub returns-in-Cancel : goal.returns-in-Cancel
 unfolding answer_of
@@ -60,6 +58,6 @@ returns-in-Hold c = λ file. by_call c.args.numbers.now file c.in-Hold.is c.hold
 
 pub returns-in_default : goal.returns-in_default
 returns-in_default c =
-    let e = (scheduling_by c.args.call).1 c.in_default-own.keys9 in
+    let e = is_scheduling-theirs c.args.call c.in_default.not-Set c.in_default.not-Step c.in_default.not-Linear c.in_default.not-Exponential c.in_default.not-Target c.in_default.not-Curve c.in_default.not-Cancel c.in_default.not-Hold in
     let z : ◌≡◌ {A = ℕ} 0 1 = cc in
     absurd (omega arith)

@@ -7,7 +7,6 @@ use Rattle.param.specs.declared.AudioParam.{AudioParam}
 use Rattle.param.specs.Param.{struct_of}
 use Rattle.desk.specs.Desk.{desk_of}
 use Rattle.desk.proofs.Turns.{no_range}
-use borrow.Author.Rules.{rules}
 use Rattle.desk.proofs.at_first.Goals as goal
 
 pub returns : goal.returns

@@ -1,6 +1,5 @@
 -- `desk::block` meets its contract: the output is marked. Assumes nothing.
 use Rattle.desk.proofs.Blocks.{marked, marks_long, with_output}
-use borrow.Author.Rules.{rules}
 use Rattle.desk.proofs.block.Goals as goal
 
 pub slice_bounds-play-end : goal.slice_bounds-play-end

@@ -1,10 +1,10 @@
 -- `desk::clear` meets its contract. The invariant of its loop: so many numbers are +0. Assumes nothing.
-use mathlib.Core.Path.{◌≡◌, refl, ap, ◌∙◌}
+use mathlib.Core.Path.{refl, ap, ◌∙◌}
 use mathlib.Core.List.{List, ◌++◌, append-nil}
-use Prim.Native.Nat.{ℕ, ◌-◌, ◌≤◌}
+use Prim.Native.Nat.{ℕ, ◌≤◌}
 use native.Mathlib.Nat.{le_antisymm}
 use native.Mathlib.Omega.{arith}
-use lib.ListN.{length, drop, set, replicate, length-set, drop_of_length-le}
+use lib.ListN.{length, drop, set, replicate, drop_of_length-le}
 use lib.Ieee.{Float, binary32, of_bits}
 use borrow.Author.Rules.{rules}
 use Rattle.rules.specs.Numbers.{plus_zero}

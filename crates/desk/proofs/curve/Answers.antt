@@ -3,7 +3,6 @@ use mathlib.Core.Path.{sym, subst}
 use Prim.Native.Nat.{ℕ, ◌≤◌}
 use lib.Seq.{length-take-le}
 use Rattle.desk.proofs.Turns.{lent}
-use borrow.Author.Rules.{rules}
 use Rattle.desk.proofs.curve.Goals as goal
 
 pub slice_bounds-set_value_curve_at_time-end-2 : goal.slice_bounds-set_value_curve_at_time-end-2

@@ -1,6 +1,5 @@
 -- `desk::exponential` meets its contract: what the call ensures, whatever the store is. Assumes nothing.
 use Rattle.desk.proofs.Turns.{storeless_exponential, alone}
-use borrow.Author.Rules.{rules}
 use Rattle.desk.proofs.exponential.Goals as goal
 
 pub returns : goal.returns

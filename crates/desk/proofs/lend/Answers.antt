@@ -4,7 +4,6 @@ use native.Mathlib.Omega.{arith}
 use Rattle.answers.specs.Answers.{verdict_text}
 use Rattle.desk.specs.Desk.{lending}
 use Rattle.desk.proofs.Turns.{said}
-use borrow.Author.Rules.{rules}
 use Rattle.desk.proofs.lend.Goals as goal
 
 pub returns : goal.returns

@@ -1,6 +1,5 @@
 -- `desk::linear` meets its contract: what the call ensures, whatever the store is. Assumes nothing.
 use Rattle.desk.proofs.Turns.{storeless_linear, alone}
-use borrow.Author.Rules.{rules}
 use Rattle.desk.proofs.linear.Goals as goal
 
 pub returns : goal.returns

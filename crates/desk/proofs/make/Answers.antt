@@ -1,6 +1,5 @@
 -- `desk::make` meets its contract: what the constructor ensures, and the store cleared. Assumes nothing.
 use Rattle.desk.proofs.Turns.{made-spoken}
-use borrow.Author.Rules.{rules}
 use Rattle.desk.proofs.make.Goals as goal
 
 pub returns : goal.returns

@@ -3,7 +3,6 @@ use mathlib.Core.Path.{sym, subst}
 use Prim.Native.Nat.{ℕ, ◌≤◌}
 use lib.Seq.{length-take-le}
 use Rattle.desk.proofs.Blocks.{block_fits, played}
-use borrow.Author.Rules.{rules}
 use Rattle.desk.proofs.play.Goals as goal
 
 pub slice_bounds-render-end-2 : goal.slice_bounds-render-end-2
@@ -12,13 +11,11 @@ slice_bounds-render-end-2 c =
 
 pub put_processed-next-requires : goal.put_processed-next-requires
 put_processed-next-requires c =
-    let a = c.before.before.before.before.before.before.before.before.before.before.before.before.before.before in
-    (block_fits _ _ _ _ _ a.args.desk a.args.store.now c.before.before.before.before.before.before.render.ensures, a.requires.2)
+    (block_fits _ _ _ _ _ c.args.desk c.args.store.now c.render-r.ensures, c.requires.2)
 
 pub played-desk-requires : goal.played-desk-requires
-played-desk-requires c = (c.before.before.before.before.before.before.before.before.before.before.before.before.before.before.before.before.before.requires.0.param, c.before.before.before.before.before.before.before.before.before.render.ensures.sound)
+played-desk-requires c = (c.requires.0.param, c.render-r.ensures.sound)
 
 pub returns : goal.returns
 returns c =
-    let a = c.before.before.before.before.before.before.before.before.before.before.before.before.before.before.before.before.before.before in
-    played _ _ _ _ _ a.args.desk a.args.store.now c.before.before.before.before.before.before.before.before.before.before.render.ensures a.requires.0 c.played-desk.ensures c.put_processed-next.ensures.put c.put_processed-next.ensures.upper_bound
+    played _ _ _ _ _ c.args.desk c.args.store.now c.render-r.ensures c.requires.0 c.played-desk.ensures c.put_processed-next.ensures.put c.put_processed-next.ensures.upper_bound

@@ -1,5 +1,4 @@
 -- `desk::played` meets its contract: how many wait before and after, and what that cost. Assumes nothing.
-use borrow.Author.Rules.{rules}
 use Rattle.desk.proofs.played.Goals as goal
 
 pub returns : goal.returns

@@ -1,15 +1,12 @@
 -- `desk::put_queue` meets its contract. The invariant of its loop: with the events left written behind, all are written. Assumes nothing.
-use mathlib.Core.Path.{◌≡◌, refl, sym, subst}
-use mathlib.Core.List.{List}
-use Prim.Native.Nat.{ℕ, ◌+◌, ◌-◌, ◌*◌, ◌≤◌, ◌<◌}
+use mathlib.Core.Path.{refl, sym, subst}
+use Prim.Native.Nat.{ℕ, ◌≤◌, ◌<◌}
 use native.Mathlib.Omega.{arith}
-use lib.ListN.{length, take, drop}
+use lib.ListN.{length}
 use borrow.Author.Rules.{rules}
 use Rattle.rules.specs.Queue.{lengths_of}
 use Rattle.param.specs.Param.{param_of}
-use Rattle.text.specs.Put.{Put}
 use Rattle.text.proofs.Writing.{put-nothing, put_same, put_then}
-use Rattle.desk.specs.Desk.{queue_text}
 use Rattle.desk.proofs.Queues.{next_text, next_width, last_text_lem, all_width}
 use Rattle.desk.proofs.put_queue.Goals as goal
 
@@ -32,7 +29,7 @@ loop-i-preserved c =
     let l = c.loop-i in
     let w = next_width (param_of c.args.p).queue l.i (subst (λ (k : ℕ). c.loop-i.i < k) c.len-n.ensures c.loop-i-test.true) in (
       search rules,
-      omega (arith, l.invariant.1, c.put_waiting-next.auto.1.1.1.0),
+      omega (arith, l.invariant.1, c.put_waiting-next.auto.out),
       omega (arith, l.invariant.2, w, c.put_waiting-next.ensures.upper_bound),
       λ F r p. l.invariant.3 F r (put_same (sym (next_text (param_of c.args.p).queue l.i c.args.store.now)) (put_then c.put_waiting-next.ensures.put p (omega (arith, l.invariant.1, l.invariant.2, w, c.put_waiting-next.ensures.upper_bound, c.requires.2)))),
     )
@@ -42,6 +39,6 @@ returns c =
     let l = c.loop-i in
     let past : length (param_of c.args.p).queue ≤ l.i = subst (λ (k : ℕ). k ≤ l.i) c.len-n.ensures c.loop-i-test.false in
     record {
-    put = l.invariant.3 _ _ (put_same (sym (last_text_lem (param_of c.args.p).queue l.i _ past)) (put-nothing _ _));
-    upper_bound = omega (arith, l.invariant.2);
-  }
+      put = l.invariant.3 _ _ (put_same (sym (last_text_lem (param_of c.args.p).queue l.i _ past)) (put-nothing _ _));
+      upper_bound = omega (arith, l.invariant.2);
+    }

@@ -1,16 +1,12 @@
 -- `desk::put_queue` meets its contract. The invariant of its loop: with the events left written behind, all are written. Assumes nothing.
-use mathlib.Core.Path.{◌≡◌, refl, sym, subst}
+use mathlib.Core.Path.{◌≡◌}
 use mathlib.Core.List.{List}
-use Prim.Native.Nat.{ℕ, ◌+◌, ◌-◌, ◌*◌, ◌≤◌, ◌<◌}
-use native.Mathlib.Omega.{arith}
+use Prim.Native.Nat.{ℕ, ◌+◌, ◌-◌, ◌*◌, ◌≤◌}
 use lib.ListN.{length, take, drop}
-use borrow.Author.Rules.{rules}
 use Rattle.rules.specs.Queue.{lengths_of}
 use Rattle.param.specs.Param.{param_of}
 use Rattle.text.specs.Put.{Put}
-use Rattle.text.proofs.Writing.{put-nothing, put_same, put_then}
 use Rattle.desk.specs.Desk.{queue_text}
-use Rattle.desk.proofs.Queues.{next_text, next_width, last_text_lem, all_width}
 use Rattle.desk.proofs.put_queue.Given as goal
 
 abbrev pub invariant-loop-i : goal.invariant-loop-i

@@ -1,5 +1,4 @@
 -- `desk::render` meets its contract: either renderer's block ensures the same. Assumes nothing.
-use borrow.Author.Rules.{rules}
 use Rattle.desk.proofs.render.Goals as goal
 
 pub returns-in-Fast : goal.returns-in-Fast

@@ -1,6 +1,5 @@
 -- `desk::set` meets its contract: what the call ensures, whatever the store is. Assumes nothing.
 use Rattle.desk.proofs.Turns.{storeless_set, alone}
-use borrow.Author.Rules.{rules}
 use Rattle.desk.proofs.set.Goals as goal
 
 pub returns : goal.returns

@@ -1,6 +1,5 @@
 -- `desk::step` meets its contract: what the call ensures, whatever the store is. Assumes nothing.
 use Rattle.desk.proofs.Turns.{storeless_step, alone}
-use borrow.Author.Rules.{rules}
 use Rattle.desk.proofs.step.Goals as goal
 
 pub returns : goal.returns

@@ -1,6 +1,5 @@
 -- `desk::target` meets its contract: what the call ensures, whatever the store is. Assumes nothing.
 use Rattle.desk.proofs.Turns.{storeless_target, alone}
-use borrow.Author.Rules.{rules}
 use Rattle.desk.proofs.target.Goals as goal
 
 pub returns : goal.returns

@@ -1,6 +1,5 @@
 -- `array::bytes_counted` meets its contract. Assumes nothing.
 use native.Mathlib.Numerals.{add-one}
-use borrow.Author.Rules.{rules}
 use Rattle.card_coding.proofs.array.bytes_counted.Goals as goal
 
 pub returns-then-ranged : goal.returns-then-ranged

@@ -1,6 +1,5 @@
 -- `array::is_counted` meets its contract. Assumes nothing.
 use Rattle.card_coding.proofs.Kept.{uncounted, counted}
-use borrow.Author.Rules.{rules}
 use Rattle.card_coding.proofs.array.is_counted.Goals as goal
 
 pub returns-in_default : goal.returns-in_default

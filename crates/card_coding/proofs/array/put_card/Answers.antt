@@ -1,6 +1,5 @@
 -- `array::put_card` meets its contract. Assumes nothing.
 use Rattle.card_coding.proofs.Kept.{puts_card}
-use borrow.Author.Rules.{rules}
 use Rattle.card_coding.proofs.array.put_card.Goals as goal
 
 pub returns : goal.returns

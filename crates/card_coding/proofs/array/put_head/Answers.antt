@@ -2,7 +2,6 @@
 use Rattle.card_coding.proofs.Kept.{puts_head}
 use native.Mathlib.Omega.{arith}
 use lib.ListN.{length-set}
-use borrow.Author.Rules.{rules}
 use Rattle.card_coding.proofs.array.put_head.Goals as goal
 
 pub bounds-card-4 : goal.bounds-card-4

@@ -1,6 +1,5 @@
 -- `array::reader_in` meets its contract. Assumes nothing.
 use Rattle.card_coding.proofs.Kept.{reads_card}
-use borrow.Author.Rules.{rules}
 use Rattle.card_coding.proofs.array.reader_in.Goals as goal
 
 pub returns : goal.returns

@@ -1,7 +1,6 @@
 -- `array::verdict_number` meets its contract. Assumes nothing.
 use native.Mathlib.Omega.{arith}
 use Rattle.card_coding.specs.Array.{verdict_number}
-use borrow.Author.Rules.{rules}
 use Rattle.card_coding.proofs.array.verdict_number.Goals as goal
 
 pub returns-in-Answered : goal.returns-in-Answered

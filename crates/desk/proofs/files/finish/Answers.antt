@@ -8,7 +8,6 @@ use Rattle.costs.specs.Costs.{plus}
 use Rattle.costs.specs.Seen.{command_seen}
 use Rattle.tally.specs.Tally.{kept}
 use Rattle.desk.proofs.Schedules.{cleared_behind, answered_load, refused_load}
-use borrow.Author.Rules.{rules}
 use Rattle.desk.proofs.files.finish.Goals as goal
 
 pub slice_bounds-finish-end-2 : goal.slice_bounds-finish-end-2
@@ -24,7 +23,7 @@ returns-in-Answered c =
     let lent = length-take-le 4096 store (omega (arith, c.requires.3)) in
     answered_load _ c.args.desk store c.requires.0 f.ensures c.in-Answered.is refl
     (c.after_command-totals.ensures ∙ ap (λ (t : Totals). kept (plus t (command_seen 0 c.len.result))) c.none.ensures) c.len.ensures
-    (cleared_behind f.new.store (drop 4096 store) _ (f.auto.1.1.1.1.0 ∙ lent) (length-drop 4096 store ∙ omega (arith, c.requires.3)) c.clear.ensures) c.put_word-next.ensures
+    (cleared_behind f.new.store (drop 4096 store) _ (f.auto.store ∙ lent) (length-drop 4096 store ∙ omega (arith, c.requires.3)) c.clear.ensures) c.put_word-next.ensures
 
 pub returns-in-Refused : goal.returns-in-Refused
 returns-in-Refused c =

@@ -1,6 +1,5 @@
 -- `desk::files::load` meets its contract: a window, numbers of its own, and the file read. Assumes nothing.
 use Rattle.desk.proofs.Schedules.{by_reading}
-use borrow.Author.Rules.{rules}
 use Rattle.desk.proofs.files.load.Goals as goal
 
 pub returns : goal.returns

@@ -8,36 +8,32 @@ use Rattle.text.proofs.Writing.{put_same}
 use Rattle.answers.specs.Answers.{fault_text}
 use Rattle.card.specs.declared.CardVerdict.{CardVerdict}
 use Rattle.desk.specs.Desk.{file_line}
-use borrow.Author.Rules.{rules}
 use Rattle.desk.proofs.files.put_written.Goals as goal
 
 pub slice_bounds-put_saved-end : goal.slice_bounds-put_saved-end
 slice_bounds-put_saved-end c =
-    let a = c.before.before.before.before.before.before in
-    sym (length-take-le a.args.said.at a.args.file.now (a.requires.0 c.before.before.enum_told.given.1).0)
+    sym (length-take-le c.args.said.at c.args.file.now (c.requires.0 c.in-Answered.is).0)
 
 pub put_saved-requires : goal.put_saved-requires
 put_saved-requires c =
-    let a = c.before.before.before.before.before.before in
-    let h = a.requires.0 c.before.before.enum_told.given.1 in
-    omega (arith, h.1, length-take-le a.args.said.at a.args.file.now h.0, a.requires.1)
+    let h = c.requires.0 c.in-Answered.is in
+    omega (arith, h.1, length-take-le c.args.said.at c.args.file.now h.0, c.requires.1)
 
 pub returns-in-Answered : goal.returns-in-Answered
 unfolding file_line
 returns-in-Answered c =
-    let a = c.before.before.before.before.before.before.before.before.before in
-    let h = a.requires.0 c.before.before.before.before.before.enum_told.given.1 in
+    let h = c.requires.0 c.in-Answered.is in
     record {
-    put = put_same (ap (λ (v : CardVerdict). file_line v a.args.said.at (take a.args.said.at a.args.file.now)) (sym c.before.before.before.before.before.enum_told.given.1)) c.put_saved.ensures.put;
-    upper_bound = omega (arith, h.1, length-take-le a.args.said.at a.args.file.now h.0, c.put_saved.ensures.upper_bound);
-  }
+      put = put_same (ap (λ (v : CardVerdict). file_line v c.args.said.at (take c.args.said.at c.args.file.now)) (sym c.in-Answered.is)) c.put_saved.ensures.put;
+      upper_bound = omega (arith, h.1, length-take-le c.args.said.at c.args.file.now h.0, c.put_saved.ensures.upper_bound);
+    }
 
 pub returns-in-Refused : goal.returns-in-Refused
 unfolding file_line
 returns-in-Refused c = record {
-    put = put_same
-          (ap (λ (n : ℕ). fault_text n c.args.said.at) c.number_of.ensures
-          ∙ ap (λ (v : CardVerdict). file_line v c.args.said.at (take c.args.said.at c.args.file.now)) (sym c.in-Refused.is))
-          c.put_fault.ensures.put;
-    upper_bound = omega (arith, c.put_fault.ensures.upper_bound);
-  }
+  put = put_same
+      (ap (λ (n : ℕ). fault_text n c.args.said.at) c.number_of.ensures
+      ∙ ap (λ (v : CardVerdict). file_line v c.args.said.at (take c.args.said.at c.args.file.now)) (sym c.in-Refused.is))
+      c.put_fault.ensures.put;
+  upper_bound = omega (arith, c.put_fault.ensures.upper_bound);
+}
