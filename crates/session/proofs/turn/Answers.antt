@@ -12,7 +12,7 @@ returns c =
     let w = left-within _ _ c.make_room-left.ensures r.lines in
     record {
       desk = r.desk;
-      lines = record { ordered = omega (arith, w.ordered); inside = omega (arith, c.in_ok-n.ensures, c.read_more-n.auto.input) };
+      lines = record { ordered = omega (arith, w.ordered); inside = omega (arith, c.in_ok-n.ensures, c.read_more.auto.input) };
       at = zero-le;
       lent = r.lent;
     }
