@@ -1,6 +1,5 @@
 -- `bench::say_self_test` meets its contract. Assumes nothing.
 use Rattle.sheet.proofs.Counts.{few_samples}
-use borrow.Author.Rules.{rules}
 use Rattle.bench.proofs.say_self_test.Goals as goal
 
 pub say_row-requires : goal.say_row-requires
