@@ -2,7 +2,6 @@
 use Rattle.std.specs.Prelude.{◌≡◌, List, [], ◌++◌, ℕ, zero, suc, ◌-◌, ◌≤◌, length, take, drop, Float}
 use Rattle.lines.specs.declared.Lines.{Lines}
 use Rattle.lines.specs.declared.Next.{Next}
-use Rattle.lines.specs.declared.Next.TheVariants as Next
 use Rattle.lines.specs.Lines.{Within, next_of}
 use Rattle.desk.specs.declared.Desk.{Desk}
 use Rattle.desk.specs.Desk.{SoundDesk, Table, Turn, Spoken, unchanged, unread, with_newline, line_turn}

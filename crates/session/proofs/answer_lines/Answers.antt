@@ -48,15 +48,15 @@ loop-at-preserved c =
 pub returns-after-loop-at : goal.returns-after-loop-at
 returns-after-loop-at c = let l = c.loop-at.invariant in
     record {
-    going = l.0;
-    through = l.1;
-    lines_value = λ h. absurd (omega (arith, c.loop-at-test.false, l.5, h));
-  }
+      going = l.0;
+      through = l.1;
+      lines_value = λ h. absurd (omega (arith, c.loop-at-test.false, l.5, h));
+    }
 
 pub returns-then-rest-lines : goal.returns-then-rest-lines
 returns-then-rest-lines c = let l = c.loop-at.invariant in
     record {
-    going = l.0;
-    through = l.1;
-    lines_value = λ h. none_taken _ _ l.0.lines c.next_line-t.ensures c.if-rest-lines.true;
-  }
+      going = l.0;
+      through = l.1;
+      lines_value = λ h. none_taken _ _ l.0.lines c.next_line-t.ensures c.if-rest-lines.true;
+    }

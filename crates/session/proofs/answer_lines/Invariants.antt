@@ -1,11 +1,8 @@
 -- `session::answer_lines` meets its contract: with each line that is taken one more is answered, and fewer bytes are left. Assumes nothing.
-use mathlib.Core.Path.{◌≡◌, refl}
+use mathlib.Core.Path.{◌≡◌}
 use Prim.Native.Nat.{◌-◌}
-use native.Mathlib.Omega.{arith}
 use lib.ListN.{length}
-use Rattle.lines.proofs.Taking.{taken_in, rest_in, fewer_left, none_taken}
 use Rattle.session.specs.Session.{Going, Through}
-use Rattle.session.proofs.Steps.{none_answered, one_answered}
 use Rattle.session.proofs.answer_lines.Given as goal
 
 abbrev pub invariant-loop-at : goal.invariant-loop-at

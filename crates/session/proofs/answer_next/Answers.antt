@@ -6,7 +6,6 @@ use Rattle.desk.proofs.Turns.{said}
 use Rattle.lines.proofs.Taking.{line_in}
 use Rattle.session.specs.Session.{next_turn}
 use Rattle.session.proofs.Steps.{by_next}
-use borrow.Author.Rules.{rules}
 use Rattle.session.proofs.answer_next.Goals as goal
 
 pub slice_bounds-answer_line-count : goal.slice_bounds-answer_line-count
