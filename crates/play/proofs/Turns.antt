@@ -1,5 +1,5 @@
 -- From an answer of the session language to the one for a person. Assumes nothing.
-use mathlib.Core.Path.{◌≡◌, refl, sym, ap, ◌∙◌, subst}
+use mathlib.Core.Path.{◌≡◌, sym, ap, ◌∙◌, subst}
 use mathlib.Core.Bool.{true, false}
 use mathlib.Core.List.{List, [], ◌∷◌, ◌++◌, append_assoc}
 use mathlib.Core.Option.{Option, none, some}
@@ -22,7 +22,7 @@ use Rattle.clashes.specs.Clashes.{clash_of, clash_text}
 use Rattle.param.specs.Param.{param_of}
 use Rattle.desk.specs.declared.Desk.{Desk}
 use Rattle.desk.specs.declared.Answered.{Answered}
-use Rattle.desk.specs.Desk.{Table, Turn, table_of, SoundDesk, Spoken, unchanged, said_turn, with_newline, line_turn}
+use Rattle.desk.specs.Desk.{Table, Turn, table_of, Spoken, unchanged, said_turn, with_newline, line_turn}
 use Rattle.play.specs.Played.{not_read, clash_in, told, strict_turn, cost_turn, read_turn, translated_turn, plain_turn}
 
 -- ---- an answer without its newline, and what is told of it

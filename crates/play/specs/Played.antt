@@ -11,7 +11,6 @@ use Rattle.decimal.specs.Codes.{codes}
 use Rattle.wording.specs.Plain.{translation}
 use Rattle.replies.specs.Plain.{reply}
 use Rattle.clashes.specs.declared.Clash.{Clash}
-use Rattle.clashes.specs.declared.Clash.TheVariants as Clash
 use Rattle.clashes.specs.Clashes.{clash_of, clash_text}
 use Rattle.lines.specs.declared.Lines.{Lines}
 use Rattle.lines.specs.Lines.{Within}

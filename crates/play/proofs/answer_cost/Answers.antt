@@ -7,7 +7,6 @@ use Rattle.tally.specs.Tally.{cost_text}
 use Rattle.desk.specs.Desk.{with_newline}
 use Rattle.desk.proofs.Turns.{said}
 use Rattle.play.specs.Played.{cost_turn}
-use borrow.Author.Rules.{rules}
 use Rattle.play.proofs.answer_cost.Goals as goal
 
 pub returns : goal.returns

@@ -4,7 +4,6 @@ use native.Mathlib.Omega.{arith}
 use Rattle.text.proofs.Writing.{put_then}
 use Rattle.desk.specs.Desk.{with_newline}
 use Rattle.desk.proofs.Turns.{said}
-use borrow.Author.Rules.{rules}
 use Rattle.play.proofs.answer_not_read.Goals as goal
 
 pub returns : goal.returns

@@ -1,7 +1,6 @@
 -- `play::answer_read` meets its contract: `cost`, or a call of the session language. Assumes nothing.
 use mathlib.Core.Path.{sym, ◌∙◌}
 use Rattle.play.proofs.Turns.{read_cost, read_strict, spoken-same}
-use borrow.Author.Rules.{rules}
 use Rattle.play.proofs.answer_read.Goals as goal
 
 pub returns-then-same : goal.returns-then-same

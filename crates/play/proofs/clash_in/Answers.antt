@@ -4,7 +4,6 @@ use Rattle.timeline.specs.declared.AudioParamEventTimeline.{AudioParamEventTimel
 use Rattle.timeline.specs.Timeline.{waiting, Neat}
 use Rattle.clashes.specs.Clashes.{clash_of}
 use Rattle.play.proofs.Turns.{heard_clash}
-use borrow.Author.Rules.{rules}
 use Rattle.play.proofs.clash_in.Goals as goal
 
 pub clash_of-requires : goal.clash_of-requires

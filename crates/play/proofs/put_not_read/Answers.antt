@@ -1,9 +1,7 @@
 -- `play::put_not_read` meets its contract: three parts, one behind the other. Assumes nothing.
 use native.Mathlib.Omega.{arith}
-use Rattle.text.specs.Digits.{decimal_of}
 use Rattle.text.proofs.Writing.{put_then, length_decimal}
 use Rattle.play.specs.Played.{not_read}
-use borrow.Author.Rules.{rules}
 use Rattle.play.proofs.put_not_read.Goals as goal
 
 pub put_word-requires : goal.put_word-requires
@@ -18,6 +16,6 @@ returns c =
     let v = c.put_word.ensures in
     let most = length_decimal c.args.n in
     record {
-    put = put_then w (put_then n v (omega (arith, w.place, n.place, most))) (omega (arith, w.place));
-    upper_bound = omega (arith, w.place, n.place, v.place, most);
-  }
+      put = put_then w (put_then n v (omega (arith, w.place, n.place, most))) (omega (arith, w.place));
+      upper_bound = omega (arith, w.place, n.place, v.place, most);
+    }
