@@ -19,7 +19,7 @@ RESERVED = set("data record deriving module where use mod pub package open as un
 FACTS = {"means": "Means", "unread": "IsUnread", "says": "Says", "reads": "Reads", "refuses": "Refuses", "shows": "Shows", "every": "Every"}
 FACT_FILES = ("Examples.antt", "Passes.antt")
 # where two names fall together, or one would hide a parameter or a field of src/
-OTHER = {"walkIs": "walk_as", "is-nan": "is_nan_lem", "four_bytes": "four_bytes"}
+OTHER = {"walkIs": "walk_as", "is-nan": "is_nan_lem", "four_bytes": "four_bytes_lem"}
 HERE = {"playing/proofs/Cancels.antt": {"in_order": "in_order_lem"}}
 # functions of src/, which no clause can name
 FUNCTIONS = {("desk/src/lib.rt", "after_command"), ("text/src/words.rt", "count_in")}

@@ -2,7 +2,6 @@
 use lib.Ieee.{of_bits}
 use Rattle.param.proofs.AudioParam.after.Goals as goal
 
--- src/process.rt:41:5
 pub returns : goal.returns
 unfolding of_bits
 returns c = rw c.mixed_value.ensures

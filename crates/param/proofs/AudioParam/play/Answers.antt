@@ -11,12 +11,10 @@ rested : (c : After-rests_for)
     rests_for start.args.infos (first_of (param_of start.args.self).queue) ≡ c.rests_for.result
 rested c = sym (c.rests_for.ensures ∙ ap (rests_for _) c.peek.ensures)
 
--- src/process.rt:160:5
 pub returns-then-rests_for : goal.returns-then-rests_for
 returns-then-rests_for c =
     rw (rested (goal.at.returns-then-rests_for c).After-rests_for ∙ c.if-rests_for.true) (c.rest.ensures _)
 
--- src/process.rt:160:5
 pub returns-else-rests_for : goal.returns-else-rests_for
 returns-else-rests_for c =
     rw (rested (goal.at.returns-else-rests_for c).After-rests_for ∙ c.if-rests_for.false) c.walk.ensures

@@ -3,7 +3,6 @@ use mathlib.Core.Path.{refl}
 use lib.Ieee.{of_bits}
 use Rattle.param.proofs.AudioParam.refused_block.Goals as goal
 
--- src/process.rt:68:5
 pub returns : goal.returns
 unfolding of_bits
 returns c = refl
