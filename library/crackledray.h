@@ -80,9 +80,9 @@ enum crackledray_edition {
  * library/stack reads the exact numbers out of an archive; library/test holds them to these. */
 enum crackledray_stack {
     CRACKLEDRAY_STACK_MAKE = 16384, /* crackledray_make, crackledray_make_under */
-    CRACKLEDRAY_STACK_HOLD = 40960, /* crackledray_hold */
-    CRACKLEDRAY_STACK_CARD = 40960, /* crackledray_card_part, crackledray_card_end */
-    CRACKLEDRAY_STACK_CALL = 32768  /* each of the others */
+    CRACKLEDRAY_STACK_HOLD = 65536, /* crackledray_hold */
+    CRACKLEDRAY_STACK_CARD = 98304, /* crackledray_card_part, crackledray_card_end */
+    CRACKLEDRAY_STACK_CALL = 49152  /* each of the others */
 };
 
 /* What a call answers. Where several apply, 100 is given, else the lowest, 11 counting as between 6 and 7; of a field of a file 20 to 28
