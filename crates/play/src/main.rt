@@ -1,7 +1,7 @@
 // Plays calls as a person writes them: reads them from standard input, a line each, and answers each with a line.
 #![tactic(auto)]
 
-ghost use Rattle.std.specs.Prelude.{◌≡◌, ℕ, ◌+◌, ◌*◌, ◌≤◌, length, Float, List, IfOk};
+ghost use Rattle.std.specs.Prelude.{◌≡◌, ℕ, ◌+◌, ◌*◌, ◌≤◌, length, Float, List, IfOk, MatchResult};
 ghost use Rattle.text.specs.Put.{Put};
 ghost use Rattle.calls.specs.Language.{call_of};
 ghost use Rattle.param.specs.Param.{param_of};
@@ -184,7 +184,7 @@ fn answer_next(
     at: usize,
 ) -> io::Result<Answered>
     requires { SoundDesk desk × LineIn input.now next × Lent input.now strict.old numbers.old store.old said.old out.old × (at ≤ length out.old) }
-    ensures { IfOk result (λ r. SoundDesk r.desk × (r.next ≤ length out.old)) }
+    ensures { MatchResult result (λ r. SoundDesk r.desk × (r.next ≤ length out.old)) (λ _. Lent input.now strict.new numbers.new store.new said.new out.new) }
 {
     let at = room(stdout, out, at)?;
     match next {
@@ -221,7 +221,7 @@ fn answer_lines(
     out: &mut [u8],
 ) -> io::Result<Played>
     requires { Going p.desk p.lines p.at input.now strict.old numbers.old store.old said.old out.old }
-    ensures { IfOk result (λ r. Going r.desk r.lines r.at input.now strict.new numbers.new store.new said.new out.new) }
+    ensures { MatchResult result (λ r. Going r.desk r.lines r.at input.now strict.new numbers.new store.new said.new out.new) (λ _. Lent input.now strict.new numbers.new store.new said.new out.new) }
 {
     let mut desk = p.desk;
     let mut lines = p.lines;
@@ -254,7 +254,7 @@ fn answer_lines(
 // One read behind what is left of the input; how many characters came, none at its end.
 fn read_more(mut stdin: Stdin, input: &mut [u8], at: usize) -> io::Result<usize>
     requires { at ≤ length input.old }
-    ensures { IfOk result (λ n. at + n ≤ length input.old) }
+    ensures { MatchResult result (λ n. at + n ≤ length input.old) (λ _. length input.new ≡ length input.old) }
 {
     stdin.read(&mut input[at..])
 }
@@ -272,7 +272,7 @@ fn turn(
     out: &mut [u8],
 ) -> io::Result<Played>
     requires { Going p.desk p.lines p.at input.old strict.old numbers.old store.old said.old out.old }
-    ensures { IfOk result (λ r. Going r.desk r.lines r.at input.new strict.new numbers.new store.new said.new out.new) }
+    ensures { MatchResult result (λ r. Going r.desk r.lines r.at input.new strict.new numbers.new store.new said.new out.new) (λ _. (length input.new ≡ length input.old) × Lent input.new strict.new numbers.new store.new said.new out.new) }
 {
     let p = answer_lines(stdout, p, &input[..], strict, numbers, store, said, out)?;
     let at = p.at;

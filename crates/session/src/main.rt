@@ -1,7 +1,7 @@
 // Reads calls of the session language from standard input, a line each, and answers each with a line.
 #![tactic(auto)]
 
-ghost use Rattle.std.specs.Prelude.{◌≡◌, ℕ, ◌+◌, ◌≤◌, length, IfOk};
+ghost use Rattle.std.specs.Prelude.{◌≡◌, ℕ, ◌+◌, ◌≤◌, length, MatchResult};
 ghost use Rattle.desk.specs.Desk.{SoundDesk, Spoken};
 ghost use Rattle.lines.specs.declared.Next.TheVariants as Next;
 ghost use Rattle.lines.specs.Lines.{LineIn, next_of};
@@ -85,7 +85,7 @@ fn answer_lines(
 // One read behind what is left of the input; how many characters came, none at its end.
 fn read_more(mut stdin: Stdin, input: &mut [u8], at: usize) -> io::Result<usize>
     requires { at ≤ length input.old }
-    ensures { IfOk result (λ n. at + n ≤ length input.old) }
+    ensures { MatchResult result (λ n. at + n ≤ length input.old) (λ _. length input.new ≡ length input.old) }
 {
     stdin.read(&mut input[at..])
 }
@@ -102,7 +102,7 @@ fn turn(
     out: &mut [u8],
 ) -> io::Result<Session>
     requires { Going s.desk s.lines s.at input.old numbers.old file.old store.old out.old }
-    ensures { IfOk result (λ r. Going r.desk r.lines r.at input.new numbers.new file.new store.new out.new) }
+    ensures { MatchResult result (λ r. Going r.desk r.lines r.at input.new numbers.new file.new store.new out.new) (λ _. (length input.new ≡ length input.old) × Lent numbers.new file.new store.new out.new) }
 {
     let s = answer_lines(s, &input[..], numbers, file, store, out);
     let at = s.at;

@@ -1,7 +1,7 @@
 // Puts calls as a person writes them into the session language, a line each: what `./play --plain` hands to `session`.
 #![tactic(auto)]
 
-ghost use Rattle.std.specs.Prelude.{◌≡◌, ◌+◌, ◌*◌, ◌≤◌, length, IfOk};
+ghost use Rattle.std.specs.Prelude.{◌≡◌, ◌+◌, ◌*◌, ◌≤◌, length, MatchResult};
 ghost use Rattle.lines.specs.Lines.{LineIn};
 ghost use Rattle.strict.specs.Strict.{Going};
 
@@ -41,7 +41,7 @@ fn write_next(stdout: Stdout, next: Next, input: &[u8], strict: &mut [u8]) -> io
 // Every line of the input that ends in a newline; what is left.
 fn write_lines(stdout: Stdout, lines: Lines, input: &[u8], strict: &mut [u8]) -> io::Result<Lines>
     requires { Going lines input.now strict.old }
-    ensures { IfOk result (λ l. Going l input.now strict.new) }
+    ensures { MatchResult result (λ l. Going l input.now strict.new) (λ _. length strict.new ≡ length strict.old) }
 {
     let mut lines = lines;
     loop {
@@ -60,7 +60,7 @@ fn write_lines(stdout: Stdout, lines: Lines, input: &[u8], strict: &mut [u8]) ->
 // One read behind what is left of the input; how many characters came, none at its end.
 fn read_more(mut stdin: Stdin, input: &mut [u8], at: usize) -> io::Result<usize>
     requires { at ≤ length input.old }
-    ensures { IfOk result (λ n. at + n ≤ length input.old) }
+    ensures { MatchResult result (λ n. at + n ≤ length input.old) (λ _. length input.new ≡ length input.old) }
 {
     stdin.read(&mut input[at..])
 }
@@ -74,7 +74,7 @@ fn turn(
     strict: &mut [u8],
 ) -> io::Result<Reading>
     requires { Going lines input.old strict.old }
-    ensures { IfOk result (λ r. Going r.lines input.new strict.new) }
+    ensures { MatchResult result (λ r. Going r.lines input.new strict.new) (λ _. (length input.new ≡ length input.old) × (length strict.new ≡ length strict.old)) }
 {
     let lines = write_lines(stdout, lines, &input[..], strict)?;
     let left = make_room(input, lines);

@@ -1,7 +1,7 @@
 // The outside vectors: each line of standard input is worked out and compared; a line that does not hold is named, then the lines are counted.
 #![tactic(auto)]
 
-ghost use Rattle.std.specs.Prelude.{◌+◌, ◌≤◌, ◌<◌, length, IfOk};
+ghost use Rattle.std.specs.Prelude.{◌+◌, ◌≤◌, ◌<◌, length, IfOk, MatchResult, ◌≡◌};
 
 use std::io;
 use std::io::{Read, Stdin, Stdout};
@@ -15,7 +15,7 @@ struct Tally {
 
 // Reads until the buffer is full or the input ends; how many bytes came.
 fn read_full(mut stdin: Stdin, buf: &mut [u8]) -> io::Result<usize>
-    ensures { IfOk result (λ n. n ≤ length buf.new) }
+    ensures { MatchResult result (λ n. n ≤ length buf.new) (λ _. length buf.new ≡ length buf.old) }
 {
     let mut done = 0;
     while done < buf.len() {
