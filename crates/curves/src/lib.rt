@@ -8,7 +8,7 @@ ghost use Rattle.rules.specs.Queue.{lengths_of, attached, those, inserted, cance
 ghost use Rattle.timeline.specs.Timeline.{Neat, waiting, is_kept};
 ghost use Rattle.curves.specs.Curves.{moved, packed_in, Leaves, curve_of};
 
-use rules::{Event, MaybeTime};
+use rules::Event;
 use timeline::AudioParamEventTimeline;
 
 // Numbers go to an earlier place: from the first on, so that none is overwritten before it is read.
@@ -99,7 +99,7 @@ pub fn insert(
     move_up(part, at, at + len, used - at);
     write(part, at, values);
     zero_behind(part, used + len);
-    let hold = MaybeTime::Missing;
+    let hold = None;
     q.put_at(
         place,
         Event::Curve {

@@ -2,8 +2,6 @@
 use mathlib.Core.Path.{◌≡◌, refl, sym, ap, ◌∙◌}
 use mathlib.Core.List.{List, ◌++◌, map}
 use lib.Ieee.{Float}
-use Rattle.rules.specs.declared.Verdict.{Verdict}
-use Rattle.rules.specs.declared.Verdict.TheVariants as Verdict
 use Rattle.rules.specs.Block.{Command, cancel, Called}
 use Rattle.param.specs.Param.{struct_of}
 use Rattle.param.proofs.Calls.{whole}
@@ -50,7 +48,7 @@ module _ (h : Held) (ok : Ok h) where
 
   -- cancels at a and b, at b and a, and one at the earlier of the two; the code answers either where it comes first
   pub two_cancels_of_code : (a b : Float) (ra rb sb sa r : Done) → MeetsCall h (cancel a) ra → MeetsCall (left_by_done ra) (cancel b) rb → MeetsCall h (cancel b) sb
-      → MeetsCall (left_by_done sb) (cancel a) sa → MeetsCall h (cancel (earlier_of a b)) r → ra.outcome.verdict ≡ Verdict.Answered → sb.outcome.verdict ≡ Verdict.Answered
+      → MeetsCall (left_by_done sb) (cancel a) sa → MeetsCall h (cancel (earlier_of a b)) r → ra.outcome.verdict ≡ Ok tt → sb.outcome.verdict ≡ Ok tt
       → (left_by_done rb ≡ left_by_done r) × (left_by_done sa ≡ left_by_done r)
   unfolding last_left
   two_cancels_of_code a b ra rb sb sa r first second third fourth single answered answered' =

@@ -1,5 +1,6 @@
 -- Any list of results, each of which meets the contract for what the one before left, is what the rules schedule and play; so demand 3 is the code's, and
 -- that no event lies inside a curve before the first block. Assumes nothing.
+use Rattle.std.proofs.Common.{Ok}
 use mathlib.Core.Path.{◌≡◌, refl, sym, ap, ◌∙◌}
 use mathlib.Core.Bool.{Bool, true, false}
 use mathlib.Core.List.{List, [], map}
@@ -8,7 +9,6 @@ use lib.ListN.{length, take, drop}
 use lib.Ieee.{Float}
 use Rattle.rules.specs.declared.Bounds.{Bounds}
 use Rattle.rules.specs.declared.AutomationRate.{AutomationRate}
-use Rattle.rules.specs.declared.Verdict.TheVariants as Verdict
 use Rattle.rules.specs.Numbers.{store_length}
 use Rattle.rules.specs.Block.{Param, Call, Command, set, step, linear, exponential, target, curve, cancel, hold, called, made}
 use Rattle.laws.specs.Apart.{are_apart}
@@ -127,14 +127,14 @@ module _ (b : Bounds) (rate : AutomationRate) (n : ℕ) (one other : List Float)
       (r : Outcome) → Restores (resumed_param m cs) r → (store : List Float) → Holds (waiting (resumed m (state_of x) (state_of y) cs)) store
       → (rs us vs : List Block) → Results left_by_block MeetsBlock x all rs → Results left_by_block MeetsBlock y all us
       → Results left_by_block MeetsBlock (record { param = r.param; store = store }) (drop (length cs) all) vs
-      → (r ≡ record { verdict = Verdict.Answered; param = resumed_param m cs })
+      → (r ≡ record { verdict = (Ok tt); param = resumed_param m cs })
       × (map apart (take (length cs) (map answer_by rs)) ≡ map apart (take (length cs) (map answer_by us)))
       × (map told (drop (length cs) (map answer_by us)) ≡ map told (map answer_by vs))
   demand_3_of_code m agree all r restores store holds rs us vs rx ry rz =
       let cs : List Call = while_two_wait (behind m (state_of x)) (state_of x) all in
       let same : PlayedTheSame m (state_of x) (state_of y) all cs = code_plays_the_same m agree all in
       let ok : SoundParam (resumed_param m cs) = struct_sound (resumed m (state_of x) (state_of y) cs).param same.sound in
-      let gives : r ≡ record { verdict = Verdict.Answered; param = resumed_param m cs } = restores_own ok restores in
+      let gives : r ≡ record { verdict = (Ok tt); param = resumed_param m cs } = restores_own ok restores in
       let is : r.param ≡ resumed_param m cs = ap (λ (o : Outcome). o.param) gives in
       let heard =
       results_the_same

@@ -1,4 +1,5 @@
 -- The loops over the slots, turn by turn: the search for a place, the insertion at it, and what a cut keeps. Assumes nothing.
+use Rattle.std.proofs.Common.{Some, None}
 use mathlib.Core.Path.{◌≡◌, refl, sym, ap, ◌∙◌}
 use mathlib.Core.Bool.{Bool, true, false, cond, ◌||◌}
 use mathlib.Core.List.{List, [], ◌∷◌, ◌++◌, map, map-append, append-nil}
@@ -10,7 +11,6 @@ use lib.Seq.{take_at, take_all, drop-cons, drop-append-le, drop-append-add, leng
 use lib.Ieee as Ieee
 use lib.Ieee.{Float}
 use Rattle.rules.specs.declared.Event.{Event}
-use Rattle.rules.specs.declared.Head.{Head}
 use Rattle.rules.specs.Numbers.{most_events}
 use Rattle.rules.specs.Queue.{filed_under, any, has_not_later, place_behind, put_at, those}
 use Rattle.laws.proofs.Events.{put-length}
@@ -23,19 +23,19 @@ use Rattle.timeline.proofs.Laws.{nothing, slots_are, count, slot_holds, one_more
 
 -- ---- the event at a place
 
-pub none_there : (es : List Event) (i : ℕ) → length es ≤ i → Head.Empty ≡ first_of (drop i es)
+pub none_there : (es : List Event) (i : ℕ) → length es ≤ i → None ≡ first_of (drop i es)
 unfolding first_of
 none_there es i h = rw (drop_of_length-le es h)
 
-one_there : (es : List Event) (i : ℕ) → i < length es → Head.Event (get_or es i nothing) ≡ first_of (drop i es)
+one_there : (es : List Event) (i : ℕ) → i < length es → Some (get_or es i nothing) ≡ first_of (drop i es)
 unfolding first_of
 one_there es i h = rw (drop-cons es i nothing h)
 
 -- as code reads it from the slots
-pub slot_there : (q : AudioParamEventTimeline) → Neat q → (i : ℕ) → i < q.len → Head.Event (get_or q.slots i (slot_of nothing)).event ≡ first_of (drop i (waiting q))
+pub slot_there : (q : AudioParamEventTimeline) → Neat q → (i : ℕ) → i < q.len → Some (get_or q.slots i (slot_of nothing)).event ≡ first_of (drop i (waiting q))
 slot_there q h i l =
     let n : length (waiting q) ≡ q.len = count q h in
-    ap (λ (s : AudioParamEvent). Head.Event s.event) (slot_holds q h i l) ∙ one_there (waiting q) i (omega arith)
+    ap (λ (s : AudioParamEvent). Some s.event) (slot_holds q h i l) ∙ one_there (waiting q) i (omega arith)
 
 -- ---- the place behind all of equal or smaller time, searched from the end
 
@@ -168,7 +168,7 @@ module _ (test : Event → Bool) (q : AudioParamEventTimeline) (h : Neat q) (i :
   seen : {b : Bool} → test (get_or q.slots i (slot_of nothing)).event ≡ b → test (get_or (waiting q) i nothing) ≡ b
   seen f = ap (λ (s : AudioParamEvent). test s.event) (sym (slot_holds q h i l)) ∙ f
 
-  pub first_here : test (get_or q.slots i (slot_of nothing)).event ≡ true → Head.Event (get_or q.slots i (slot_of nothing)).event ≡ first_of (those test (waiting q))
+  pub first_here : test (get_or q.slots i (slot_of nothing)).event ≡ true → Some (get_or q.slots i (slot_of nothing)).event ≡ first_of (those test (waiting q))
   unfolding those first_of
   first_here f = rw (slot_holds q h i l, p, ahead, seen f)
 
@@ -176,7 +176,7 @@ module _ (test : Event → Bool) (q : AudioParamEventTimeline) (h : Neat q) (i :
   unfolding those
   first_behind f = rw (p, add-one, ahead, seen f)
 
-pub first_none : (test : Event → Bool) (es : List Event) (i : ℕ) → length es ≤ i → Head.Empty ≡ first_of (those test (drop i es))
+pub first_none : (test : Event → Bool) (es : List Event) (i : ℕ) → length es ≤ i → None ≡ first_of (those test (drop i es))
 unfolding those first_of
 first_none test es i h = rw (drop_of_length-le es h)
 

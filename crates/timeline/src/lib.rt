@@ -8,7 +8,7 @@ ghost use Rattle.rules.specs.Queue as rule;
 ghost use Rattle.laws.specs.Search.{is_later_than};
 ghost use Rattle.timeline.specs.Timeline.{blank_event, slot_of, made, waiting, Neat, first_of, is_some, head_as, beginning, stays};
 
-use rules::{Event, Head, MaybeTime};
+use rules::Event;
 
 // How many events can wait.
 pub const EVENTS: usize = 64;
@@ -27,12 +27,12 @@ pub struct AudioParamEventTimeline {
 }
 
 // The hold time, else the time given.
-pub fn hold_or(hold: MaybeTime, time: f64) -> f64
+pub fn hold_or(hold: Option<f64>, time: f64) -> f64
     ensures { result ≡ hold_or hold time }
 {
     match hold {
-        MaybeTime::Missing => time,
-        MaybeTime::At(c) => c,
+        None => time,
+        Some(c) => c,
     }
 }
 
@@ -62,7 +62,7 @@ pub fn is_ramp(e: Event) -> bool
 }
 
 // Where a curve ends: at its hold time, else at start + duration.
-pub fn curve_end(start: f64, duration: f64, hold: MaybeTime) -> f64
+pub fn curve_end(start: f64, duration: f64, hold: Option<f64>) -> f64
     ensures { result ≡ curve_end start duration hold }
 {
     hold_or(hold, start + duration)
@@ -94,12 +94,12 @@ fn covers(e: Event, time: f64) -> bool
 }
 
 // Whether there is an event.
-fn is_some(head: Head) -> bool
+fn is_some(head: Option<Event>) -> bool
     ensures { result ≡ is_some head }
 {
     match head {
-        Head::Empty => false,
-        Head::Event(_) => true,
+        None => false,
+        Some(_) => true,
     }
 }
 
@@ -153,18 +153,12 @@ pub fn is_kept(e: Event, c: f64, equal: bool) -> bool
 }
 
 // The hold time c, unless an earlier one is there.
-fn sooner(h: MaybeTime, c: f64) -> MaybeTime
+fn sooner(h: Option<f64>, c: f64) -> Option<f64>
     ensures { result ≡ rule.sooner h c }
 {
     match h {
-        MaybeTime::Missing => MaybeTime::At(c),
-        MaybeTime::At(t) => {
-            if t < c {
-                MaybeTime::At(t)
-            } else {
-                MaybeTime::At(c)
-            }
-        }
+        None => Some(c),
+        Some(t) => { if t < c { Some(t) } else { Some(c) } }
     }
 }
 
@@ -250,21 +244,21 @@ impl AudioParamEventTimeline {
     }
 
     // The event at a place of the queue, or that none waits there.
-    pub fn event_at(self, i: usize) -> Head
+    pub fn event_at(self, i: usize) -> Option<Event>
         requires { Neat self }
         ensures { result ≡ first_of (drop i (waiting self)) }
     {
         let n = self.len;
         if n <= i {
-            return Head::Empty;
+            return None;
         }
         let s = self.slots[i];
         let e = s.event;
-        Head::Event(e)
+        Some(e)
     }
 
     // The first waiting event.
-    pub fn peek(self) -> Head
+    pub fn peek(self) -> Option<Event>
         requires { Neat self }
         ensures { result ≡ first_of (waiting self) }
     {
@@ -272,7 +266,7 @@ impl AudioParamEventTimeline {
     }
 
     // The event behind the first.
-    pub fn next(self) -> Head
+    pub fn next(self) -> Option<Event>
         requires { Neat self }
         ensures { result ≡ first_of (drop 1 (waiting self)) }
     {
@@ -299,7 +293,7 @@ impl AudioParamEventTimeline {
     }
 
     // The first curve inside which the time lies.
-    pub fn covering(self, time: f64) -> Head
+    pub fn covering(self, time: f64) -> Option<Event>
         requires { Neat self }
         ensures { result ≡ first_of (those (rule.covers time) (waiting self)) }
     {
@@ -309,15 +303,15 @@ impl AudioParamEventTimeline {
             let s = self.slots[i];
             let e = s.event;
             if covers(e, time) {
-                return Head::Event(e);
+                return Some(e);
             }
             i += 1;
         }
-        Head::Empty
+        None
     }
 
     // The first event that is filed at the start or later, and before the end.
-    pub fn filed_inside(self, start: f64, end: f64) -> Head
+    pub fn filed_inside(self, start: f64, end: f64) -> Option<Event>
         requires { Neat self }
         ensures { result ≡ first_of (those (is_filed_inside start end) (waiting self)) }
     {
@@ -327,11 +321,11 @@ impl AudioParamEventTimeline {
             let s = self.slots[i];
             let e = s.event;
             if is_inside(start, end, filed_under(e)) {
-                return Head::Event(e);
+                return Some(e);
             }
             i += 1;
         }
-        Head::Empty
+        None
     }
 
     // Whether the time lies inside a waiting curve.
@@ -411,7 +405,7 @@ impl AudioParamEventTimeline {
     }
 
     // The first slot, where the head becomes another event. With no other, and in an empty queue, it stays.
-    fn first_slot(self, head: Head) -> AudioParamEvent
+    fn first_slot(self, head: Option<Event>) -> AudioParamEvent
         requires { Neat self }
         ensures { beginning result self ≡ made (head_as head (waiting self)) }
     {
@@ -421,13 +415,13 @@ impl AudioParamEventTimeline {
             return slot;
         }
         match head {
-            Head::Empty => slot,
-            Head::Event(event) => AudioParamEvent { event },
+            None => slot,
+            Some(event) => AudioParamEvent { event },
         }
     }
 
     // The head becomes another event, if there is one; in an empty queue nothing does. One store for all cases, so that the queue is copied once.
-    pub fn replace_peek(self, head: Head) -> Self
+    pub fn replace_peek(self, head: Option<Event>) -> Self
         requires { Neat self }
         ensures { result ≡ made (head_as head (waiting self)) }
     {
@@ -463,7 +457,7 @@ impl AudioParamEventTimeline {
     }
 
     // The first event later than c.
-    fn first_later(self, c: f64) -> Head
+    fn first_later(self, c: f64) -> Option<Event>
         requires { Neat self }
         ensures { result ≡ first_of (those (is_later_than c) (waiting self)) }
     {
@@ -473,11 +467,11 @@ impl AudioParamEventTimeline {
             let s = self.slots[i];
             let e = s.event;
             if c < filed_under(e) {
-                return Head::Event(e);
+                return Some(e);
             }
             i += 1;
         }
-        Head::Empty
+        None
     }
 
     // The last event gets hold time c where it runs at c.
@@ -509,7 +503,7 @@ impl AudioParamEventTimeline {
         ensures { result ≡ made (events_of (held c (attached (waiting self) []))) }
     {
         let kept = self.retain(c, true);
-        let Head::Event(e) = self.first_later(c) else {
+        let Some(e) = self.first_later(c) else {
             return kept.hold_last(c);
         };
         let ramp = is_ramp(e) & !kept.any_covers(c);

@@ -3,10 +3,10 @@ use mathlib.Core.Path.{sym, ap}
 use Rattle.timeline.specs.Timeline.{is_some}
 use Rattle.timeline.proofs.is_some.Goals as goal
 
-pub returns-in-Empty : goal.returns-in-Empty
+pub returns-in-None : goal.returns-in-None
 unfolding is_some
-returns-in-Empty c = sym (ap is_some c.in-Empty.is)
+returns-in-None c = sym (ap is_some c.in-None.is)
 
-pub returns-in-Event : goal.returns-in-Event
+pub returns-in-Some : goal.returns-in-Some
 unfolding is_some
-returns-in-Event c = sym (ap is_some c.in-Event.is)
+returns-in-Some c = sym (ap is_some c.in-Some.is)

@@ -63,7 +63,7 @@ put_at-requires c =
     let w : length (waiting k) ≡ length (early a.c a.self) = ap length (waits_of k _ c.retain-kept.ensures) in
     let few : a.self.len ≤ 64 = c.requires.few in
     let f : length (early a.c a.self) < length (waiting a.self) =
-    early_fewer a.c (waiting a.self) c.in-Event.e (sym c.first_later.ensures ∙ c.in-Event.is) in
+    early_fewer a.c (waiting a.self) c.in-Some.e (sym c.first_later.ensures ∙ c.in-Some.is) in
     (h, omega arith, omega arith)
 
 pub hold_last-requires-else-ramp : goal.hold_last-requires-else-ramp
@@ -75,12 +75,12 @@ returns-then-ramp c =
     let i = o.before in
     let a = c.args in
     let k = c.retain-kept.result in
-    let e = c.in-Event.e in
+    let e = c.in-Some.e in
     let m : k.len ≡ length (waiting k) = sym (count k (cut_neat a.c a.self c.requires k c.retain-kept.ensures)) in
     c.put_at.ensures
     ∙ ap made (put_end a.c a.self k c.retain-kept.ensures k.len m c.held_event.result e c.held_event.ensures)
     ∙ ap made
-    (held_ramp a.c (waiting a.self) e (sym c.first_later.ensures ∙ c.in-Event.is)
+    (held_ramp a.c (waiting a.self) e (sym c.first_later.ensures ∙ c.in-Some.is)
     (ramps a.c a.self k c.retain-kept.ensures e c.is_ramp.ensures c.any_covers.ensures c.if-ramp.true))
 
 pub returns-else-ramp : goal.returns-else-ramp
@@ -88,9 +88,9 @@ returns-else-ramp c =
     let o = c.before.before in
     let i = o.before in
     let a = c.args in
-    let e = c.in-Event.e in
+    let e = c.in-Some.e in
     c.hold_last-else-ramp.ensures
     ∙ last_of a.c a.self c.retain-kept.result c.retain-kept.ensures
     ∙ ap made
-    (held_other a.c (waiting a.self) e (sym c.first_later.ensures ∙ c.in-Event.is)
+    (held_other a.c (waiting a.self) e (sym c.first_later.ensures ∙ c.in-Some.is)
     (ramps a.c a.self c.retain-kept.result c.retain-kept.ensures e c.is_ramp.ensures c.any_covers.ensures c.if-ramp.false))
