@@ -4,7 +4,7 @@ use Rattle.rules.specs.Walk.{value_at_end, span_turn}
 use Rattle.plain.specs.Seen.{sample_of, ran}
 use Rattle.plain.proofs.Sees.{infos_is, sample_is}
 use Rattle.plain.proofs.span.Goals as goal
-use Rattle.plain.proofs.span.Goals.{in-Missing, in-At}
+use Rattle.plain.proofs.span.Goals.{in-None, in-Some}
 
 pub returns : goal.returns
 unfolding value_at_end span_turn ran
