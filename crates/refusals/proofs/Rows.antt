@@ -1,35 +1,15 @@
 -- A call's rows one after the other, and the tests that they name. Assumes nothing.
-use Rattle.std.proofs.Common.{Result, Ok, Err}
+use Rattle.std.proofs.Common.{arith}
+use Rattle.std.specs.Bool.{MatchBool}
+use Rattle.std.specs.List.{AllWithin, HoldsAt}
 use mathlib.Core.Path.{◌≡◌, refl, sym, ◌∙◌}
-use mathlib.Core.Bool.{Bool, true, false, ◌&&◌, and-true}
+use mathlib.Core.Bool.{Bool, true, false, ◌&&◌, and-true, and-false}
 use mathlib.Core.List.{List, [], ◌∷◌}
-use Prim.Native.Nat.{ℕ, ◌+◌, ◌≤◌, ◌<◌}
-use native.Mathlib.Numerals.{add-one}
-use lib.ListN.{length, drop, get_or, drop_of_length-le}
-use lib.Seq.{drop-cons}
-use lib.Ieee.{Float, nan}
-use Rattle.rules.specs.declared.Refusal.{Refusal}
+use Prim.Native.Nat.{ℕ, zero, suc, ◌<◌}
+use lib.ListN.{length}
+use lib.Ieee.{Float}
 use Rattle.rules.specs.Numbers.{is_finite}
-use Rattle.rules.specs.Refusals.{Row, row, lowest, all_finite}
-use Rattle.refusals.specs.Rows.{with_row}
-
--- ---- row after row
-
--- what these rows say below those that say v
-unfoldable pub said : Result Unit Refusal → List Row → Result Unit Refusal
-said v [] = v
-said v (row r b ∷ rows) = said (with_row v r b) rows
-
-said_refused : (q : Refusal) (rows : List Row) → said (Err q) rows ≡ Err q
-unfolding said with_row
-said_refused q [] = refl
-said_refused q (row r b ∷ rows) = said_refused q rows
-
-pub said_lowest : (rows : List Row) → said (Ok tt) rows ≡ lowest rows
-unfolding said with_row lowest
-said_lowest [] = refl
-said_lowest (row r true ∷ rows) = said_refused r rows
-said_lowest (row r false ∷ rows) = said_lowest rows
+use Rattle.rules.specs.Refusals.{all_finite}
 
 -- ---- the tests
 
@@ -46,16 +26,19 @@ pub more_finite : {a b : Bool} (x : Float) (xs : List Float) → a ≡ is_finite
 unfolding all_finite
 more_finite x xs e f = rw (e, f)
 
--- from the number at i on
-module _ (xs : List Float) (i : ℕ) (l : i < length xs) where
-  pub first_not : is_finite (get_or xs i nan) ≡ false → all_finite (drop i xs) ≡ false
-  unfolding all_finite
-  first_not h = rw (drop-cons xs i nan l, h)
-
-  pub first_finite : is_finite (get_or xs i nan) ≡ true → all_finite (drop i xs) ≡ all_finite (drop (i + 1) xs)
-  unfolding all_finite
-  first_finite h = rw (add-one, drop-cons xs i nan l, h)
-
-pub none_left : (xs : List Float) (i : ℕ) → length xs ≤ i → all_finite (drop i xs) ≡ true
+-- where `all` says yes, and where no
+pub all_are_finite : (xs : List Float) → AllWithin (λ x. is_finite x ≡ true) xs 0 (length xs) → all_finite xs ≡ true
 unfolding all_finite
-none_left xs i h = rw (drop_of_length-le xs h)
+all_are_finite [] h = refl
+all_are_finite (x ∷ xs) h = rw (h 0 x (omega arith) (omega arith)) (all_are_finite xs (λ k d l m. h (suc k) d (omega arith) (omega arith)))
+
+pub one_is_not : (xs : List Float) (k : ℕ) → k < length xs → HoldsAt (λ x. is_finite x ≡ false) xs k → all_finite xs ≡ false
+unfolding all_finite
+one_is_not [] k l h = absurd (omega arith)
+one_is_not (x ∷ xs) zero l h = rw (h x)
+one_is_not (x ∷ xs) (suc k) l h = rw (one_is_not xs k (omega arith) (λ d. h d)) (and-false (is_finite x))
+
+pub all_finite_is : (xs : List Float) (r : Bool)
+    → MatchBool r (AllWithin (λ x. is_finite x ≡ true) xs 0 (length xs)) ((k : ℕ) × (k < length xs) × HoldsAt (λ x. is_finite x ≡ false) xs k) → r ≡ all_finite xs
+all_finite_is xs true h = sym (all_are_finite xs h)
+all_finite_is xs false h = sym (one_is_not xs h.0 h.1 h.2)

@@ -3,7 +3,7 @@ ghost use Rattle.std.specs.Prelude.{◌≡◌, List, eqb, length, Float};
 ghost use Rattle.rules.specs.Numbers.{store_length};
 ghost use Rattle.rules.specs.Refusals.{lowest, is_time, is_period, is_count, is_block, is_earlier, block_rows};
 
-use crate::row;
+use crate::refuse_if;
 use floats::{is_finite64, is_negative64, is_positive64};
 use rules::Refusal;
 
@@ -34,16 +34,15 @@ fn is_block(most: usize, time: f64, period: f64, count: usize, input: usize, out
 }
 
 // Whether refusal 10 applies.
+#[tactic(auto, unfolding(rules::specs::Refusals::is_earlier))]
 fn is_earlier(last: Option<f64>, time: f64) -> bool
     ensures { result ≡ is_earlier last time }
 {
-    match last {
-        None => false,
-        Some(t) => time < t,
-    }
+    last.is_some_and(|t| time < t)
 }
 
 // `most` is the ceiling of the count, `input` and `output` are the lengths of what is lent, `lent` says whether a whole store is.
+#[tactic(auto, unfolding(rules::specs::Refusals::lowest, rules::specs::Refusals::block_rows))]
 pub fn verdict(
     most: usize,
     last: Option<f64>,
@@ -57,9 +56,8 @@ pub fn verdict(
     ensures { (is os store : List Float) → length is ≡ input → length os ≡ output → lent ≡ eqb (length store) store_length
         → result ≡ lowest (block_rows most last store time period count is os) }
 {
-    let v = Ok(());
     let block = is_block(most, time, period, count, input, output);
-    let v = row(v, Refusal::BadBlock, !block);
-    let v = row(v, Refusal::OutOfOrder, is_earlier(last, time));
-    row(v, Refusal::BadStore, !lent)
+    refuse_if(!block, Refusal::BadBlock)?;
+    refuse_if(is_earlier(last, time), Refusal::OutOfOrder)?;
+    refuse_if(!lent, Refusal::BadStore)
 }

@@ -1,11 +1,10 @@
 // Document 01's refusals: their numbers, and for each call the verdict. What is tested against a ceiling, the caller tests: it has the ceilings.
 #![tactic(auto)]
 
-ghost use Rattle.std.specs.Prelude.{◌≡◌, not, List, ◌∷◌, [], ◌+◌, leb, ltb, eqb, length, Float};
+ghost use Rattle.std.specs.Prelude.{◌≡◌, true, false, IfOk, IfErr, not, List, ◌∷◌, [], ◌+◌, leb, ltb, eqb, length, Float};
 ghost use Rattle.rules.specs.Numbers.{most_events, store_length, taken_time};
 ghost use Rattle.rules.specs.Queue.{lengths_of, any_covers};
-ghost use Rattle.rules.specs.Refusals.{number_of, lowest, all_finite, are_bounds, is_edition, is_crossed, making_rows, value_rows, exponential_rows, target_rows, curve_rows, cancel_rows};
-ghost use Rattle.refusals.specs.Rows.{with_row};
+ghost use Rattle.rules.specs.Refusals.{number_of, row, lowest, all_finite, are_bounds, is_edition, is_crossed, making_rows, value_rows, exponential_rows, target_rows, curve_rows, cancel_rows};
 
 use floats::{is_finite32, is_finite64, is_negative64, is_positive64, is_zero32};
 use rules::{Bounds, Event, Refusal};
@@ -33,27 +32,19 @@ pub fn number_of(r: Refusal) -> u8
     }
 }
 
-// One more row of the table: it is given where it applies and none before it was.
-fn row(v: Result<(), Refusal>, why: Refusal, applies: bool) -> Result<(), Refusal>
-    ensures { result ≡ with_row v why applies }
+// One row of the table: it refuses where it applies.
+fn refuse_if(applies: bool, why: Refusal) -> Result<(), Refusal>
+    ensures answered { IfOk result (λ _. applies ≡ false) }
+    ensures refused { IfErr result (λ given. (applies ≡ true) × (given ≡ why)) }
 {
-    match v {
-        Ok(()) => { if applies { Err(why) } else { Ok(()) } }
-        Err(_) => v,
-    }
+    if applies { Err(why) } else { Ok(()) }
 }
 
+#[tactic(auto, unfolding(rules::specs::Refusals::all_finite))]
 pub fn all_finite(values: &[f32]) -> bool
     ensures { result ≡ all_finite values.now }
 {
-    let mut i = 0usize;
-    while i < values.len() {
-        if !is_finite32(values[i]) {
-            return false;
-        }
-        i += 1;
-    }
-    true
+    values.iter().all(|value| is_finite32(*value))
 }
 
 // The range's ends and the default are finite, and in order.
@@ -72,57 +63,52 @@ pub fn is_edition(number: u64) -> bool
 }
 
 // Of making a parameter, under the edition of that number.
+#[tactic(auto, unfolding(rules::specs::Refusals::lowest, rules::specs::Refusals::making_rows))]
 pub fn making(b: Bounds, edition: u64) -> Result<(), Refusal>
     ensures { result ≡ lowest (making_rows b edition) }
 {
-    let v = Ok(());
-    let v = row(v, Refusal::Bounds, !are_bounds(b));
-    row(v, Refusal::UnknownEdition, !is_edition(edition))
+    refuse_if(!are_bounds(b), Refusal::Bounds)?;
+    refuse_if(!is_edition(edition), Refusal::UnknownEdition)
 }
 
 // Of a step or a linear ramp; `inside` says whether its time lies inside a waiting curve, `full` whether as many events wait as can.
+#[tactic(auto, unfolding(rules::specs::Refusals::lowest, rules::specs::Refusals::value_rows, rules::specs::Refusals::all_finite))]
 pub fn value(inside: bool, full: bool, value: f32, time: f64) -> Result<(), Refusal>
     ensures { (q : List Event) → inside ≡ any_covers (taken_time time) q → full ≡ leb most_events (length q) → result ≡ lowest (value_rows q value time) }
 {
-    let v = Ok(());
-    let v = row(
-        v,
-        Refusal::NotFinite,
-        !(is_finite32(value) & is_finite64(time)),
-    );
-    let v = row(v, Refusal::BeforeZero, is_negative64(time));
-    let v = row(v, Refusal::Inside, inside);
-    row(v, Refusal::QueueFull, full)
+    let finite = is_finite32(value) & is_finite64(time);
+    refuse_if(!finite, Refusal::NotFinite)?;
+    refuse_if(is_negative64(time), Refusal::BeforeZero)?;
+    refuse_if(inside, Refusal::Inside)?;
+    refuse_if(full, Refusal::QueueFull)
 }
 
+#[tactic(auto, unfolding(rules::specs::Refusals::lowest, rules::specs::Refusals::exponential_rows, rules::specs::Refusals::all_finite))]
 pub fn exponential(inside: bool, full: bool, value: f32, time: f64) -> Result<(), Refusal>
     ensures { (q : List Event) → inside ≡ any_covers (taken_time time) q → full ≡ leb most_events (length q) → result ≡ lowest (exponential_rows q value time) }
 {
-    let v = Ok(());
-    let v = row(
-        v,
-        Refusal::NotFinite,
-        !(is_finite32(value) & is_finite64(time)),
-    );
-    let v = row(v, Refusal::BeforeZero, is_negative64(time));
-    let v = row(v, Refusal::ZeroTarget, is_zero32(value));
-    let v = row(v, Refusal::Inside, inside);
-    row(v, Refusal::QueueFull, full)
+    let finite = is_finite32(value) & is_finite64(time);
+    refuse_if(!finite, Refusal::NotFinite)?;
+    refuse_if(is_negative64(time), Refusal::BeforeZero)?;
+    refuse_if(is_zero32(value), Refusal::ZeroTarget)?;
+    refuse_if(inside, Refusal::Inside)?;
+    refuse_if(full, Refusal::QueueFull)
 }
 
+#[tactic(auto, unfolding(rules::specs::Refusals::lowest, rules::specs::Refusals::target_rows, rules::specs::Refusals::all_finite))]
 pub fn target(inside: bool, full: bool, value: f32, time: f64, constant: f64) -> Result<(), Refusal>
     ensures { (q : List Event) → inside ≡ any_covers (taken_time time) q → full ≡ leb most_events (length q) → result ≡ lowest (target_rows q value time constant) }
 {
-    let v = Ok(());
     let finite = is_finite32(value) & (is_finite64(time) & is_finite64(constant));
-    let v = row(v, Refusal::NotFinite, !finite);
-    let v = row(v, Refusal::BeforeZero, is_negative64(time));
-    let v = row(v, Refusal::NotAbove, is_negative64(constant));
-    let v = row(v, Refusal::Inside, inside);
-    row(v, Refusal::QueueFull, full)
+    refuse_if(!finite, Refusal::NotFinite)?;
+    refuse_if(is_negative64(time), Refusal::BeforeZero)?;
+    refuse_if(is_negative64(constant), Refusal::NotAbove)?;
+    refuse_if(inside, Refusal::Inside)?;
+    refuse_if(full, Refusal::QueueFull)
 }
 
 // `crossed` says whether it lies inside a waiting curve or has a waiting event inside, `crowded` whether the waiting curves' numbers and these are more than the store has, `lent` whether a whole store is lent.
+#[tactic(auto, unfolding(rules::specs::Refusals::lowest, rules::specs::Refusals::curve_rows, rules::specs::Refusals::all_finite))]
 pub fn curve(
     values: &[f32],
     time: f64,
@@ -135,24 +121,23 @@ pub fn curve(
     ensures { (q : List Event) (store : List Float) → crossed ≡ is_crossed q (taken_time time) duration → full ≡ leb most_events (length q) → crowded ≡ ltb store_length (lengths_of q + length values.now)
         → lent ≡ eqb (length store) store_length → result ≡ lowest (curve_rows q store time duration values.now) }
 {
-    let v = Ok(());
     let finite = is_finite64(time) & (is_finite64(duration) & all_finite(values));
-    let v = row(v, Refusal::NotFinite, !finite);
-    let v = row(v, Refusal::BeforeZero, is_negative64(time));
-    let v = row(v, Refusal::NotAbove, !is_positive64(duration));
-    let v = row(v, Refusal::ShortCurve, values.len() < 2);
-    let v = row(v, Refusal::Inside, crossed);
-    let v = row(v, Refusal::QueueFull, full);
-    let v = row(v, Refusal::StoreFull, crowded);
-    row(v, Refusal::BadStore, !lent)
+    refuse_if(!finite, Refusal::NotFinite)?;
+    refuse_if(is_negative64(time), Refusal::BeforeZero)?;
+    refuse_if(!is_positive64(duration), Refusal::NotAbove)?;
+    refuse_if(values.len() < 2, Refusal::ShortCurve)?;
+    refuse_if(crossed, Refusal::Inside)?;
+    refuse_if(full, Refusal::QueueFull)?;
+    refuse_if(crowded, Refusal::StoreFull)?;
+    refuse_if(!lent, Refusal::BadStore)
 }
 
 // Of a cancel, or a cancel-and-hold.
+#[tactic(auto, unfolding(rules::specs::Refusals::lowest, rules::specs::Refusals::cancel_rows, rules::specs::Refusals::all_finite))]
 pub fn cancel(time: f64, lent: bool) -> Result<(), Refusal>
     ensures { (store : List Float) → lent ≡ eqb (length store) store_length → result ≡ lowest (cancel_rows store time) }
 {
-    let v = Ok(());
-    let v = row(v, Refusal::NotFinite, !is_finite64(time));
-    let v = row(v, Refusal::BeforeZero, is_negative64(time));
-    row(v, Refusal::BadStore, !lent)
+    refuse_if(!is_finite64(time), Refusal::NotFinite)?;
+    refuse_if(is_negative64(time), Refusal::BeforeZero)?;
+    refuse_if(!lent, Refusal::BadStore)
 }

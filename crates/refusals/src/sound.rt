@@ -29,33 +29,27 @@ fn is_taken(t: f64) -> bool
     is_finite64(t) & is_from_zero(t)
 }
 
+#[tactic(auto, unfolding(laws::specs::Sound::is_taken_if_any))]
 fn is_taken_if_any(t: Option<f64>) -> bool
     ensures { result ≡ is_taken_if_any t }
 {
-    match t {
-        None => true,
-        Some(t) => is_taken(t),
-    }
+    t.is_none_or(|t| is_taken(t))
 }
 
 // A ramp is held at or before its own time, a curve at or before start + duration.
+#[tactic(auto, unfolding(laws::specs::Sound::is_held_by))]
 fn is_held_by(time: f64, hold: Option<f64>) -> bool
     ensures { result ≡ is_held_by time hold }
 {
-    match hold {
-        None => true,
-        Some(c) => c <= time,
-    }
+    hold.is_none_or(|c| c <= time)
 }
 
 // A curve is held at its start or later.
+#[tactic(auto, unfolding(laws::specs::Sound::is_held_from))]
 fn is_held_from(start: f64, hold: Option<f64>) -> bool
     ensures { result ≡ is_held_from start hold }
 {
-    match hold {
-        None => true,
-        Some(c) => start <= c,
-    }
+    hold.is_none_or(|c| start <= c)
 }
 
 // A curve's hold time.
@@ -105,20 +99,18 @@ pub fn is_clear(e: Event) -> bool
 }
 
 // How far an event reaches: a curve to its end, all else to the time that it is filed under.
+#[tactic(auto, unfolding(laws::specs::Sound::reach_of))]
 pub fn reach_of(e: Event) -> f64
     ensures { result ≡ reach_of e }
 {
     match e {
-        Event::Step { .. } => filed_under(e),
-        Event::Linear { .. } => filed_under(e),
-        Event::Exponential { .. } => filed_under(e),
-        Event::Target { .. } => filed_under(e),
         Event::Curve {
             start,
             duration,
             hold,
             ..
         } => later_of(start, curve_end(start, duration, hold)),
+        _ => filed_under(e),
     }
 }
 
@@ -130,18 +122,14 @@ fn is_end_of(time: f64, end: f64) -> bool
 }
 
 // The last block's time, and its end: both, or neither.
+#[tactic(auto, unfolding(laws::specs::Sound::are_block_times))]
 pub fn are_block_times(time: Option<f64>, end: Option<f64>) -> bool
     ensures { result ≡ are_block_times time end }
 {
-    match time {
-        None => match end {
-            None => true,
-            Some(_) => false,
-        },
-        Some(t) => match end {
-            None => false,
-            Some(e) => is_taken(t) & is_end_of(t, e),
-        },
+    match (time, end) {
+        (None, None) => true,
+        (Some(t), Some(e)) => is_taken(t) & is_end_of(t, e),
+        _ => false,
     }
 }
 
@@ -152,21 +140,17 @@ pub fn is_due(played: bool, time: f64) -> bool
     played | is_finite64(time)
 }
 
+#[tactic(auto, unfolding(laws::specs::Sound::is_last_clear))]
 pub fn is_last_clear(last: Option<Finished>) -> bool
     ensures { result ≡ is_last_clear last }
 {
-    match last {
-        None => true,
-        Some(f) => is_number(f.time),
-    }
+    last.is_none_or(|f| is_number(f.time))
 }
 
 // Whether a block was answered: the last one has a time.
+#[tactic(auto, unfolding(laws::specs::Sound::has_played))]
 pub fn has_played(block: Option<f64>) -> bool
     ensures { result ≡ has_played block }
 {
-    match block {
-        None => false,
-        Some(_) => true,
-    }
+    block.is_some()
 }

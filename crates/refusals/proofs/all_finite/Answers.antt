@@ -1,22 +1,11 @@
--- `all_finite` meets its contract: with i numbers passed, the others decide. Assumes nothing.
-use mathlib.Core.Path.{refl, sym, ◌∙◌}
-use native.Mathlib.Omega.{arith}
-use Rattle.refusals.proofs.Rows.{found, first_not, first_finite, none_left}
+-- `all_finite` meets its contract. Assumes nothing.
+use Rattle.std.proofs.lemmas.Iterator.{cases_from_all, YieldsList-from_slice}
+use Rattle.std.proofs.Common.{◌≡◌, true, false, rules, tests}
+use Rattle.rules.specs.Numbers.{is_finite}
+use Rattle.refusals.proofs.Rows.{all_finite_is}
 use Rattle.refusals.proofs.all_finite.Goals as goal
 
-pub loop-i-init : goal.loop-i-init
-loop-i-init c = (omega arith, refl)
-
-pub returns-then-not-is_finite32 : goal.returns-then-not-is_finite32
-returns-then-not-is_finite32 c =
-    sym (c.loop-i.invariant.1 ∙ first_not c.args.values.now c.loop-i.i (omega arith) (found c.is_finite32.ensures c.if-not-is_finite32.true))
-
-pub loop-i-smaller : goal.loop-i-smaller
-loop-i-smaller c = omega arith
-
-pub loop-i-preserved : goal.loop-i-preserved
-loop-i-preserved c =
-    (omega arith, c.loop-i.invariant.1 ∙ first_finite c.args.values.now c.loop-i.i (omega arith) (found c.is_finite32.ensures c.if-not-is_finite32.false))
-
 pub returns : goal.returns
-returns c = sym (c.loop-i.invariant.1 ∙ none_left c.args.values.now c.loop-i.i (omega arith))
+returns c =
+    all_finite_is _ _
+    (cases_from_all _ _ _ (λ x. is_finite x ≡ true) (λ x. is_finite x ≡ false) c.all.ensures.ran (YieldsList-from_slice c.args.values.now cc) (λ x q k. search (rules, tests)) (λ x q k. search (rules, tests)))
