@@ -6,7 +6,6 @@ ghost use Rattle.rules.specs.Numbers.{most_events, store_length, taken_time};
 ghost use Rattle.rules.specs.Queue.{lengths_of, any_covers};
 ghost use Rattle.rules.specs.Refusals.{number_of, row, lowest, all_finite, are_bounds, is_edition, is_crossed, making_rows, value_rows, exponential_rows, target_rows, curve_rows, cancel_rows};
 
-use floats::{is_finite32, is_finite64, is_negative64, is_positive64, is_zero32};
 use rules::{Bounds, Event, Refusal};
 
 pub mod block; // block.rt: the verdict on a block
@@ -44,14 +43,15 @@ fn refuse_if(applies: bool, why: Refusal) -> Result<(), Refusal>
 pub fn all_finite(values: &[f32]) -> bool
     ensures { result ≡ all_finite values.now }
 {
-    values.iter().all(|value| is_finite32(*value))
+    values.iter().all(|value| floats::is_finite(*value))
 }
 
 // The range's ends and the default are finite, and in order.
 pub fn are_bounds(b: Bounds) -> bool
     ensures { result ≡ are_bounds b }
 {
-    let finite = is_finite32(b.min) & (is_finite32(b.default) & is_finite32(b.max));
+    let finite = floats::is_finite(b.min)
+        & (floats::is_finite(b.default) & floats::is_finite(b.max));
     finite & ((b.min <= b.default) & (b.default <= b.max))
 }
 
@@ -76,9 +76,9 @@ pub fn making(b: Bounds, edition: u64) -> Result<(), Refusal>
 pub fn value(inside: bool, full: bool, value: f32, time: f64) -> Result<(), Refusal>
     ensures { (q : List Event) → inside ≡ any_covers (taken_time time) q → full ≡ leb most_events (length q) → result ≡ lowest (value_rows q value time) }
 {
-    let finite = is_finite32(value) & is_finite64(time);
+    let finite = floats::is_finite(value) & floats::is_finite(time);
     refuse_if(!finite, Refusal::NotFinite)?;
-    refuse_if(is_negative64(time), Refusal::BeforeZero)?;
+    refuse_if(floats::is_negative(time), Refusal::BeforeZero)?;
     refuse_if(inside, Refusal::Inside)?;
     refuse_if(full, Refusal::QueueFull)
 }
@@ -87,10 +87,10 @@ pub fn value(inside: bool, full: bool, value: f32, time: f64) -> Result<(), Refu
 pub fn exponential(inside: bool, full: bool, value: f32, time: f64) -> Result<(), Refusal>
     ensures { (q : List Event) → inside ≡ any_covers (taken_time time) q → full ≡ leb most_events (length q) → result ≡ lowest (exponential_rows q value time) }
 {
-    let finite = is_finite32(value) & is_finite64(time);
+    let finite = floats::is_finite(value) & floats::is_finite(time);
     refuse_if(!finite, Refusal::NotFinite)?;
-    refuse_if(is_negative64(time), Refusal::BeforeZero)?;
-    refuse_if(is_zero32(value), Refusal::ZeroTarget)?;
+    refuse_if(floats::is_negative(time), Refusal::BeforeZero)?;
+    refuse_if(floats::is_zero(value), Refusal::ZeroTarget)?;
     refuse_if(inside, Refusal::Inside)?;
     refuse_if(full, Refusal::QueueFull)
 }
@@ -99,10 +99,10 @@ pub fn exponential(inside: bool, full: bool, value: f32, time: f64) -> Result<()
 pub fn target(inside: bool, full: bool, value: f32, time: f64, constant: f64) -> Result<(), Refusal>
     ensures { (q : List Event) → inside ≡ any_covers (taken_time time) q → full ≡ leb most_events (length q) → result ≡ lowest (target_rows q value time constant) }
 {
-    let finite = is_finite32(value) & (is_finite64(time) & is_finite64(constant));
+    let finite = floats::is_finite(value) & (floats::is_finite(time) & floats::is_finite(constant));
     refuse_if(!finite, Refusal::NotFinite)?;
-    refuse_if(is_negative64(time), Refusal::BeforeZero)?;
-    refuse_if(is_negative64(constant), Refusal::NotAbove)?;
+    refuse_if(floats::is_negative(time), Refusal::BeforeZero)?;
+    refuse_if(floats::is_negative(constant), Refusal::NotAbove)?;
     refuse_if(inside, Refusal::Inside)?;
     refuse_if(full, Refusal::QueueFull)
 }
@@ -121,10 +121,10 @@ pub fn curve(
     ensures { (q : List Event) (store : List Float) → crossed ≡ is_crossed q (taken_time time) duration → full ≡ leb most_events (length q) → crowded ≡ ltb store_length (lengths_of q + length values.now)
         → lent ≡ eqb (length store) store_length → result ≡ lowest (curve_rows q store time duration values.now) }
 {
-    let finite = is_finite64(time) & (is_finite64(duration) & all_finite(values));
+    let finite = floats::is_finite(time) & (floats::is_finite(duration) & all_finite(values));
     refuse_if(!finite, Refusal::NotFinite)?;
-    refuse_if(is_negative64(time), Refusal::BeforeZero)?;
-    refuse_if(!is_positive64(duration), Refusal::NotAbove)?;
+    refuse_if(floats::is_negative(time), Refusal::BeforeZero)?;
+    refuse_if(!floats::is_positive(duration), Refusal::NotAbove)?;
     refuse_if(values.len() < 2, Refusal::ShortCurve)?;
     refuse_if(crossed, Refusal::Inside)?;
     refuse_if(full, Refusal::QueueFull)?;
@@ -137,7 +137,7 @@ pub fn curve(
 pub fn cancel(time: f64, lent: bool) -> Result<(), Refusal>
     ensures { (store : List Float) → lent ≡ eqb (length store) store_length → result ≡ lowest (cancel_rows store time) }
 {
-    refuse_if(!is_finite64(time), Refusal::NotFinite)?;
-    refuse_if(is_negative64(time), Refusal::BeforeZero)?;
+    refuse_if(!floats::is_finite(time), Refusal::NotFinite)?;
+    refuse_if(floats::is_negative(time), Refusal::BeforeZero)?;
     refuse_if(!lent, Refusal::BadStore)
 }

@@ -4,7 +4,6 @@ ghost use Rattle.rules.specs.Numbers.{is_finite};
 ghost use Rattle.laws.specs.Sound.{is_number, is_from_zero, is_taken, is_taken_if_any, is_held_by, is_held_from, is_span, is_curve_hold, is_clear, reach_of, is_last_clear, has_played, is_end_of, are_block_times};
 
 use crate::block::is_period;
-use floats::{is_finite32, is_finite64, is_zero32, later_of};
 use rules::{Event, Finished};
 use timeline::{curve_end, filed_under};
 
@@ -26,7 +25,7 @@ pub fn is_from_zero(t: f64) -> bool
 fn is_taken(t: f64) -> bool
     ensures { result ≡ is_taken t }
 {
-    is_finite64(t) & is_from_zero(t)
+    floats::is_finite(t) & is_from_zero(t)
 }
 
 #[tactic(auto, unfolding(laws::specs::Sound::is_taken_if_any))]
@@ -72,10 +71,10 @@ pub fn is_clear(e: Event) -> bool
     ensures { result ≡ is_clear e }
 {
     match e {
-        Event::Step { value, time } => is_finite32(value) & is_from_zero(time),
-        Event::Linear { value, time, hold } => is_finite32(value) & is_span(time, hold),
+        Event::Step { value, time } => floats::is_finite(value) & is_from_zero(time),
+        Event::Linear { value, time, hold } => floats::is_finite(value) & is_span(time, hold),
         Event::Exponential { value, time, hold } => {
-            is_finite32(value) & (!is_zero32(value) & is_span(time, hold))
+            floats::is_finite(value) & (!floats::is_zero(value) & is_span(time, hold))
         }
         Event::Target {
             value,
@@ -84,7 +83,7 @@ pub fn is_clear(e: Event) -> bool
             hold,
         } => {
             let runs = is_period(constant) & is_taken_if_any(hold);
-            is_finite32(value) & (is_taken(time) & runs)
+            floats::is_finite(value) & (is_taken(time) & runs)
         }
         Event::Curve {
             start,
@@ -109,7 +108,7 @@ pub fn reach_of(e: Event) -> f64
             duration,
             hold,
             ..
-        } => later_of(start, curve_end(start, duration, hold)),
+        } => floats::later_of(start, curve_end(start, duration, hold)),
         _ => filed_under(e),
     }
 }
@@ -137,7 +136,7 @@ pub fn are_block_times(time: Option<f64>, end: Option<f64>) -> bool
 pub fn is_due(played: bool, time: f64) -> bool
     ensures { result ≡ (played || is_finite time) }
 {
-    played | is_finite64(time)
+    played | floats::is_finite(time)
 }
 
 #[tactic(auto, unfolding(laws::specs::Sound::is_last_clear))]

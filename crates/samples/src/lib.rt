@@ -69,7 +69,7 @@ pub fn decay(y: f64) -> f32
 pub fn ratio_log(ratio: f32) -> i64
     ensures { result ≡ ratio_log ratio }
 {
-    if floats::is_finite32(ratio) {
+    if floats::is_finite(ratio) {
         if ratio == 0.0 {
             return -16777216;
         }
