@@ -15,13 +15,11 @@ pub fn time_in(flag: u64, time: u64) -> Option<f64>
     }
 }
 
+#[tactic(auto, unfolding(crate::specs::Coding::flag_of))]
 pub fn flag_of(t: Option<f64>) -> u64
     ensures { result ≡ flag_of t }
 {
-    match t {
-        None => 0,
-        Some(_) => 1,
-    }
+    t.is_some() as u64
 }
 
 pub fn time_bits(t: Option<f64>) -> u64
@@ -34,33 +32,29 @@ pub fn time_bits(t: Option<f64>) -> u64
 }
 
 // An event by its kind.
+#[tactic(auto, unfolding(crate::specs::Coding::event_of))]
 fn event_of(kind: u64, word: u64, time: u64, other: u64, hold: Option<f64>) -> Event
     ensures { result ≡ event_of kind word time other hold }
 {
     let value = single_in(word);
     let time = double_in(time);
     let other = double_in(other);
-    if kind == 0 {
-        Event::Step { value, time }
-    } else if kind == 1 {
-        Event::Linear { value, time, hold }
-    } else if kind == 2 {
-        Event::Exponential { value, time, hold }
-    } else if kind == 3 {
-        Event::Target {
+    match kind {
+        0 => Event::Step { value, time },
+        1 => Event::Linear { value, time, hold },
+        2 => Event::Exponential { value, time, hold },
+        3 => Event::Target {
             value,
             time,
             constant: other,
             hold,
-        }
-    } else {
-        let len = if kind == 4 { word as usize } else { 0 };
-        Event::Curve {
+        },
+        _ => Event::Curve {
             start: time,
             duration: other,
-            len,
+            len: if kind == 4 { word as usize } else { 0 },
             hold,
-        }
+        },
     }
 }
 
@@ -104,8 +98,7 @@ pub fn put_event(state: &mut [u64], at: usize, e: Event)
 {
     match e {
         Event::Step { value, time } => {
-            let hold = None;
-            put_words(state, at, 0, single_bits(value), time, 0, hold)
+            put_words(state, at, 0, single_bits(value), time, 0, None)
         }
         Event::Linear { value, time, hold } => {
             put_words(state, at, 1, single_bits(value), time, 0, hold)

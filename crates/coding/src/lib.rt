@@ -57,11 +57,9 @@ fn queue_in(state: &[u64]) -> AudioParamEventTimeline
     let mut slots = empty.slots;
     let len = state[14] as usize;
     if len <= AudioParam::EVENTS {
-        let mut i = 0usize;
-        while i < len {
+        for i in 0..len {
             let event = event_at(state, HEAD + EVENT * i);
             slots[i] = AudioParamEvent { event };
-            i += 1;
         }
     }
     AudioParamEventTimeline { slots, len }
@@ -176,12 +174,7 @@ pub fn encode(p: AudioParam, state: &mut [u64])
 {
     put_head(state, p);
     let q = p.timeline();
-    let n = q.len;
-    let mut i = 0usize;
-    while i < n {
-        let s = q.slots[i];
-        let e = s.event;
-        put_event(state, HEAD + EVENT * i, e);
-        i += 1;
+    for i in 0..q.len {
+        put_event(state, HEAD + EVENT * i, q.slots[i].event);
     }
 }
