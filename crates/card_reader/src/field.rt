@@ -2,7 +2,7 @@
 ghost use Rattle.std.specs.Prelude.{◌≡◌, false, ◌+◌, ◌*◌, ◌≤◌, ◌<◌, List, length, Float};
 ghost use Rattle.rules.specs.Numbers.{store_length, is_finite};
 ghost use Rattle.rules.specs.Block.{curve};
-ghost use Rattle.rules.specs.Refusals.{all_finite, is_earlier};
+ghost use Rattle.rules.specs.Refusals.{all_finite};
 ghost use Rattle.param.specs.Param.{SoundParam, Answers};
 ghost use Rattle.words.specs.Words.{singles_at};
 ghost use Rattle.card.specs.Card.{tag_of, is_range, has_head, length_in, field_length, is_whole, is_tag, fits_tag, is_wrong, is_misplaced, bounds_in, event_in, time_of, is_minus_zero, has_no_constant, is_out_of_turn};
@@ -10,6 +10,7 @@ ghost use Rattle.card_reader.specs.Reader.{FieldFits};
 
 use floats::{is_finite, is_zero};
 use param::{AudioParam, Outcome};
+use refusals::block::is_earlier;
 use refusals::sound::is_from_zero;
 use rules::Bounds;
 use words::{double_at, single_at, word_at};
@@ -38,14 +39,11 @@ pub fn field_length(bytes: &[u8]) -> usize
     3 + length_in(bytes)
 }
 
+#[tactic(auto, unfolding(card::specs::Card::is_whole, card::specs::Card::has_head))]
 pub fn is_whole(bytes: &[u8]) -> bool
     ensures { result ≡ is_whole bytes.now }
 {
-    if has_head(bytes) {
-        field_length(bytes) <= bytes.len()
-    } else {
-        false
-    }
+    has_head(bytes) && field_length(bytes) <= bytes.len()
 }
 
 pub fn is_tag(tag: u8) -> bool
@@ -54,27 +52,23 @@ pub fn is_tag(tag: u8) -> bool
     (1 <= tag) & (tag <= 6)
 }
 
+#[tactic(auto, unfolding(card::specs::Card::fits_tag))]
 fn fits_tag(tag: u8, len: usize) -> bool
     ensures { result ≡ fits_tag tag len }
 {
-    if tag == 4 {
-        len == 20
-    } else if tag == 5 {
-        (16 <= len) & (len % 4 == 0)
-    } else {
-        len == 12
+    match tag {
+        4 => len == 20,
+        5 => 16 <= len && len % 4 == 0,
+        _ => len == 12,
     }
 }
 
 // A length that its tag has not.
+#[tactic(auto, unfolding(card::specs::Card::is_wrong, card::specs::Card::tag_of, card::specs::Card::has_head))]
 pub fn is_wrong(bytes: &[u8]) -> bool
     ensures { result ≡ is_wrong bytes.now }
 {
-    if has_head(bytes) {
-        !fits_tag(bytes[0], length_in(bytes))
-    } else {
-        false
-    }
+    has_head(bytes) && !fits_tag(bytes[0], length_in(bytes))
 }
 
 // An event before the range, or a second range.
@@ -102,20 +96,10 @@ pub fn time_in(bytes: &[u8]) -> f64
     requires { FieldFits bytes.now × (is_range bytes.now ≡ false) }
     ensures { result ≡ time_of (event_in bytes.now) }
 {
-    let tag = bytes[0];
-    if tag <= 4 {
+    if bytes[0] <= 4 {
         double_at(bytes, 7)
     } else {
         double_at(bytes, 3)
-    }
-}
-
-fn is_earlier(before: Option<f64>, time: f64) -> bool
-    ensures { result ≡ is_earlier before time }
-{
-    match before {
-        None => false,
-        Some(t) => time < t,
     }
 }
 
@@ -130,11 +114,7 @@ fn has_no_constant(bytes: &[u8]) -> bool
     requires { FieldFits bytes.now × (is_range bytes.now ≡ false) }
     ensures { result ≡ has_no_constant (event_in bytes.now) }
 {
-    if bytes[0] == 4 {
-        is_zero(double_at(bytes, 15))
-    } else {
-        false
-    }
+    bytes[0] == 4 && is_zero(double_at(bytes, 15))
 }
 
 // An event earlier than the one before it, a time of -0, or a time constant of 0.
@@ -151,10 +131,8 @@ fn read_singles(bytes: &[u8], at: usize, values: &mut [f32])
     requires { at + 4 * length values.old ≤ length bytes.now }
     ensures { values.new ≡ singles_at bytes.now at (length values.old) }
 {
-    let mut i = 0;
-    while i < values.len() {
+    for i in 0..values.len() {
         values[i] = single_at(bytes, at + 4 * i);
-        i += 1;
     }
 }
 
@@ -163,13 +141,11 @@ fn worst_of(bytes: &[u8], at: usize, n: usize) -> f32
     requires { at + 4 * n ≤ length bytes.now }
     ensures { is_finite result ≡ all_finite (singles_at bytes.now at n) }
 {
-    let mut i = 0;
-    while i < n {
+    for i in 0..n {
         let x = single_at(bytes, at + 4 * i);
         if !is_finite(x) {
             return x;
         }
-        i += 1;
     }
     0.0
 }
@@ -210,13 +186,10 @@ pub fn schedule(p: AudioParam, bytes: &[u8], store: &mut [f32]) -> Outcome
     }
     let value = single_at(bytes, 3);
     let time = double_at(bytes, 7);
-    if tag == 1 {
-        p.set_value_at_time(value, time)
-    } else if tag == 2 {
-        p.linear_ramp_to_value_at_time(value, time)
-    } else if tag == 3 {
-        p.exponential_ramp_to_value_at_time(value, time)
-    } else {
-        p.set_target_at_time(value, time, double_at(bytes, 15))
+    match tag {
+        1 => p.set_value_at_time(value, time),
+        2 => p.linear_ramp_to_value_at_time(value, time),
+        3 => p.exponential_ramp_to_value_at_time(value, time),
+        _ => p.set_target_at_time(value, time, double_at(bytes, 15)),
     }
 }

@@ -65,12 +65,6 @@ pub struct Loaded {
     pub param: AudioParam,
 }
 
-fn least(a: usize, b: usize) -> usize
-    ensures { result ≡ min a b }
-{
-    if a < b { a } else { b }
-}
-
 impl CardReader {
     // Before the first part, for a parameter of this rate, under the edition of that number.
     pub fn open(rate: AutomationRate, edition: u64, numbers: &mut [f32]) -> CardReader
@@ -85,9 +79,8 @@ impl CardReader {
         };
         // of an edition that there is not: nothing is made
         let r = AudioParam::with_edition(bounds, rate, 0);
-        let param = r.param;
         CardReader {
-            param,
+            param: r.param,
             rate,
             edition,
             ranged: false,
@@ -102,18 +95,9 @@ impl CardReader {
     fn refused(self, fault: Fault) -> CardReader
         ensures { result ≡ refused_reader fault self }
     {
-        let param = self.param;
-        let rate = self.rate;
-        let before = self.before;
         CardReader {
-            param,
-            rate,
-            edition: self.edition,
-            ranged: self.ranged,
-            before,
-            offset: self.offset,
             verdict: Err(fault),
-            held: self.held,
+            ..self
         }
     }
 
@@ -122,16 +106,13 @@ impl CardReader {
         requires { self.offset + len < 2 ^ 64 }
         ensures { result ≡ kept_reader self param before len }
     {
-        let rate = self.rate;
         CardReader {
             param,
-            rate,
-            edition: self.edition,
             ranged: true,
             before,
             offset: self.offset + len,
             verdict: Ok(()),
-            held: self.held,
+            ..self
         }
     }
 
@@ -140,15 +121,9 @@ impl CardReader {
         requires { SoundReader self numbers.now × FieldFits bytes.now × (is_range bytes.now ≡ true) × (self.ranged ≡ false) }
         ensures { Does (contents_turn bytes.now) self numbers.now result numbers.now }
     {
-        let rate = self.rate;
-        let made = AudioParam::with_edition(bounds_in(bytes), rate, self.edition);
-        let verdict = made.verdict;
-        match verdict {
-            Ok(()) => {
-                let param = made.param;
-                let before = self.before;
-                self.kept(param, before, field_length(bytes))
-            }
+        let made = AudioParam::with_edition(bounds_in(bytes), self.rate, self.edition);
+        match made.verdict {
+            Ok(()) => self.kept(made.param, self.before, field_length(bytes)),
             Err(why) => self.refused(Fault::Own(why)),
         }
     }
@@ -158,18 +133,14 @@ impl CardReader {
         requires { SoundReader self numbers.old × FieldFits bytes.now × (is_range bytes.now ≡ false) × (self.ranged ≡ true) }
         ensures { Does (contents_turn bytes.now) self numbers.old result numbers.new }
     {
-        let before = self.before;
-        if is_out_of_turn(before, bytes) {
+        if is_out_of_turn(self.before, bytes) {
             return self.refused(Fault::OutOfTurn);
         }
-        let param = self.param;
-        let called = schedule(param, bytes, numbers);
-        let verdict = called.verdict;
-        match verdict {
+        let called = schedule(self.param, bytes, numbers);
+        match called.verdict {
             Ok(()) => {
-                let param = called.param;
                 let before = Some(time_in(bytes));
-                self.kept(param, before, field_length(bytes))
+                self.kept(called.param, before, field_length(bytes))
             }
             Err(why) => self.refused(Fault::Own(why)),
         }
@@ -203,8 +174,7 @@ impl CardReader {
     fn goes_on(self, bytes: &[u8]) -> bool
         ensures { result ≡ (is_accepted self.verdict && is_whole bytes.now) }
     {
-        let verdict = self.verdict;
-        is_accepted(verdict) & is_whole(bytes)
+        is_accepted(self.verdict) & is_whole(bytes)
     }
 
     // The complete fields in turn, up to one that is refused.
@@ -219,8 +189,7 @@ impl CardReader {
             used += field_length(&bytes[used..]);
         }
         // behind a field that is refused nothing is read
-        let verdict = reader.verdict;
-        if !is_accepted(verdict) {
+        if !is_accepted(reader.verdict) {
             used = bytes.len();
         }
         Taken { reader, used }
@@ -231,8 +200,7 @@ impl CardReader {
         requires { SoundReader self numbers.old × SoundWindow self window.old × (self.held + length part.now ≤ window_length) }
         ensures { Feeds part.now self numbers.old window.old result numbers.new window.new }
     {
-        let verdict = self.verdict;
-        if !is_accepted(verdict) {
+        if !is_accepted(self.verdict) {
             return self;
         }
         let to = put_word(window, self.held, part);
@@ -256,7 +224,7 @@ impl CardReader {
         let mut reader = self;
         let mut from = 0;
         while from < part.len() {
-            let to = from + least(WINDOW - reader.held, part.len() - from);
+            let to = from + (WINDOW - reader.held).min(part.len() - from);
             reader = reader.absorb(&part[from..to], window, numbers);
             from = to;
         }
@@ -271,13 +239,11 @@ impl CardReader {
         requires { SoundReader self numbers.old × SoundWindow self window.now }
         ensures { Does (ended (take self.held window.now)) self numbers.old result numbers.new }
     {
-        let held = self.held;
-        let verdict = self.verdict;
-        if !is_accepted(verdict) {
+        if !is_accepted(self.verdict) {
             return self;
         }
-        if 0 < held {
-            return self.field_turn(&window[..held], numbers);
+        if 0 < self.held {
+            return self.field_turn(&window[..self.held], numbers);
         }
         if self.ranged {
             self

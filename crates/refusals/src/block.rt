@@ -32,9 +32,9 @@ fn is_block(most: usize, time: f64, period: f64, count: usize, input: usize, out
     is_time(time) & (is_period(period) & (is_count(most, count) & lent))
 }
 
-// Whether refusal 10 applies.
+// Whether refusal 10 applies: a time before the last one.
 #[tactic(auto, unfolding(rules::specs::Refusals::is_earlier))]
-fn is_earlier(last: Option<f64>, time: f64) -> bool
+pub fn is_earlier(last: Option<f64>, time: f64) -> bool
     ensures { result ≡ is_earlier last time }
 {
     last.is_some_and(|t| time < t)

@@ -11,7 +11,7 @@ use Rattle.card.specs.Card.{is_accepted}
 use Rattle.card_reader.proofs.Does.{refuses, stays, same_turn}
 use Rattle.card_reader.proofs.Ends.{end_over, end_field, end_done, end_unranged}
 use Rattle.card_reader.proofs.CardReader.end.Goals as goal
-use Rattle.card_reader.proofs.CardReader.end.Goals.{Else-held-gt0, Else-not-is_accepted, Start}
+use Rattle.card_reader.proofs.CardReader.end.Goals.{Else-self-gt0, Else-not-is_accepted, Start}
 
 kept : (c : Else-not-is_accepted) → is_accepted c.args.self.verdict ≡ true
 kept c = found c.is_accepted.ensures c.if-not-is_accepted.false
@@ -20,9 +20,9 @@ kept c = found c.is_accepted.ensures c.if-not-is_accepted.false
 left : (s : Start) → length (take s.args.self.held s.args.window.now) ≡ s.args.self.held
 left s = length-take-le _ _ (omega (arith, s.requires.1.long, s.requires.1.room))
 
-nothing : (c : Else-held-gt0) → take c.args.self.held c.args.window.now ≡ []
+nothing : (c : Else-self-gt0) → take c.args.self.held c.args.window.now ≡ []
 nothing c =
-    let none : c.args.self.held ≡ 0 = omega (arith, c.if-held-gt0.false) in
+    let none : c.args.self.held ≡ 0 = omega (arith, c.if-self-gt0.false) in
     ap (λ (n : ℕ). take n c.args.window.now) none
 
 pub returns-then-not-is_accepted : goal.returns-then-not-is_accepted
@@ -33,17 +33,17 @@ pub slice_bounds-field_turn-end : goal.slice_bounds-field_turn-end
 slice_bounds-field_turn-end c = sym (left (goal.at.slice_bounds-field_turn-end c).Start)
 
 pub field_turn-requires : goal.field_turn-requires
-field_turn-requires c = (c.requires.0, omega (arith, left (goal.at.field_turn-requires c).Start, c.if-held-gt0.true))
+field_turn-requires c = (c.requires.0, omega (arith, left (goal.at.field_turn-requires c).Start, c.if-self-gt0.true))
 
-pub returns-then-held-gt0 : goal.returns-then-held-gt0
-returns-then-held-gt0 c =
-    let s = (goal.at.returns-then-held-gt0 c).Start in
-    same_turn (end_field _ _ (kept (goal.at.returns-then-held-gt0 c).Else-not-is_accepted) (omega (arith, left s, c.if-held-gt0.true))) c.field_turn.ensures
+pub returns-then-self-gt0 : goal.returns-then-self-gt0
+returns-then-self-gt0 c =
+    let s = (goal.at.returns-then-self-gt0 c).Start in
+    same_turn (end_field _ _ (kept (goal.at.returns-then-self-gt0 c).Else-not-is_accepted) (omega (arith, left s, c.if-self-gt0.true))) c.field_turn.ensures
 
 pub returns-then-self : goal.returns-then-self
-returns-then-self c = let e = (goal.at.returns-then-self c).Else-held-gt0 in rw (nothing e) (stays c.requires.0 (end_done _ (kept (goal.at.returns-then-self c).Else-not-is_accepted) c.if-self.true))
+returns-then-self c = let e = (goal.at.returns-then-self c).Else-self-gt0 in rw (nothing e) (stays c.requires.0 (end_done _ (kept (goal.at.returns-then-self c).Else-not-is_accepted) c.if-self.true))
 
 pub returns-else-self : goal.returns-else-self
 returns-else-self c =
-    let e = (goal.at.returns-else-self c).Else-held-gt0 in
+    let e = (goal.at.returns-else-self c).Else-self-gt0 in
     rw (nothing e) (refuses c.requires.0 (end_unranged _ (kept (goal.at.returns-else-self c).Else-not-is_accepted) c.if-self.false) c.refused.ensures)

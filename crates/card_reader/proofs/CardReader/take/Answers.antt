@@ -20,13 +20,13 @@ loop-from-init c = (omega arith, c.requires.0, c.requires.1, sym (fed_none _ c.r
 pub absorb-reader-requires : goal.absorb-reader-requires
 absorb-reader-requires c =
     let l = c.loop-from in
-    (l.invariant.1, l.invariant.2, simp length-take (omega (arith, c.least.ensures, l.invariant.2.room)))
+    (l.invariant.1, l.invariant.2, simp length-take (omega (arith, c.min.ensures, l.invariant.2.room)))
 
 pub loop-from-preserved : goal.loop-from-preserved
 loop-from-preserved c =
     let feeds = c.absorb-reader.ensures in
-    let later : c.loop-from.from ≤ c.loop-from.from + c.least.result = omega arith in
-    (omega (arith, c.least.ensures, c.loop-from.invariant.0), feeds.sound, feeds.fits, fed_further _ c.args.part.now later c.loop-from.invariant.3 feeds.reading)
+    let later : c.loop-from.from ≤ c.loop-from.from + c.min.result = omega arith in
+    (omega (arith, c.min.ensures, c.loop-from.invariant.0), feeds.sound, feeds.fits, fed_further _ c.args.part.now later c.loop-from.invariant.3 feeds.reading)
 
 pub returns : goal.returns
 unfolding TakesPart

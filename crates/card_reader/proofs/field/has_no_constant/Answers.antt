@@ -1,6 +1,7 @@
 -- `field::has_no_constant` meets its contract. Assumes nothing.
 use mathlib.Core.Path.{sym, ap, ◌∙◌}
 use native.Mathlib.Omega.{arith}
+use borrow.Author.Tests.{ne_eqb}
 use Rattle.rules.specs.Numbers.{is_zero}
 use Rattle.card.specs.Card.{tag_of}
 use Rattle.card.proofs.Fields.{room, target_room}
@@ -21,4 +22,4 @@ returns-then-bytes-eq4 c =
 
 pub returns-else-bytes-eq4 : goal.returns-else-bytes-eq4
 unfolding tag_of
-returns-else-bytes-eq4 c = sym (no_constant_in c.args.bytes.now c.requires.0.tag c.requires.1 c.if-bytes-eq4.false)
+returns-else-bytes-eq4 c = ne_eqb _ 4 c.if-bytes-eq4.false ∙ sym (no_constant_in c.args.bytes.now c.requires.0.tag c.requires.1 c.if-bytes-eq4.false)

@@ -10,16 +10,13 @@ use Rattle.card_reader.proofs.field.read_singles.Goals as goal
 pub loop-i-init : goal.loop-i-init
 loop-i-init c = let a = c.args in (search rules, refl, rw (mul-zero 4, add-zero a.at, sub-zero (length a.values.now)))
 
-pub loop-i-smaller : goal.loop-i-smaller
-loop-i-smaller c = simp length-set (omega arith)
-
 pub loop-i-preserved : goal.loop-i-preserved
 loop-i-preserved c =
     let a = c.args in
     let l = c.loop-i in (
       simp length-set (omega arith),
       simp length-set l.invariant.1,
-      l.invariant.2 ∙ rw c.single_at.ensures (read-turn a.bytes.now a.at (length a.values.now) l.values l.i (omega arith) c.loop-i-test.true),
+      l.invariant.2 ∙ rw c.single_at.ensures (read-turn a.bytes.now a.at (length a.values.now) l.values l.i (omega arith) (omega (arith, l.invariant.1, c.loop-i-test.true))),
     )
 
 pub returns : goal.returns

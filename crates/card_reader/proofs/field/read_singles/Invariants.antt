@@ -10,6 +10,3 @@ use Rattle.card_reader.proofs.field.read_singles.Given as goal
 abbrev pub invariant-loop-i : goal.invariant-loop-i
 invariant-loop-i l =
     (l.i ≤ length l.values) × (length l.values ≡ length l.initial.values) × (singles_at l.bytes l.at (length l.initial.values) ≡ take l.i l.values ++ singles_from l.bytes l.at (length l.initial.values) l.i)
-
-abbrev pub decreases-loop-i : goal.decreases-loop-i
-decreases-loop-i l = length l.values - l.i

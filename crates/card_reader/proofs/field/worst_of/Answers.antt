@@ -17,9 +17,6 @@ returns-then-not-is_finite c =
     let odd = found c.is_finite.ensures c.if-not-is_finite.true in
     odd ∙ sym (c.loop-i.invariant.1 ∙ finite_not a.bytes.now a.at a.n c.loop-i.i (omega arith) (rw c.single_at-x.ensures at odd))
 
-pub loop-i-smaller : goal.loop-i-smaller
-loop-i-smaller c = omega arith
-
 pub loop-i-preserved : goal.loop-i-preserved
 loop-i-preserved c =
     let a = c.args in

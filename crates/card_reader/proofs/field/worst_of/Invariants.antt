@@ -8,6 +8,3 @@ use Rattle.card_reader.proofs.field.worst_of.Given as goal
 
 abbrev pub invariant-loop-i : goal.invariant-loop-i
 invariant-loop-i l = (l.i ≤ l.n) × (all_finite (singles_at l.bytes l.at l.n) ≡ all_finite (singles_from l.bytes l.at l.n l.i))
-
-abbrev pub decreases-loop-i : goal.decreases-loop-i
-decreases-loop-i l = l.n - l.i
