@@ -15,7 +15,6 @@ use Rattle.laws.proofs.Tests.{never}
 use Rattle.param.specs.declared.AudioParam.{AudioParam}
 use Rattle.param.specs.Param.{param_of, struct_of, SoundParam}
 use Rattle.param.proofs.Calls.{whole}
-use Rattle.card.specs.declared.Fault.TheVariants as Fault
 use Rattle.card.specs.Card.{is_accepted, Reader, refused_by, field_turn, end_turn, at_end, Reading, bad_store, loaded_as, loaded}
 use Rattle.card.specs.Card as card
 use Rattle.card_reader.specs.declared.CardReader.{CardReader}

@@ -16,7 +16,6 @@ use Rattle.rules.specs.Queue.{attached}
 use Rattle.rules.specs.Block.{Param}
 use Rattle.text.specs.Put.{put, Put}
 use Rattle.text.proofs.Writing.{put_same, put_then}
-use Rattle.card.specs.declared.Fault.TheVariants as Fault
 use Rattle.card.specs.declared.Judged.{Judged}
 use Rattle.card.specs.Card.{is_accepted, range_field, fields_of, file_of, judged, Saved, written_to, saved_as, saved}
 use Rattle.card.proofs.Back.{judged_lent}

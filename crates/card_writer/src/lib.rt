@@ -6,7 +6,7 @@ ghost use Rattle.rules.specs.Numbers.{store_length};
 ghost use Rattle.text.specs.Put.{Put};
 ghost use Rattle.words.specs.Words.{bytes_of, single_bytes, double_bytes, numbers_bytes};
 ghost use Rattle.param.specs.Param.{SoundParam, param_of};
-ghost use Rattle.card.specs.Card.{field_of, range_field, event_field, fields_of, file_of, has_hold, is_held, is_unwritable, judged_from, judged};
+ghost use Rattle.card.specs.Card.{field_of, range_field, event_field, fields_of, file_of, is_held, is_unwritable, judged_from, judged};
 ghost use Rattle.card_writer.specs.Writer.{schedule_of, Saves};
 
 use card::{Fault, Judged, is_accepted};
@@ -23,24 +23,16 @@ const RANGE: usize = 15;
 
 // ---- what is refused
 
-fn has_hold(hold: Option<f64>) -> bool
-    ensures { result ≡ has_hold hold }
-{
-    match hold {
-        None => false,
-        Some(_) => true,
-    }
-}
-
+#[tactic(auto, unfolding(card::specs::Card::is_held, card::specs::Card::has_hold))]
 fn is_held(e: Event) -> bool
     ensures { result ≡ is_held e }
 {
     match e {
         Event::Step { .. } => false,
-        Event::Linear { hold, .. } => has_hold(hold),
-        Event::Exponential { hold, .. } => has_hold(hold),
-        Event::Target { hold, .. } => has_hold(hold),
-        Event::Curve { hold, .. } => has_hold(hold),
+        Event::Linear { hold, .. }
+        | Event::Exponential { hold, .. }
+        | Event::Target { hold, .. }
+        | Event::Curve { hold, .. } => hold.is_some(),
     }
 }
 
@@ -52,14 +44,13 @@ fn is_unwritable(e: Event, numbers: &[f32]) -> bool
 }
 
 // How many bytes an event's field has.
+#[tactic(auto, unfolding(card::specs::Card::event_field, words::specs::Words::single_bytes, words::specs::Words::double_bytes, words::specs::Words::bytes_of))]
 fn field_length(e: Event, numbers: &[f32]) -> usize
     requires { length numbers.now ≤ store_length }
     ensures { result ≡ length (event_field e numbers.now) }
 {
     match e {
-        Event::Step { .. } => 15,
-        Event::Linear { .. } => 15,
-        Event::Exponential { .. } => 15,
+        Event::Step { .. } | Event::Linear { .. } | Event::Exponential { .. } => 15,
         Event::Target { .. } => 23,
         Event::Curve { .. } => 19 + 4 * numbers.len(),
     }
@@ -74,10 +65,8 @@ fn judge_events(p: AudioParam, store: &[f32]) -> Judged
     let n = q.len;
     let mut many = RANGE;
     let mut from = 0usize;
-    let mut i = 0usize;
-    while i < n {
-        let s = q.slots[i];
-        let e = s.event;
+    for i in 0..n {
+        let e = q.slots[i].event;
         let to = from + length_of(e);
         let numbers = &store[from..to];
         if is_unwritable(e, numbers) {
@@ -88,7 +77,6 @@ fn judge_events(p: AudioParam, store: &[f32]) -> Judged
         }
         many += field_length(e, numbers);
         from = to;
-        i += 1;
     }
     Judged {
         verdict: Ok(()),
@@ -162,10 +150,8 @@ fn put_numbers(out: &mut [u8], at: usize, numbers: &[f32]) -> usize
     ensures { Put out.old at (numbers_bytes numbers.now) out.new result }
 {
     let mut next = at;
-    let mut i = 0usize;
-    while i < numbers.len() {
+    for i in 0..numbers.len() {
         next = put_single(out, next, numbers[i]);
-        i += 1;
     }
     next
 }
@@ -208,17 +194,13 @@ fn put_events(p: AudioParam, store: &[f32], out: &mut [u8], at: usize) -> usize
     ensures { Put out.old at (fields_of (schedule_of p store.now)) out.new result }
 {
     let q = p.timeline();
-    let n = q.len;
     let mut next = at;
     let mut from = 0usize;
-    let mut i = 0usize;
-    while i < n {
-        let s = q.slots[i];
-        let e = s.event;
+    for i in 0..q.len {
+        let e = q.slots[i].event;
         let to = from + length_of(e);
         next = put_event(out, next, e, &store[from..to]);
         from = to;
-        i += 1;
     }
     next
 }
@@ -232,8 +214,7 @@ pub fn write(p: AudioParam, store: &[f32], out: &mut [u8]) -> Judged
     ensures { Saves p store.now out.old result out.new }
 {
     let said = judge(p, store);
-    let verdict = said.verdict;
-    if !is_accepted(verdict) {
+    if !is_accepted(said.verdict) {
         return said;
     }
     let at = said.at;

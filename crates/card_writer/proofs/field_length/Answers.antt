@@ -5,22 +5,6 @@ use Rattle.words.proofs.Bytes.{length-numbers}
 use Rattle.card.specs.Card.{event_field}
 use Rattle.card_writer.proofs.field_length.Goals as goal
 
-pub returns-in-Step : goal.returns-in-Step
-unfolding event_field single_bytes double_bytes bytes_of
-returns-in-Step c = rw c.in-Step.is
-
-pub returns-in-Linear : goal.returns-in-Linear
-unfolding event_field single_bytes double_bytes bytes_of
-returns-in-Linear c = rw c.in-Linear.is
-
-pub returns-in-Exponential : goal.returns-in-Exponential
-unfolding event_field single_bytes double_bytes bytes_of
-returns-in-Exponential c = rw c.in-Exponential.is
-
-pub returns-in-Target : goal.returns-in-Target
-unfolding event_field single_bytes double_bytes bytes_of
-returns-in-Target c = rw c.in-Target.is
-
 pub returns-in-Curve : goal.returns-in-Curve
 unfolding event_field single_bytes double_bytes bytes_of
 returns-in-Curve c = rw c.in-Curve.is (omega (arith, length-numbers c.args.numbers.now))

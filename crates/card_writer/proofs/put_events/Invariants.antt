@@ -1,6 +1,6 @@
 -- `put_events` meets its contract. The invariant of its loop: with the events left written behind, all are. Assumes nothing.
 use mathlib.Core.Path.{◌≡◌}
-use Prim.Native.Nat.{◌+◌, ◌-◌, ◌≤◌}
+use Prim.Native.Nat.{◌+◌, ◌≤◌}
 use lib.ListN.{length, take, drop}
 use Rattle.rules.specs.Queue.{lengths_of, attached}
 use Rattle.timeline.specs.Timeline.{waiting}
@@ -10,9 +10,6 @@ use Rattle.card_writer.proofs.put_events.Given as goal
 
 abbrev pub invariant-loop-i : goal.invariant-loop-i
 invariant-loop-i l =
-    (l.i ≤ l.n) × (l.from ≡ lengths_of (take l.i (waiting l.q))) × (length l.out ≡ length l.initial.out)
+    (l.i ≤ l.i-end) × (l.from ≡ lengths_of (take l.i (waiting l.q))) × (length l.out ≡ length l.initial.out)
     × (l.next + length (fields_of (drop l.i (attached (waiting l.q) l.store))) ≡ l.at + length (fields_of (attached (waiting l.q) l.store)))
     × Leaves l.initial.out l.at (fields_of (attached (waiting l.q) l.store)) l.out l.next (fields_of (drop l.i (attached (waiting l.q) l.store)))
-
-abbrev pub decreases-loop-i : goal.decreases-loop-i
-decreases-loop-i l = l.n - l.i

@@ -1,7 +1,7 @@
 -- `field::read_singles` meets its contract. The invariant of its loop: the numbers read, with those left behind them, are all. Assumes nothing.
 use mathlib.Core.Path.{◌≡◌}
 use mathlib.Core.List.{◌++◌}
-use Prim.Native.Nat.{◌-◌, ◌≤◌}
+use Prim.Native.Nat.{◌≤◌}
 use lib.ListN.{length, take}
 use Rattle.words.specs.Words.{singles_at}
 use Rattle.card_reader.proofs.Singles.{singles_from}

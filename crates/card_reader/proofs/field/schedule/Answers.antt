@@ -1,5 +1,4 @@
 -- `field::schedule` meets its contract: each tag's call. Assumes nothing.
-use mathlib.Core.Path.{◌≡◌}
 use Prim.Native.Nat.{◌≤◌}
 use native.Mathlib.Omega.{arith}
 use lib.ListN.{length}

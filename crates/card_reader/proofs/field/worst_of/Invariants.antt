@@ -1,6 +1,6 @@
 -- `field::worst_of` meets its contract: with i numbers passed, the others decide. Assumes nothing.
 use mathlib.Core.Path.{◌≡◌}
-use Prim.Native.Nat.{◌-◌, ◌≤◌}
+use Prim.Native.Nat.{◌≤◌}
 use Rattle.rules.specs.Refusals.{all_finite}
 use Rattle.words.specs.Words.{singles_at}
 use Rattle.card_reader.proofs.Singles.{singles_from}
