@@ -1,5 +1,7 @@
 -- The answers of the session language, as its page has them: the characters of each, without the newline.
-use Rattle.std.specs.Prelude.{Bool, true, cond, ◌&&◌, List, [], ◌∷◌, ◌++◌, ℕ, eqb, Float}
+use Rattle.rules.specs.declared.Finished.{Finished}
+use Rattle.rules.specs.declared.Refusal.{Refusal}
+use Rattle.std.specs.Prelude.{Bool, true, cond, ◌&&◌, List, [], ◌∷◌, ◌++◌, ℕ, eqb, Float, Option, Some, None, Result, Ok, Err}
 use Rattle.std.specs.Float.Ieee as Ieee
 use Rattle.std.specs.Float.{binary32, binary64}
 use Rattle.std.specs.Float.Ieee.{of_bits, to_bits}
@@ -8,10 +10,6 @@ use Rattle.rules.specs.declared.AutomationRate.TheVariants as Rate
 use Rattle.rules.specs.declared.Edition.{Edition}
 use Rattle.rules.specs.declared.Bounds.{Bounds}
 use Rattle.rules.specs.declared.Event.{Event}
-use Rattle.rules.specs.declared.LastEvent.{LastEvent}
-use Rattle.rules.specs.declared.LastEvent.TheVariants as Last
-use Rattle.rules.specs.declared.MaybeTime.{MaybeTime}
-use Rattle.rules.specs.declared.Verdict.{Verdict}
 use Rattle.rules.specs.Refusals.{number_of}
 use Rattle.text.specs.Digits.{decimal_of}
 use Rattle.text.specs.Floats.{float_text}
@@ -29,9 +27,9 @@ abbrev pub count : ℕ → ℕ → List ℕ
 count mark n = mark ∷ decimal_of n
 
 -- a time, "or `-`"
-unfoldable pub time_text : MaybeTime → List ℕ
-time_text MaybeTime.Missing = 45 ∷ []
-time_text (MaybeTime.At t) = float_text binary64 t
+unfoldable pub time_text : Option Float → List ℕ
+time_text None = 45 ∷ []
+time_text (Some t) = float_text binary64 t
 
 -- numbers, the first behind one mark and each other behind another
 unfoldable pub list_text : ℕ → ℕ → List Float → List ℕ
@@ -41,9 +39,9 @@ list_text first mark (x ∷ xs) = single first x ++ list_text mark mark xs
 -- ---- answers
 
 -- `ok`, or `refused NUMBER`
-unfoldable pub verdict_text : Verdict → List ℕ
-verdict_text Verdict.Answered = 111 ∷ 107 ∷ []
-verdict_text (Verdict.Refused why) = (114 ∷ 101 ∷ 102 ∷ 117 ∷ 115 ∷ 101 ∷ 100 ∷ []) ++ count 32 (number_of why)
+unfoldable pub verdict_text : Result Unit Refusal → List ℕ
+verdict_text (Ok _) = 111 ∷ 107 ∷ []
+verdict_text (Err why) = (114 ∷ 101 ∷ 102 ∷ 117 ∷ 115 ∷ 101 ∷ 100 ∷ []) ++ count 32 (number_of why)
 
 -- "`saved HEX`" (02, C-11)
 unfoldable pub saved_text : List ℕ → List ℕ
@@ -80,24 +78,24 @@ unfoldable pub kind_text : AutomationRate → Edition → List ℕ
 kind_text rate edition = rate_text rate ++ edition_text edition
 
 -- "LAST is `TIME:VALUE` of the last finished event or `-`"
-unfoldable pub last_text : LastEvent → List ℕ
-last_text Last.None = 32 ∷ 45 ∷ []
-last_text (Last.Done e) = double 32 e.time ++ single 58 e.value
+unfoldable pub last_text : Option Finished → List ℕ
+last_text None = 32 ∷ 45 ∷ []
+last_text (Some e) = double 32 e.time ++ single 58 e.value
 
 unfoldable pub bounds_text : Bounds → List ℕ
 bounds_text b = single 32 b.min ++ (single 32 b.default ++ single 32 b.max)
 
 -- the end of the last answered block, where there is one
-unfoldable pub end_text : MaybeTime → List ℕ
-end_text MaybeTime.Missing = []
-end_text (MaybeTime.At t) = double 58 t
+unfoldable pub end_text : Option Float → List ℕ
+end_text None = []
+end_text (Some t) = double 58 t
 
 -- "BLOCK is `TIME:END` of the last answered block, or `-`"
-unfoldable pub span_text : MaybeTime → MaybeTime → List ℕ
+unfoldable pub span_text : Option Float → Option Float → List ℕ
 span_text block end = (32 ∷ time_text block) ++ end_text end
 
 -- `state RATE MIN DEFAULT MAX INTRINSIC BLOCK LAST COUNT`
-unfoldable pub state_text : AutomationRate → Edition → Bounds → Float → MaybeTime → MaybeTime → LastEvent → ℕ → List ℕ
+unfoldable pub state_text : AutomationRate → Edition → Bounds → Float → Option Float → Option Float → Option Finished → ℕ → List ℕ
 state_text rate edition b v block end last n =
     (115 ∷ 116 ∷ 97 ∷ 116 ∷ 101 ∷ [])
     ++ (kind_text rate edition ++ (bounds_text b ++ (single 32 v ++ (span_text block end ++ (last_text last ++ count 32 n)))))
@@ -109,15 +107,15 @@ unfoldable pub step_text : Float → Float → List ℕ
 step_text v t = single 58 v ++ double 58 t
 
 -- `:V:T:H`, of a linear ramp and of an exponential one
-unfoldable pub ramp_text : Float → Float → MaybeTime → List ℕ
+unfoldable pub ramp_text : Float → Float → Option Float → List ℕ
 ramp_text v t h = step_text v t ++ (58 ∷ time_text h)
 
 -- `:V:T:TC:H`
-unfoldable pub target_text : Float → Float → Float → MaybeTime → List ℕ
+unfoldable pub target_text : Float → Float → Float → Option Float → List ℕ
 target_text v t c h = step_text v t ++ (double 58 c ++ (58 ∷ time_text h))
 
 -- `:T:D:H:N`; the numbers are to follow
-unfoldable pub curve_text : Float → Float → MaybeTime → ℕ → List ℕ
+unfoldable pub curve_text : Float → Float → Option Float → ℕ → List ℕ
 curve_text s d h n = double 58 s ++ (double 58 d ++ ((58 ∷ time_text h) ++ count 58 n))
 
 unfoldable pub event_text : Event → List ℕ

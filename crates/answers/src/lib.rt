@@ -9,7 +9,7 @@ ghost use Rattle.text.specs.Put.{Put};
 ghost use Rattle.answers.specs.Answers.{time_text, last_text, rate_text, edition_text, kind_text, event_text, list_text, verdict_text, saved_text, fault_text, block_text, rest_text, zeros_text, bounds_text, end_text, span_text, state_text, step_text, ramp_text, target_text, curve_text, are_marks, are_zeros};
 
 use refusals::number_of;
-use rules::{AutomationRate, Bounds, Edition, Event, Finished, LastEvent, MaybeTime, Verdict};
+use rules::{AutomationRate, Bounds, Edition, Event, Finished, Refusal};
 use text::hex::put_bytes;
 use text::write::{put_byte, put_count, put_double, put_single, put_word, single_bits};
 
@@ -42,14 +42,14 @@ fn put_count_behind(out: &mut [u8], at: usize, mark: u8, n: u64) -> usize
 }
 
 // A time, or `-` where there is none.
-fn put_time_behind(out: &mut [u8], at: usize, mark: u8, time: MaybeTime) -> usize
+fn put_time_behind(out: &mut [u8], at: usize, mark: u8, time: Option<f64>) -> usize
     requires { at + 17 ≤ length out.old }
     ensures put { Put out.old at (mark ∷ time_text time) out.new result }
     ensures upper_bound { result ≤ at + 17 }
 {
     match time {
-        MaybeTime::At(t) => put_double_behind(out, at, mark, t),
-        MaybeTime::Missing => {
+        Some(t) => put_double_behind(out, at, mark, t),
+        None => {
             let next = put_byte(out, at, mark);
             put_byte(out, next, b'-')
         }
@@ -72,14 +72,14 @@ pub fn put_list(out: &mut [u8], at: usize, first: u8, mark: u8, xs: &[f32]) -> u
     next
 }
 
-pub fn put_verdict(out: &mut [u8], at: usize, verdict: Verdict) -> usize
+pub fn put_verdict(out: &mut [u8], at: usize, verdict: Result<(), Refusal>) -> usize
     requires { at + 28 ≤ length out.old }
     ensures put { Put out.old at (verdict_text verdict) out.new result }
     ensures upper_bound { result ≤ at + 28 }
 {
     match verdict {
-        Verdict::Answered => put_word(out, at, b"ok"),
-        Verdict::Refused(why) => {
+        Ok(()) => put_word(out, at, b"ok"),
+        Err(why) => {
             let next = put_word(out, at, b"refused");
             put_count_behind(out, next, b' ', number_of(why) as u64)
         }
@@ -181,14 +181,14 @@ fn put_kind(out: &mut [u8], at: usize, rate: AutomationRate, edition: Edition) -
 }
 
 // The last finished event's time and value, or `-`.
-fn put_last(out: &mut [u8], at: usize, last: LastEvent) -> usize
+fn put_last(out: &mut [u8], at: usize, last: Option<Finished>) -> usize
     requires { at + 26 ≤ length out.old }
     ensures put { Put out.old at (last_text last) out.new result }
     ensures upper_bound { result ≤ at + 26 }
 {
     match last {
-        LastEvent::None => put_word(out, at, b" -"),
-        LastEvent::Done(e) => {
+        None => put_word(out, at, b" -"),
+        Some(e) => {
             let next = put_double_behind(out, at, b' ', e.time);
             put_single_behind(out, next, b':', e.value)
         }
@@ -206,19 +206,19 @@ fn put_bounds(out: &mut [u8], at: usize, bounds: Bounds) -> usize
 }
 
 // The last block's end, where there is one, behind its time.
-fn put_end(out: &mut [u8], at: usize, end: MaybeTime) -> usize
+fn put_end(out: &mut [u8], at: usize, end: Option<f64>) -> usize
     requires { at + 17 ≤ length out.old }
     ensures put { Put out.old at (end_text end) out.new result }
     ensures upper_bound { result ≤ at + 17 }
 {
     match end {
-        MaybeTime::Missing => at,
-        MaybeTime::At(t) => put_double_behind(out, at, b':', t),
+        None => at,
+        Some(t) => put_double_behind(out, at, b':', t),
     }
 }
 
 // The time of the last block and its end.
-fn put_span(out: &mut [u8], at: usize, block: MaybeTime, end: MaybeTime) -> usize
+fn put_span(out: &mut [u8], at: usize, block: Option<f64>, end: Option<f64>) -> usize
     requires { at + 34 ≤ length out.old }
     ensures put { Put out.old at (span_text block end) out.new result }
     ensures upper_bound { result ≤ at + 34 }
@@ -235,9 +235,9 @@ pub fn put_state(
     edition: Edition,
     bounds: Bounds,
     intrinsic: f32,
-    block: MaybeTime,
-    end: MaybeTime,
-    last: LastEvent,
+    block: Option<f64>,
+    end: Option<f64>,
+    last: Option<Finished>,
     count: u64,
 ) -> usize
     requires { at + 125 ≤ length out.old }
@@ -263,7 +263,7 @@ fn put_step(out: &mut [u8], at: usize, value: f32, time: f64) -> usize
     put_double_behind(out, next, b':', time)
 }
 
-fn put_ramp(out: &mut [u8], at: usize, value: f32, time: f64, hold: MaybeTime) -> usize
+fn put_ramp(out: &mut [u8], at: usize, value: f32, time: f64, hold: Option<f64>) -> usize
     requires { at + 43 ≤ length out.old }
     ensures put { Put out.old at (ramp_text value time hold) out.new result }
     ensures upper_bound { result ≤ at + 43 }
@@ -278,7 +278,7 @@ fn put_target(
     value: f32,
     time: f64,
     constant: f64,
-    hold: MaybeTime,
+    hold: Option<f64>,
 ) -> usize
     requires { at + 60 ≤ length out.old }
     ensures put { Put out.old at (target_text value time constant hold) out.new result }
@@ -295,7 +295,7 @@ fn put_curve(
     start: f64,
     duration: f64,
     len: u64,
-    hold: MaybeTime,
+    hold: Option<f64>,
 ) -> usize
     requires { at + 72 ≤ length out.old }
     ensures put { Put out.old at (curve_text start duration hold len) out.new result }

@@ -1,4 +1,5 @@
 -- A body's branches, each the rules' turn: over what was filled and what the callees gave. Assumes nothing.
+use Rattle.std.proofs.Common.{Option, Some, None}
 use mathlib.Core.Path.{◌≡◌, refl, sym, ap, ◌∙◌}
 use mathlib.Core.Bool.{true, false}
 use mathlib.Core.List.{List, []}
@@ -10,9 +11,7 @@ use lib.Seq.{drop-cons}
 use lib.Ieee as Ieee
 use lib.Ieee.{Float, nan, binary64}
 use Rattle.rules.specs.declared.BlockInfos.{BlockInfos}
-use Rattle.rules.specs.declared.MaybeTime.{MaybeTime}
 use Rattle.rules.specs.declared.Event.{Event}
-use Rattle.rules.specs.declared.Head.{Head}
 use Rattle.rules.specs.declared.Finished.{Finished}
 use Rattle.rules.specs.Numbers.{plus_zero, end_place}
 use Rattle.rules.specs.Samples.{linear_sample, exponential_sample, is_ratio, ratio_of, target_sample, curve_sample, last_number}
@@ -67,7 +66,7 @@ module _ {f : BlockInfos} {w : Walk} {b : List Float} {v t end : Float} {u : Wal
 
 -- A span's body behind its fill: its turn is the rules' span of the event e, with v the value with which it ends if not held; it ends at `end`; the walk is u, the
 -- buffer c.
-pub record Spanned (f : BlockInfos) (b numbers : List Float) (e : Event) (turn : Rules.Turn) (v : Float) (h : MaybeTime) (sample : Float → Float) (end : Float) (u : Walk) (c : List Float)
+pub record Spanned (f : BlockInfos) (b numbers : List Float) (e : Event) (turn : Rules.Turn) (v : Float) (h : Option Float) (sample : Float → Float) (end : Float) (u : Walk) (c : List Float)
     : Type 0 where
   pub before : Walk
   pub time : Float
@@ -78,7 +77,7 @@ pub record Spanned (f : BlockInfos) (b numbers : List Float) (e : Event) (turn :
   pub walk_is : u ≡ with_filled n before
   pub few : before.finished < 2 ^ 32
 
-module _ {f : BlockInfos} {b numbers : List Float} {e : Event} {turn : Rules.Turn} {v : Float} {h : MaybeTime} {sample : Float → Float} {end : Float} {u : Walk} {c : List Float}
+module _ {f : BlockInfos} {b numbers : List Float} {e : Event} {turn : Rules.Turn} {v : Float} {h : Option Float} {sample : Float → Float} {end : Float} {u : Walk} {c : List Float}
     (s : Spanned f b numbers e turn v h sample end u c) where
   pub span_few : u.finished < 2 ^ 32
   span_few = rw s.walk_is s.few
@@ -95,11 +94,11 @@ module _ {f : BlockInfos} {b numbers : List Float} {e : Event} {turn : Rules.Tur
       rw (s.turn_is, s.walk_is)
       (record { turn = rw (← s.end_is, g, s.filled.values, q, add-one); filled = s.filled.small; whole = s.filled.whole })
 
-  pub span_ends : Ieee.le f.next end ≡ false → h ≡ MaybeTime.Missing → {r : Float} → r ≡ v → Turns b numbers turn (went_on_with (consumed_with end r u) e) c
+  pub span_ends : Ieee.le f.next end ≡ false → h ≡ None → {r : Float} → r ≡ v → Turns b numbers turn (went_on_with (consumed_with end r u) e) c
   unfolding value_at_end
   span_ends g m q = span_goes g (rw m q)
 
-  pub span_held : Ieee.le f.next end ≡ false → {k : Float} → h ≡ MaybeTime.At k → {r : Float} → r ≡ sample end
+  pub span_held : Ieee.le f.next end ≡ false → {k : Float} → h ≡ Some k → {r : Float} → r ≡ sample end
       → Turns b numbers turn (went_on_with (consumed_with end r u) e) c
   unfolding value_at_end hold_or
   span_held g {k} m q = let z : end ≡ k = rw m at s.end_is in span_goes g (q ∙ rw (z, m))
@@ -107,15 +106,15 @@ module _ {f : BlockInfos} {b numbers : List Float} {e : Event} {turn : Rules.Tur
 -- ---- targets
 
 -- A target's run behind its fill, from the walk w in the buffer b on: `ended` says where it ends, if it does in this block; the walk is u, the buffer c.
-pub record Targeted (f : BlockInfos) (w : Walk) (b : List Float) (ended : MaybeTime) (sample : Float → Float) (end : Float) (u : Walk) (c : List Float) : Type 0 where
+pub record Targeted (f : BlockInfos) (w : Walk) (b : List Float) (ended : Option Float) (sample : Float → Float) (end : Float) (u : Walk) (c : List Float) : Type 0 where
   pub n : ℕ
   pub end_is : end ≡ hold_or ended f.next
   pub filled : Filled f (end_place f end) sample w.filled b n c
   pub walk_is : u ≡ with_filled n w
 
-module _ {f : BlockInfos} {w : Walk} {b : List Float} {ended : MaybeTime} {sample : Float → Float} {end : Float} {u : Walk} {c : List Float}
+module _ {f : BlockInfos} {w : Walk} {b : List Float} {ended : Option Float} {sample : Float → Float} {end : Float} {u : Walk} {c : List Float}
     (s : Targeted f w b ended sample end u c) {r : Float} (value : r ≡ sample end) where
-  pub target_ends : {k : Float} → ended ≡ MaybeTime.At k → (e : Event) (target : Float)
+  pub target_ends : {k : Float} → ended ≡ Some k → (e : Event) (target : Float)
       → Turns b [] (target_run f (walk_as w b) (alone e) target sample ended) (went_on_with (consumed_with end r u) e) c
   unfolding turn_as target_run fill with_values Rules.consumed hold_or
   target_ends {k} m e target =
@@ -124,7 +123,7 @@ module _ {f : BlockInfos} {w : Walk} {b : List Float} {ended : MaybeTime} {sampl
       (record { turn = rw (m, ← z, s.filled.values, value, add-one); filled = s.filled.small; whole = s.filled.whole })
 
   -- where it does not end in the block
-  module _ (m : ended ≡ MaybeTime.Missing) where
+  module _ (m : ended ≡ None) where
     at_next : end ≡ f.next
     unfolding hold_or
     at_next = rw m at s.end_is
@@ -166,7 +165,7 @@ last_read xs h =
 
 -- ---- which of these a body is
 
-module _ (f : BlockInfos) (w : Walk) (b : List Float) {from : Finished} (is : from ≡ last_or f w.intrinsic w.last) (x : Waiting) (v t : Float) (h : MaybeTime) where
+module _ (f : BlockInfos) (w : Walk) (b : List Float) {from : Finished} (is : from ≡ last_or f w.intrinsic w.last) (x : Waiting) (v t : Float) (h : Option Float) where
   pub linear_is : linear_turn f (walk_as w b) x v t h ≡ span_turn f (walk_as (with_last from w) b) x t v h (linear_sample from v (Ieee.sub binary64 t from.time))
   unfolding linear_turn start_of Rules.with_last
   linear_is = rw (← is)
@@ -181,7 +180,7 @@ module _ (f : BlockInfos) (w : Walk) (b : List Float) {from : Finished} (is : fr
   unfolding exponential_turn start_of Rules.with_last Rules.with_turned Rules.counted
   exponential_steps r = rw (← is, r, add-one, add-one)
 
-  module _ (k : Float) (n : Head) where
+  module _ (k : Float) (n : Option Event) where
     pub target_waits : Ieee.lt f.next t ≡ true → target_turn f (walk_as w b) x v t k h n ≡ Rules.stop (walk_as (with_last from w) b) x
     unfolding target_turn start_of Rules.with_last
     target_waits g = rw (← is, g)
@@ -192,7 +191,7 @@ module _ (f : BlockInfos) (w : Walk) (b : List Float) {from : Finished} (is : fr
     unfolding target_turn start_of Rules.with_last
     target_is g = rw (← is, g)
 
-module _ (f : BlockInfos) (w : Walk) (b : List Float) (x : Waiting) (s d : Float) (h : MaybeTime) where
+module _ (f : BlockInfos) (w : Walk) (b : List Float) (x : Waiting) (s d : Float) (h : Option Float) where
   pub curve_waits : Ieee.lt f.next s ≡ true → curve_turn f (walk_as w b) x s d h ≡ Rules.stop (walk_as w b) x
   unfolding curve_turn
   curve_waits g = rw g

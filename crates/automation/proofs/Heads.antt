@@ -1,4 +1,6 @@
 -- The walk as a loop over heads: what holds before each, and what each does of the rules' walk. Assumes nothing.
+use Rattle.std.proofs.Common.{Option, Some, None}
+use Rattle.rules.specs.declared.Finished.{Finished}
 use mathlib.Core.Path.{◌≡◌, refl, sym, ap, ◌∙◌}
 use mathlib.Core.List.{List, [], ◌∷◌}
 use Prim.Native.Nat.{ℕ, ◌+◌, ◌*◌, ◌≤◌, ◌<◌, ◌^◌}
@@ -9,8 +11,6 @@ use lib.Seq.{take-suc-set}
 use lib.Ieee.{Float}
 use Rattle.rules.specs.declared.AutomationRate.TheVariants as Rate
 use Rattle.rules.specs.declared.Event.{Event}
-use Rattle.rules.specs.declared.Head.{Head}
-use Rattle.rules.specs.declared.LastEvent.{LastEvent}
 use Rattle.rules.specs.declared.BlockInfos.{BlockInfos}
 use Rattle.rules.specs.Queue.{Waiting, head_of, length_of, lengths_of, attached}
 use Rattle.rules.specs.Walk as Rules
@@ -33,17 +33,17 @@ use Rattle.automation.specs.Walked.{Begins, Ends, Walkable, Walks}
 
 -- ---- the ends of a walk
 
-pub begins_a : {f : BlockInfos} {v : Float} {l : LastEvent} {b : List Float} → f.rate ≡ Rate.A
+pub begins_a : {f : BlockInfos} {v : Float} {l : Option Finished} {b : List Float} → f.rate ≡ Rate.A
     → Begins f v l b (record { intrinsic = v; last = l; filled = 0; steps = 0; finished = 0; turned = 0 }) b
 unfolding values_before
 begins_a r = record { walk = rw r; filled = omega arith; whole = refl }
 
-pub begins_k : {f : BlockInfos} {v : Float} {l : LastEvent} {b : List Float} → 0 < length b → f.rate ≡ Rate.K
+pub begins_k : {f : BlockInfos} {v : Float} {l : Option Finished} {b : List Float} → 0 < length b → f.rate ≡ Rate.K
     → Begins f v l b (record { intrinsic = v; last = l; filled = 1; steps = 0; finished = 0; turned = 0 }) (set b 0 v)
 unfolding values_before
 begins_k {v = v} {b = b} h r = record { walk = rw (r, take-suc-set b 0 v h); filled = rw (length-set b 0 v) h; whole = length-set b 0 v }
 
-pub ends : (f : BlockInfos) (w : Walk) (b : List Float) (at : ℕ) (head : Head) {n : ℕ} {c : List Float}
+pub ends : (f : BlockInfos) (w : Walk) (b : List Float) (at : ℕ) (head : Option Event) {n : ℕ} {c : List Float}
     → Filled f f.count (λ s. w.intrinsic) w.filled b n c → Ends f w b at head (record { walk = with_filled n w; at = at; head = head }) c
 unfolding fill with_values
 ends f w b at head g = record { walk = rw g.values; filled = g.small; whole = g.whole; place = refl; left = refl }
@@ -58,7 +58,7 @@ module _ (store : List Float) (offset : ℕ) (e : Event) {k : ℕ} (size : k ≡
   pub lent_numbered : Numbered e (numbers_at store offset e) → Numbered e (lent store offset k)
   lent_numbered n = rw (lent_is store offset e size) n
 
-  pub takes_head : (f : BlockInfos) (w : Walk) (b : List Float) (n : Head) {u : Walk} {r : Turn} {c : List Float} → u ≡ counted_once w → Turns b (lent store offset k) (turn_of f (walk_as u b) (waiting_as e (lent store offset k)) n e) r c
+  pub takes_head : (f : BlockInfos) (w : Walk) (b : List Float) (n : Option Event) {u : Walk} {r : Turn} {c : List Float} → u ≡ counted_once w → Turns b (lent store offset k) (turn_of f (walk_as u b) (waiting_as e (lent store offset k)) n e) r c
       → Turns b (numbers_at store offset e) (turn f (walk_as w b) (waiting_as e (numbers_at store offset e)) n) r c
   unfolding turn
   takes_head f w b n taken g = rw (← counted_is w b) (rw (lent_is store offset e size, taken) at g)
@@ -67,7 +67,7 @@ module _ (store : List Float) (offset : ℕ) (e : Event) {k : ℕ} (size : k ≡
 
 -- Before a head: as many heads are finished as `at` says, and where the next one's numbers begin is known. The walk w, in the buffer b, goes on as the whole
 -- walk from w₀.
-pub record Going (f : BlockInfos) (es : List Event) (store : List Float) (w₀ : Rules.Walk) (b₀ : List Float) (w : Walk) (b : List Float) (head : Head) (at offset : ℕ) : Type 0 where
+pub record Going (f : BlockInfos) (es : List Event) (store : List Float) (w₀ : Rules.Walk) (b₀ : List Float) (w : Walk) (b : List Float) (head : Option Event) (at offset : ℕ) : Type 0 where
   pub offset_is : offset ≡ lengths_of (take at es)
   pub head_is : head ≡ first_of (drop at es)
   pub filled : w.filled ≤ length b
@@ -78,7 +78,7 @@ pub record Going (f : BlockInfos) (es : List Event) (store : List Float) (w₀ :
   pub turned : w.turned ≤ at
   pub goes_on : walked f (walk_as w b) (drop at (attached es store)) ≡ walked f w₀ (attached es store)
 
-pub begins : {f : BlockInfos} {v : Float} {l : LastEvent} {b : List Float} {w : Walk} {c : List Float} → Begins f v l b w c → {es : List Event} {store : List Float} {head : Head}
+pub begins : {f : BlockInfos} {v : Float} {l : Option Finished} {b : List Float} {w : Walk} {c : List Float} → Begins f v l b w c → {es : List Event} {store : List Float} {head : Option Event}
     → head ≡ first_of es → Going f es store (walk_as w c) c w c head 0 0
 unfolding lengths_of
 begins g e =
@@ -94,14 +94,14 @@ begins g e =
       goes_on = refl;
     }
 
-module _ {f : BlockInfos} {es : List Event} {store : List Float} {w₀ : Rules.Walk} {b₀ : List Float} {w : Walk} {b : List Float} {head : Head} {at offset : ℕ}
+module _ {f : BlockInfos} {es : List Event} {store : List Float} {w₀ : Rules.Walk} {b₀ : List Float} {w : Walk} {b : List Float} {head : Option Event} {at offset : ℕ}
     (g : Going f es store w₀ b₀ w b head at offset) where
   abbrev ws : List Waiting
   ws = attached es store
 
   -- ---- the queue is empty
 
-  pub none_left : head ≡ Head.Empty → {r : Walked} {c : List Float} → Ends f (counted_once w) b at Head.Empty r c → Walks f w₀ es store b₀ r c
+  pub none_left : head ≡ None → {r : Walked} {c : List Float} → Ends f (counted_once w) b at None r c → Walks f w₀ es store b₀ r c
   unfolding ended with_head counted
   none_left h {r} {c} d =
       let y : drop at ws ≡ [] = none_waits es store at (sym g.head_is ∙ h) in
@@ -115,14 +115,14 @@ module _ {f : BlockInfos} {es : List Event} {store : List Float} {w₀ : Rules.W
 
   -- ---- the head e, with what is behind it
 
-  module _ {e : Event} (is : head ≡ Head.Event e) where
+  module _ {e : Event} (is : head ≡ Some e) where
     abbrev numbers : List Float
     numbers = numbers_at store offset e
 
     abbrev rest : List Waiting
     rest = drop (at + 1) ws
 
-    waits : first_of (drop at es) ≡ Head.Event e
+    waits : first_of (drop at es) ≡ Some e
     waits = sym g.head_is ∙ is
 
     -- the head stands there, with what is behind it
@@ -138,11 +138,11 @@ module _ {f : BlockInfos} {es : List Event} {store : List Float} {w₀ : Rules.W
     pub numbered : SoundQueue es → lengths_of es ≤ length store → Numbered e numbers
     numbered = numbered-there es store at g.offset_is waits
 
-    module _ {n : Head} (behind : n ≡ first_of (drop (at + 1) es)) {r : Turn} {c : List Float} (answer : Turns b numbers (turn f (walk_as w b) (waiting_as e numbers) n) r c) where
+    module _ {n : Option Event} (behind : n ≡ first_of (drop (at + 1) es)) {r : Turn} {c : List Float} (answer : Turns b numbers (turn f (walk_as w b) (waiting_as e numbers) n) r c) where
       turned_as : turn_as r.go r.walk c r.head numbers ≡ turn f (walk_as w b) (waiting_as e numbers) (head_of rest)
       turned_as = answer.turn ∙ ap (turn f (walk_as w b) (waiting_as e numbers)) (behind_is es store at behind)
 
-      pub head_stops : r.go ≡ Go.Stop → {d : Walked} {c' : List Float} → Ends f r.walk c at (Head.Event r.head) d c' → Walks f w₀ es store b₀ d c'
+      pub head_stops : r.go ≡ Go.Stop → {d : Walked} {c' : List Float} → Ends f r.walk c at (Some r.head) d c' → Walks f w₀ es store b₀ d c'
       unfolding turn_as ended with_head
       head_stops s {d} {c'} h =
           let y : walked f w₀ ws ≡ ended f (walk_as r.walk c) (waiting_as r.head numbers ∷ rest) =
@@ -177,7 +177,7 @@ pub end_room : {f : BlockInfos} {q : AudioParamEventTimeline} {b store : List Fl
     → Room n f.count c
 end_room p h e = record { filled = h; upto = omega (arith, p.room); most = omega (arith, p.most) }
 
-module _ {f : BlockInfos} {q : AudioParamEventTimeline} {b store : List Float} (p : Walkable f q b store) {w₀ : Rules.Walk} {b₀ : List Float} {w : Walk} {c : List Float} {head : Head}
+module _ {f : BlockInfos} {q : AudioParamEventTimeline} {b store : List Float} (p : Walkable f q b store) {w₀ : Rules.Walk} {b₀ : List Float} {w : Walk} {c : List Float} {head : Option Event}
     {at offset : ℕ} (g : Going f (waiting q) store w₀ b₀ w c head at offset) where
   -- every count is at most twice the number of events
   pub few_steps : w.steps < 2 ^ 31
@@ -196,7 +196,7 @@ module _ {f : BlockInfos} {q : AudioParamEventTimeline} {b store : List Float} (
       }
 
 -- the walk begins as the rules' does
-pub walks : {f : BlockInfos} {v : Float} {l : LastEvent} {b : List Float} {w : Walk} {b₀ : List Float} → Begins f v l b w b₀ → {es : List Event} {store : List Float}
+pub walks : {f : BlockInfos} {v : Float} {l : Option Finished} {b : List Float} {w : Walk} {b₀ : List Float} → Begins f v l b w b₀ → {es : List Event} {store : List Float}
     → {r : Walked} {c : List Float} → Walks f (walk_as w b₀) es store b₀ r c → Walks f (walk_from v l (values_before f.rate v) 0) es store b r c
 walks g d =
     record { walk = rw (← g.walk) d.walk; queue = rw (← g.walk) d.queue; filled = d.filled; whole = d.whole ∙ g.whole }

@@ -1,8 +1,7 @@
 -- What a walk begins with, what it leans on, and what it leaves.
-use Rattle.std.specs.Prelude.{◌≡◌, List, ℕ, ◌≤◌, ◌<◌, length, drop, Float}
+use Rattle.rules.specs.declared.Finished.{Finished}
+use Rattle.std.specs.Prelude.{◌≡◌, List, ℕ, ◌≤◌, ◌<◌, length, drop, Float, Option}
 use Rattle.rules.specs.declared.Event.{Event}
-use Rattle.rules.specs.declared.Head.{Head}
-use Rattle.rules.specs.declared.LastEvent.{LastEvent}
 use Rattle.rules.specs.declared.BlockInfos.{BlockInfos}
 use Rattle.rules.specs.Queue.{lengths_of, attached}
 use Rattle.rules.specs.Walk as Rules
@@ -17,13 +16,13 @@ use Rattle.automation.specs.declared.Walked.{Walked}
 use Rattle.automation.specs.Walks.{walk_as}
 
 -- a walk before its first head, in the buffer c that was b
-pub record Begins (f : BlockInfos) (v : Float) (l : LastEvent) (b : List Float) (w : Walk) (c : List Float) : Type 0 where
+pub record Begins (f : BlockInfos) (v : Float) (l : Option Finished) (b : List Float) (w : Walk) (c : List Float) : Type 0 where
   pub walk : walk_as w c ≡ walk_from v l (values_before f.rate v) 0
   pub filled : w.filled ≤ length c
   pub whole : length c ≡ length b
 
 -- a walk that ends with w, at this place and with this head left, in the buffer c that was b
-pub record Ends (f : BlockInfos) (w : Walk) (b : List Float) (at : ℕ) (head : Head) (r : Walked) (c : List Float) : Type 0 where
+pub record Ends (f : BlockInfos) (w : Walk) (b : List Float) (at : ℕ) (head : Option Event) (r : Walked) (c : List Float) : Type 0 where
   pub walk : walk_as r.walk c ≡ fill f f.count (λ s. w.intrinsic) (walk_as w b)
   pub filled : r.walk.filled ≤ length c
   pub whole : length c ≡ length b

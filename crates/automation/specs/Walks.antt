@@ -1,9 +1,8 @@
 -- How the code's walk stands for the rules': the filled places of the block are the walk's values.
-use Rattle.std.specs.Prelude.{◌≡◌, List, ℕ, ◌+◌, ◌≤◌, ◌<◌, ◌^◌, length, take, Float}
+use Rattle.std.specs.Prelude.{◌≡◌, List, ℕ, ◌+◌, ◌≤◌, ◌<◌, ◌^◌, length, take, Float, Some}
 use Rattle.rules.specs.declared.Event.{Event}
 use Rattle.rules.specs.declared.BlockInfos.{BlockInfos}
 use Rattle.rules.specs.declared.Finished.{Finished}
-use Rattle.rules.specs.declared.LastEvent.TheVariants as LastEvent
 use Rattle.rules.specs.Walk as Rules
 use Rattle.rules.specs.Walk.{stop, on}
 use Rattle.timeline.specs.Heads.{waiting_as}
@@ -60,7 +59,7 @@ with_intrinsic v w =
 
 abbrev pub with_last : Finished → Walk → Walk
 with_last l w =
-    record { intrinsic = w.intrinsic; last = LastEvent.Done l; filled = w.filled; steps = w.steps; finished = w.finished; turned = w.turned }
+    record { intrinsic = w.intrinsic; last = Some l; filled = w.filled; steps = w.steps; finished = w.finished; turned = w.turned }
 
 -- one head more
 abbrev pub counted_once : Walk → Walk
@@ -77,7 +76,7 @@ abbrev pub consumed_with : Float → Float → Walk → Walk
 consumed_with t v w =
     record {
       intrinsic = v;
-      last = LastEvent.Done (record { time = t; value = v });
+      last = Some (record { time = t; value = v });
       filled = w.filled;
       steps = w.steps;
       finished = w.finished + 1;

@@ -16,14 +16,14 @@ ghost use Rattle.timeline.specs.Heads.{waiting_as, numbers_at, Numbered};
 ghost use Rattle.automation.specs.Walks.{walk_as, Ready, Turns, with_filled, with_intrinsic, with_last, consumed_with, counted_once, turned_to_step, stopped_with, went_on_with};
 ghost use Rattle.automation.specs.Walked.{Begins, Ends, Walkable, Walks};
 
-use rules::{AutomationRate, BlockInfos, Event, Finished, Head, LastEvent, MaybeTime};
+use rules::{AutomationRate, BlockInfos, Event, Finished};
 use timeline::{AudioParamEventTimeline, hold_or};
 
 // What a walk carries from head to head, beside the places of the block, of which the first `filled` places are filled (at K-rate: the block's one value).
 #[derive(Clone, Copy)]
 pub struct Walk {
     pub intrinsic: f32,
-    pub last: LastEvent,
+    pub last: Option<Finished>,
     pub filled: usize,
     pub steps: usize,
     pub finished: usize,
@@ -52,7 +52,7 @@ impl Walk {
     {
         Walk {
             intrinsic: self.intrinsic,
-            last: LastEvent::Done(finished),
+            last: Some(finished),
             filled: self.filled,
             steps: self.steps,
             finished: self.finished,
@@ -67,7 +67,7 @@ impl Walk {
     {
         Walk {
             intrinsic: value,
-            last: LastEvent::Done(Finished { time, value }),
+            last: Some(Finished { time, value }),
             filled: self.filled,
             steps: self.steps,
             finished: self.finished + 1,
@@ -151,11 +151,11 @@ fn start_of(infos: BlockInfos, walk: Walk) -> Finished
 {
     let last = walk.last;
     match last {
-        LastEvent::None => Finished {
+        None => Finished {
             time: infos.time,
             value: walk.intrinsic,
         },
-        LastEvent::Done(finished) => finished,
+        Some(finished) => finished,
     }
 }
 
@@ -167,35 +167,27 @@ fn is_ratio(ratio: f32) -> bool
 }
 
 // Where the next event ends a target.
-fn end_by_next(infos: BlockInfos, time: f64, next: Head) -> MaybeTime
+fn end_by_next(infos: BlockInfos, time: f64, next: Option<Event>) -> Option<f64>
     ensures { result ≡ end_by_next infos time next }
 {
-    let Head::Event(event) = next else {
-        return MaybeTime::Missing;
+    let Some(event) = next else {
+        return None;
     };
     if timeline::is_ramp(event) {
-        return MaybeTime::At(floats::later_of(infos.time, time));
+        return Some(floats::later_of(infos.time, time));
     }
     let end = timeline::filed_under(event);
-    if end < infos.next {
-        MaybeTime::At(end)
-    } else {
-        MaybeTime::Missing
-    }
+    if end < infos.next { Some(end) } else { None }
 }
 
 // A hold time in the block replaces that end.
-fn end_by_hold(infos: BlockInfos, hold: MaybeTime, end: MaybeTime) -> MaybeTime
+fn end_by_hold(infos: BlockInfos, hold: Option<f64>, end: Option<f64>) -> Option<f64>
     ensures { result ≡ end_by_hold infos hold end }
 {
-    let MaybeTime::At(c) = hold else {
+    let Some(c) = hold else {
         return end;
     };
-    if c < infos.next {
-        MaybeTime::At(c)
-    } else {
-        end
-    }
+    if c < infos.next { Some(c) } else { end }
 }
 
 // Whether a value is so near a target that it becomes it.
@@ -234,7 +226,7 @@ pub fn compute_linear_ramp_automation(
     buffer: &mut [f32],
     value: f32,
     time: f64,
-    hold: MaybeTime,
+    hold: Option<f64>,
 ) -> Turn
     requires { Ready infos walk buffer.old }
     ensures { Turns buffer.old [] (linear_turn infos (walk_as walk buffer.old) (alone (Event.Linear value time hold)) value time hold) result buffer.new }
@@ -261,7 +253,7 @@ pub fn compute_linear_ramp_automation(
         return Turn::stop(w.with_intrinsic(at_next), head);
     }
     // it ends in this one: with its own value, or where it is held
-    let MaybeTime::At(_) = hold else {
+    let Some(_) = hold else {
         return Turn::consume(w, end_time, value, head);
     };
     let at_end = samples::linear_value(last_event, value, duration, end_time);
@@ -276,7 +268,7 @@ fn exponential_span(
     from: Finished,
     value: f32,
     time: f64,
-    hold: MaybeTime,
+    hold: Option<f64>,
     ratio: f32,
 ) -> Turn
     requires { Ready infos walk buffer.old }
@@ -302,7 +294,7 @@ fn exponential_span(
         let at_next = samples::exponential_value(from, value, duration, log, infos.next);
         return Turn::stop(w.with_intrinsic(at_next), head);
     }
-    let MaybeTime::At(_) = hold else {
+    let Some(_) = hold else {
         return Turn::consume(w, end_time, value, head);
     };
     let at_end = samples::exponential_value(from, value, duration, log, end_time);
@@ -315,7 +307,7 @@ pub fn compute_exponential_ramp_automation(
     buffer: &mut [f32],
     value: f32,
     time: f64,
-    hold: MaybeTime,
+    hold: Option<f64>,
 ) -> Turn
     requires { Ready infos walk buffer.old × (walk.steps < 2 ^ 32) × (walk.turned < 2 ^ 32) }
     ensures { Turns buffer.old [] (exponential_turn infos (walk_as walk buffer.old) (alone (Event.Exponential value time hold)) value time hold) result buffer.new }
@@ -364,7 +356,7 @@ fn target_run(
     value: f32,
     time: f64,
     constant: f64,
-    ended: MaybeTime,
+    ended: Option<f64>,
 ) -> Turn
     requires { Ready infos walk buffer.old }
     ensures { Turns buffer.old [] (target_run infos (walk_as walk buffer.old) (alone head) value (from_start time walk.intrinsic (target_sample from value time constant)) ended) result buffer.new }
@@ -386,7 +378,7 @@ fn target_run(
     );
     let w = walk.with_filled(faded.filled);
     let at_end = faded.value;
-    let MaybeTime::At(_) = ended else {
+    let Some(_) = ended else {
         return target_left(infos, w, buffer, head, value, at_end);
     };
     Turn::consume(w, end_time, at_end, head)
@@ -400,8 +392,8 @@ pub fn compute_set_target_automation(
     value: f32,
     time: f64,
     constant: f64,
-    hold: MaybeTime,
-    next: Head,
+    hold: Option<f64>,
+    next: Option<Event>,
 ) -> Turn
     requires { Ready infos walk buffer.old }
     ensures { Turns buffer.old [] (target_turn infos (walk_as walk buffer.old) (alone (Event.Target value time constant hold)) value time constant hold next) result buffer.new }
@@ -430,7 +422,7 @@ fn curve_span(
     head: Event,
     start: f64,
     duration: f64,
-    hold: MaybeTime,
+    hold: Option<f64>,
     values: &[f32],
 ) -> Turn
     requires { Ready infos walk buffer.old × (2 ≤ length values.now) × (length values.now ≤ store_length) }
@@ -454,7 +446,7 @@ fn curve_span(
         let at_next = fills::curve_value(start, intrinsic, duration, values, infos.next);
         return Turn::stop(w.with_intrinsic(at_next), head);
     }
-    let MaybeTime::At(_) = hold else {
+    let Some(_) = hold else {
         return Turn::consume(w, end_time, values[values.len() - 1], head);
     };
     let at_end = fills::curve_value(start, intrinsic, duration, values, end_time);
@@ -468,7 +460,7 @@ pub fn compute_set_value_curve_automation(
     buffer: &mut [f32],
     start: f64,
     duration: f64,
-    hold: MaybeTime,
+    hold: Option<f64>,
     values: &[f32],
 ) -> Turn
     requires { Ready infos walk buffer.old × (2 ≤ length values.now) × (length values.now ≤ store_length) }
@@ -494,7 +486,7 @@ fn compute_event(
     walk: Walk,
     buffer: &mut [f32],
     event: Event,
-    next: Head,
+    next: Option<Event>,
     values: &[f32],
 ) -> Turn
     requires { Ready infos walk buffer.old × (walk.steps < 2 ^ 32) × (walk.turned < 2 ^ 32) × Numbered event values.now }
@@ -531,7 +523,7 @@ fn take_head(
     walk: Walk,
     buffer: &mut [f32],
     event: Event,
-    next: Head,
+    next: Option<Event>,
     store: &[f32],
     offset: usize,
 ) -> Turn
@@ -544,7 +536,7 @@ fn take_head(
 }
 
 // A walk before its first head: at K-rate the block's one value is the intrinsic one.
-fn begin(infos: BlockInfos, intrinsic: f32, last: LastEvent, buffer: &mut [f32]) -> Walk
+fn begin(infos: BlockInfos, intrinsic: f32, last: Option<Finished>, buffer: &mut [f32]) -> Walk
     requires { 0 < length buffer.old }
     ensures { Begins infos intrinsic last buffer.old result buffer.new }
 {
@@ -571,11 +563,11 @@ fn begin(infos: BlockInfos, intrinsic: f32, last: LastEvent, buffer: &mut [f32])
 pub struct Walked {
     pub walk: Walk,
     pub at: usize,
-    pub head: Head,
+    pub head: Option<Event>,
 }
 
 // Places left when a walk stops take the intrinsic value.
-fn end(infos: BlockInfos, walk: Walk, buffer: &mut [f32], at: usize, head: Head) -> Walked
+fn end(infos: BlockInfos, walk: Walk, buffer: &mut [f32], at: usize, head: Option<Event>) -> Walked
     requires { Room walk.filled infos.count buffer.old }
     ensures { Ends infos walk buffer.old at head result buffer.new }
 {
@@ -591,7 +583,7 @@ fn end(infos: BlockInfos, walk: Walk, buffer: &mut [f32], at: usize, head: Head)
 pub fn compute_buffer(
     infos: BlockInfos,
     intrinsic: f32,
-    last: LastEvent,
+    last: Option<Finished>,
     buffer: &mut [f32],
     timeline: AudioParamEventTimeline,
     store: &[f32],
@@ -604,23 +596,23 @@ pub fn compute_buffer(
     let mut at = 0usize;
     let mut offset = 0usize;
     loop {
-        let Head::Event(event) = head else {
-            return end(infos, walk.counted(), buffer, at, Head::Empty);
+        let Some(event) = head else {
+            return end(infos, walk.counted(), buffer, at, None);
         };
         // from the slot itself: a call with the whole queue would copy it for each head
         let behind = at + 1;
-        let mut next = Head::Empty;
+        let mut next = None;
         if behind < timeline.len {
             let slot = timeline.slots[behind];
             let waits = slot.event;
-            next = Head::Event(waits);
+            next = Some(waits);
         }
         let turn = take_head(infos, walk, buffer, event, next, store, offset);
         walk = turn.walk;
         let go = turn.go;
         if let Go::Stop = go {
             let left = turn.head;
-            return end(infos, walk, buffer, at, Head::Event(left));
+            return end(infos, walk, buffer, at, Some(left));
         }
         at = behind;
         offset = offset + timeline::length_of(event);

@@ -1,4 +1,6 @@
 -- Answers that tell whether two things are the same. Assumes nothing.
+use Rattle.std.proofs.Common.{Result, Ok, Err}
+use Rattle.rules.specs.declared.Refusal.{Refusal}
 use mathlib.Core.Path.{◌≡◌, refl, sym, ap, ◌∙◌, subst}
 use mathlib.Core.Bool.{Bool, true, false, cond, ◌&&◌, beq}
 use mathlib.Core.List.{List}
@@ -7,7 +9,6 @@ use lib.Dec.{T, eqb}
 use lib.Ieee.{Float, binary32, to_bits}
 use borrow.Author.Tests.{eq-eqb, eqb-true}
 use Rattle.rules.specs.declared.Refusal.TheVariants as Refusal
-use Rattle.rules.specs.declared.Verdict.{Verdict}
 use Rattle.rules.specs.Refusals.{number_of}
 use Rattle.text.proofs.Reading.{and_true}
 use Rattle.param.specs.declared.AudioParam.{AudioParam}
@@ -30,32 +31,32 @@ as_well to back t = record { so = λ e. to (t.so e); always = λ u. t.always (ba
 
 -- ---- a verdict by its number
 
-verdict_at : ℕ → Verdict
+verdict_at : ℕ → Result Unit Refusal
 verdict_at n =
-    cond (eqb n 0) Verdict.Answered (cond (eqb n 1) (Verdict.Refused Refusal.Bounds) (cond (eqb n 2) (Verdict.Refused Refusal.NotFinite)
-    (cond (eqb n 3) (Verdict.Refused Refusal.BeforeZero) (cond (eqb n 4) (Verdict.Refused Refusal.NotAbove) (cond (eqb n 5) (Verdict.Refused Refusal.ZeroTarget)
-    (cond (eqb n 6) (Verdict.Refused Refusal.ShortCurve) (cond (eqb n 7) (Verdict.Refused Refusal.QueueFull) (cond (eqb n 8) (Verdict.Refused Refusal.StoreFull)
-    (cond (eqb n 9) (Verdict.Refused Refusal.BadBlock) (cond (eqb n 10) (Verdict.Refused Refusal.OutOfOrder) (cond (eqb n 11) (Verdict.Refused Refusal.Inside)
-    (cond (eqb n 12) (Verdict.Refused Refusal.UnknownEdition) (Verdict.Refused Refusal.BadStore)))))))))))))
+    cond (eqb n 0) (Ok tt) (cond (eqb n 1) (Err Refusal.Bounds) (cond (eqb n 2) (Err Refusal.NotFinite)
+    (cond (eqb n 3) (Err Refusal.BeforeZero) (cond (eqb n 4) (Err Refusal.NotAbove) (cond (eqb n 5) (Err Refusal.ZeroTarget)
+    (cond (eqb n 6) (Err Refusal.ShortCurve) (cond (eqb n 7) (Err Refusal.QueueFull) (cond (eqb n 8) (Err Refusal.StoreFull)
+    (cond (eqb n 9) (Err Refusal.BadBlock) (cond (eqb n 10) (Err Refusal.OutOfOrder) (cond (eqb n 11) (Err Refusal.Inside)
+    (cond (eqb n 12) (Err Refusal.UnknownEdition) (Err Refusal.BadStore)))))))))))))
 
-back : (v : Verdict) → verdict_at (number_for v) ≡ v
+back : (v : Result Unit Refusal) → verdict_at (number_for v) ≡ v
 unfolding number_for number_of verdict_at
-back Verdict.Answered = refl
-back (Verdict.Refused Refusal.Bounds) = refl
-back (Verdict.Refused Refusal.NotFinite) = refl
-back (Verdict.Refused Refusal.BeforeZero) = refl
-back (Verdict.Refused Refusal.NotAbove) = refl
-back (Verdict.Refused Refusal.ZeroTarget) = refl
-back (Verdict.Refused Refusal.ShortCurve) = refl
-back (Verdict.Refused Refusal.QueueFull) = refl
-back (Verdict.Refused Refusal.StoreFull) = refl
-back (Verdict.Refused Refusal.BadBlock) = refl
-back (Verdict.Refused Refusal.OutOfOrder) = refl
-back (Verdict.Refused Refusal.Inside) = refl
-back (Verdict.Refused Refusal.UnknownEdition) = refl
-back (Verdict.Refused Refusal.BadStore) = refl
+back (Ok _) = refl
+back (Err Refusal.Bounds) = refl
+back (Err Refusal.NotFinite) = refl
+back (Err Refusal.BeforeZero) = refl
+back (Err Refusal.NotAbove) = refl
+back (Err Refusal.ZeroTarget) = refl
+back (Err Refusal.ShortCurve) = refl
+back (Err Refusal.QueueFull) = refl
+back (Err Refusal.StoreFull) = refl
+back (Err Refusal.BadBlock) = refl
+back (Err Refusal.OutOfOrder) = refl
+back (Err Refusal.Inside) = refl
+back (Err Refusal.UnknownEdition) = refl
+back (Err Refusal.BadStore) = refl
 
-pub one_verdict : {v w : Verdict} → number_for v ≡ number_for w → v ≡ w
+pub one_verdict : {v w : Result Unit Refusal} → number_for v ≡ number_for w → v ≡ w
 one_verdict {v} {w} e = sym (back v) ∙ ap verdict_at e ∙ back w
 
 -- ---- a parameter by its state, an answer by its parts
@@ -74,10 +75,10 @@ same_bits : {x y : Float} → x ≡ y → same_value x y ≡ true
 unfolding same_value
 same_bits {x} {y} e = eq-eqb (to_bits binary32 x) (to_bits binary32 y) (ap (to_bits binary32) e)
 
-abbrev answer_of : Verdict → AudioParam → ℕ → Float → Bool → Processed
+abbrev answer_of : Result Unit Refusal → AudioParam → ℕ → Float → Bool → Processed
 answer_of v p n x b = record { verdict = v; param = p; steps = n; current = x; one = b }
 
-one_answer : {v w : Verdict} {p q : AudioParam} {m n : ℕ} {x y : Float} {a b : Bool} → v ≡ w → p ≡ q → m ≡ n → x ≡ y → a ≡ b → answer_of v p m x a ≡ answer_of w q n y b
+one_answer : {v w : Result Unit Refusal} {p q : AudioParam} {m n : ℕ} {x y : Float} {a b : Bool} → v ≡ w → p ≡ q → m ≡ n → x ≡ y → a ≡ b → answer_of v p m x a ≡ answer_of w q n y b
 one_answer e₁ e₂ e₃ e₄ e₅ = rw (e₁, e₂, e₃, e₄, e₅)
 
 module _ {r t : Processed} {m n : ℕ} {value param : Bool} where

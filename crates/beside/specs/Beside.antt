@@ -1,8 +1,8 @@
 -- Where two runs of samples differ first, and when two results are the same.
-use Rattle.std.specs.Prelude.{◌≡◌, Bool, true, cond, List, [], ◌∷◌, ℕ, suc, eqb, Float}
+use Rattle.rules.specs.declared.Refusal.{Refusal}
+use Rattle.std.specs.Prelude.{◌≡◌, Bool, true, cond, List, [], ◌∷◌, ℕ, suc, eqb, Float, Result, Ok, Err}
 use Rattle.std.specs.Float.{binary32}
 use Rattle.std.specs.Float.Ieee.{to_bits}
-use Rattle.rules.specs.declared.Verdict.{Verdict}
 use Rattle.rules.specs.Refusals.{number_of}
 use Rattle.beside.specs.declared.Place.{Place}
 
@@ -22,9 +22,9 @@ abbrev pub first_difference : List Float → List Float → Place
 first_difference xs ys = differs_from 0 xs ys
 
 -- 01's number of a refusal; 0 where the call is answered
-unfoldable pub number_for : Verdict → ℕ
-number_for Verdict.Answered = 0
-number_for (Verdict.Refused why) = number_of why
+unfoldable pub number_for : Result Unit Refusal → ℕ
+number_for (Ok _) = 0
+number_for (Err why) = number_of why
 
 -- ---- what the functions ensure
 

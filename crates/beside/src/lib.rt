@@ -5,9 +5,9 @@ ghost use Rattle.std.specs.Prelude.{◌≡◌};
 ghost use Rattle.param.specs.Param.{param_of, SoundParam};
 ghost use Rattle.beside.specs.Beside.{SameValue, FirstPlace, Tells, number_for};
 
+use rules::Refusal;
 use coding::encode;
 use param::{AudioParam, Processed};
-use rules::Verdict;
 use text::write::single_bits;
 
 // A place of two runs of samples, or none of them.
@@ -84,12 +84,12 @@ fn same_param(p: AudioParam, q: AudioParam) -> bool
 }
 
 // Document 01's number of a refusal; 0 where the call is answered.
-fn number_for(v: Verdict) -> u8
+fn number_for(v: Result<(), Refusal>) -> u8
     ensures { result ≡ number_for v }
 {
     match v {
-        Verdict::Answered => 0,
-        Verdict::Refused(why) => refusals::number_of(why),
+        Ok(()) => 0,
+        Err(why) => refusals::number_of(why),
     }
 }
 

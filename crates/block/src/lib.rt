@@ -8,7 +8,7 @@ ghost use Rattle.rules.specs.Block.{infos_of, rests_for, says_one};
 ghost use Rattle.block.specs.Asked.{asked, Fitting, Given, mixed_in, written};
 
 use floats::taken_time;
-use rules::{AutomationRate, BlockInfos, Bounds, Head};
+use rules::{AutomationRate, BlockInfos, Bounds, Event};
 
 // ---- its times, and whether it needs a walk
 
@@ -27,12 +27,12 @@ pub fn infos_of(rate: AutomationRate, time: f64, period: f64, count: usize) -> B
 }
 
 // Whether the block is one-valued: the first event does not reach into it.
-pub fn rests_for(infos: BlockInfos, head: Head) -> bool
+pub fn rests_for(infos: BlockInfos, head: Option<Event>) -> bool
     ensures { result ≡ rests_for infos head }
 {
     match head {
-        Head::Empty => true,
-        Head::Event(e) => !timeline::is_ramp(e) & (infos.next < timeline::filed_under(e)),
+        None => true,
+        Some(e) => !timeline::is_ramp(e) & (infos.next < timeline::filed_under(e)),
     }
 }
 

@@ -1,4 +1,5 @@
 -- What the writer writes the reader accepts: of a queue before the first block each event is in turn, and its call is answered behind those before it. Assumes nothing.
+use Rattle.std.proofs.Common.{Some, None, Ok}
 use mathlib.Core.Path.{◌≡◌, refl, sym, ◌∙◌}
 use mathlib.Core.Bool.{Bool, true, false}
 use mathlib.Core.List.{List, [], ◌∷◌, ◌++◌}
@@ -10,9 +11,7 @@ use lib.ListN.{length, length-append}
 use lib.Ieee as Ieee
 use lib.Ieee.{Float, nan, inf, fin, binary64, fits}
 use borrow.Author.Tests.{not-true, lt-leb, le-ltb, eq-eqb, leb-true}
-use Rattle.rules.specs.declared.MaybeTime.{MaybeTime}
 use Rattle.rules.specs.declared.Event.{Event}
-use Rattle.rules.specs.declared.Verdict.TheVariants as Verdict
 use Rattle.rules.specs.Numbers.{most_events, store_length, plus_zero, is_finite, is_zero, is_positive, is_negative, taken_time}
 use Rattle.rules.specs.Queue.{Waiting, hold_or, filed_under, curve_end, covers, any, any_covers, is_filed_inside, any_inside, events_of, packed, length_of, lengths_of}
 use Rattle.rules.specs.Refusals.{lowest, all_finite, is_period, is_crossed, is_earlier, value_rows, exponential_rows, target_rows, curve_rows}
@@ -94,22 +93,22 @@ module _ (q : List Event) (few : length q < most_events) where
     as_given : taken_time t ≡ t
     as_given = taken_is t f (from_zero_not_minus t from)
 
-    value_answers : (v : Float) → is_finite v ≡ true → lowest (value_rows q v t) ≡ Verdict.Answered
+    value_answers : (v : Float) → is_finite v ≡ true → lowest (value_rows q v t) ≡ Ok tt
     unfolding value_rows lowest all_finite
     value_answers v h = rw (h, fine, from_zero_not_negative t from, as_given, free, lt-leb most_events (length q) few) refl
 
-    exponential_answers : (v : Float) → is_finite v ≡ true → is_zero v ≡ false → lowest (exponential_rows q v t) ≡ Verdict.Answered
+    exponential_answers : (v : Float) → is_finite v ≡ true → is_zero v ≡ false → lowest (exponential_rows q v t) ≡ Ok tt
     unfolding exponential_rows lowest all_finite
     exponential_answers v h z = rw (h, fine, from_zero_not_negative t from, z, as_given, free, lt-leb most_events (length q) few) refl
 
-    target_answers : (v c : Float) → is_finite v ≡ true → is_finite c ≡ true → is_positive c ≡ true → lowest (target_rows q v t c) ≡ Verdict.Answered
+    target_answers : (v c : Float) → is_finite v ≡ true → is_finite c ≡ true → is_positive c ≡ true → lowest (target_rows q v t c) ≡ Ok tt
     unfolding target_rows lowest all_finite
     target_answers v c h fc pc =
         rw (h, fine, fc, from_zero_not_negative t from, from_zero_not_negative c (positive_from_zero c pc), as_given, free, lt-leb most_events (length q) few) refl
 
     curve_answers : (store : List Float) (d : Float) (xs : List Float) → is_finite d ≡ true → is_positive d ≡ true → all_finite xs ≡ true → 2 ≤ length xs
-        → any_inside t (curve_end t d MaybeTime.Missing) q ≡ false → lengths_of q + length xs ≤ store_length → length store ≡ store_length
-        → lowest (curve_rows q store t d xs) ≡ Verdict.Answered
+        → any_inside t (curve_end t d None) q ≡ false → lengths_of q + length xs ≤ store_length → length store ≡ store_length
+        → lowest (curve_rows q store t d xs) ≡ Ok tt
     unfolding curve_rows lowest all_finite is_crossed
     curve_answers store d xs fd pd fx two none room lent =
         rw (fine, fd, fx, from_zero_not_negative t from, pd, le-ltb (length xs) 2 two, as_given, free, none, lt-leb most_events (length q) few, le-ltb store_length (lengths_of q + length xs) room, eq-eqb (length store) store_length lent) refl
@@ -144,7 +143,7 @@ pub record Good (zs : List Waiting) : Type 0 where
 
 -- the call of an event behind these is answered, and in turn
 pub record Accepts (p : Param) (ws : List Waiting) (c : Command) : Type 0 where
-  pub answered : (called (with_queue (events_of ws) p) (packed ws) c).verdict ≡ Verdict.Answered
+  pub answered : (called (with_queue (events_of ws) p) (packed ws) c).verdict ≡ Ok tt
   pub turn : is_out_of_turn (last_time (events_of ws)) c ≡ false
 
 pub events_middle : (ws : List Waiting) (v : Waiting) (vs : List Waiting) → events_of (ws ++ (v ∷ vs)) ≡ events_of ws ++ (v.event ∷ events_of vs)
@@ -182,34 +181,34 @@ module _ (p : Param) (ws : List Waiting) where
         answered = scheduled_verdict _ _ _ _ ∙ value_answers (events_of ws) b.few t b.due k.1 w.event.1 b.outside v k.0;
         turn = in_turn_by (step v t) b.order k.1 refl;
       }
-  accepts_as (Event.Linear v t (MaybeTime.At c)) xs w b lent = never (sym w.free)
-  accepts_as (Event.Linear v t MaybeTime.Missing) xs w b lent =
-      let k = linear_parts v t MaybeTime.Missing b.clear in
+  accepts_as (Event.Linear v t (Some c)) xs w b lent = never (sym w.free)
+  accepts_as (Event.Linear v t None) xs w b lent =
+      let k = linear_parts v t None b.clear in
       let z : is_from_zero t ≡ true = (taken-parts t k.1.time).1 in
       record {
         answered = scheduled_verdict _ _ _ _ ∙ value_answers (events_of ws) b.few t b.due z w.event.1 b.outside v k.0;
         turn = in_turn_by (linear v t) b.order z refl;
       }
-  accepts_as (Event.Exponential v t (MaybeTime.At c)) xs w b lent = never (sym w.free)
-  accepts_as (Event.Exponential v t MaybeTime.Missing) xs w b lent =
-      let k = exponential_parts v t MaybeTime.Missing b.clear in
+  accepts_as (Event.Exponential v t (Some c)) xs w b lent = never (sym w.free)
+  accepts_as (Event.Exponential v t None) xs w b lent =
+      let k = exponential_parts v t None b.clear in
       let z : is_from_zero t ≡ true = (taken-parts t k.2.time).1 in
       record {
         answered = scheduled_verdict _ _ _ _ ∙ exponential_answers (events_of ws) b.few t b.due z w.event.1 b.outside v k.0 (not-true _ k.1);
         turn = in_turn_by (exponential v t) b.order z refl;
       }
-  accepts_as (Event.Target v t c (MaybeTime.At h)) xs w b lent = never (sym w.free)
-  accepts_as (Event.Target v t c MaybeTime.Missing) xs w b lent =
-      let k = target_parts v t c MaybeTime.Missing b.clear in
+  accepts_as (Event.Target v t c (Some h)) xs w b lent = never (sym w.free)
+  accepts_as (Event.Target v t c None) xs w b lent =
+      let k = target_parts v t c None b.clear in
       let z : is_from_zero t ≡ true = (taken-parts t k.time).1 in
       let a = both (is_finite c) (is_positive c) (unfold is_period in k.constant) in
       record {
         answered = scheduled_verdict _ _ _ _ ∙ target_answers (events_of ws) b.few t b.due z w.event.1.0 b.outside v c k.value a.0 a.1;
         turn = in_turn_by (target v t c) b.order z (positive_not_zero c a.1);
       }
-  accepts_as (Event.Curve s d n (MaybeTime.At h)) xs w b lent = never (sym w.free)
-  accepts_as (Event.Curve s d n MaybeTime.Missing) xs w b lent =
-      let k = curve_parts s d n MaybeTime.Missing b.clear in
+  accepts_as (Event.Curve s d n (Some h)) xs w b lent = never (sym w.free)
+  accepts_as (Event.Curve s d n None) xs w b lent =
+      let k = curve_parts s d n None b.clear in
       let z : is_from_zero s ≡ true = (taken-parts s k.start).1 in
       let a = both (is_finite d) (is_positive d) (unfold is_period in k.duration) in
       let two : 2 ≤ length xs = rw w.long (leb-true 2 n k.enough) in

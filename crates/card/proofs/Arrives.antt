@@ -1,4 +1,5 @@
 -- An event that is not earlier than the last stands behind all others, and its time is as it was given. Assumes nothing.
+use Rattle.std.proofs.Common.{Some}
 use mathlib.Core.Path.{◌≡◌, refl, sym, ap, ◌∙◌}
 use mathlib.Core.Bool.{Bool, true, false, cond, not, ◌&&◌, ◌||◌}
 use mathlib.Core.List.{List, [], ◌∷◌, ◌++◌, append-nil}
@@ -13,7 +14,6 @@ use lib.Ieee as Ieee
 use lib.Ieee.{Float, nan, inf, fin, binary64, fits, up, down}
 use lib.Ieee.Fits.{up_pos}
 use borrow.Author.Tests.{eqb-true}
-use Rattle.rules.specs.declared.MaybeTime.TheVariants as MaybeTime
 use Rattle.rules.specs.declared.Event.{Event}
 use Rattle.rules.specs.Numbers.{plus_zero, is_zero, taken_time}
 use Rattle.rules.specs.Queue.{Waiting, filed_under, events_of, numbers_of, packed, has_not_later, place_behind, put_at, inserted, arrived}
@@ -98,7 +98,7 @@ unfolding packed numbers_of
 packed-alone w ws h = rw (numbers-append ws (w ∷ []), h, append-nil (numbers_of ws)) refl
 
 -- the last of these
-pub last_time_lem : (q : List Event) (e : Event) → last_time (q ++ (e ∷ [])) ≡ MaybeTime.At (filed_under e)
+pub last_time_lem : (q : List Event) (e : Event) → last_time (q ++ (e ∷ [])) ≡ Some (filed_under e)
 unfolding last_time
 last_time_lem [] e = refl
 last_time_lem (d ∷ []) e = refl

@@ -1,4 +1,6 @@
 -- "What the writer writes, the reader gives back, event for event" (02, C-11). Assumes nothing.
+use Rattle.card.specs.declared.Fault.{Fault}
+use Rattle.std.proofs.Common.{Ok, Result, Err}
 use mathlib.Core.Path.{◌≡◌, refl, sym, ap, ◌∙◌, subst}
 use mathlib.Core.Bool.{Bool, true, false, cond, not, ◌||◌}
 use mathlib.Core.List.{List, [], ◌∷◌, ◌++◌, append_assoc, append-nil}
@@ -12,7 +14,6 @@ use borrow.Author.Tests.{not-false, eq-eqb, eqb-true}
 use Rattle.rules.specs.declared.Bounds.{Bounds}
 use Rattle.rules.specs.declared.AutomationRate.{AutomationRate}
 use Rattle.rules.specs.declared.Event.{Event}
-use Rattle.rules.specs.declared.Verdict.TheVariants as Verdict
 use Rattle.rules.specs.Numbers.{store_length}
 use Rattle.rules.specs.Queue.{Waiting, events_of, numbers_of, packed, attached, lengths_of}
 use Rattle.rules.specs.Refusals.{lowest, are_bounds, is_edition, making_rows, all_finite}
@@ -24,7 +25,6 @@ use Rattle.laws.proofs.Tests.{never, neither}
 use Rattle.laws.proofs.Events.{events_attached}
 use Rattle.laws.proofs.Store.{attached_fits}
 use Rattle.laws.proofs.Editions.{edition_back}
-use Rattle.card.specs.declared.CardVerdict.{CardVerdict}
 use Rattle.card.specs.declared.Fault.TheVariants as Fault
 use Rattle.card.specs.declared.Judged.{Judged}
 use Rattle.card.specs.Card.{is_accepted, Reader, opened, ranged_as, field_turn, taken, fed, at_end, end_turn, read, event_field, fields_of, range_field, file_of, is_unwritable, is_held, Loaded, loaded_as, loaded, bad_store, unwritable, judged_from, judged}
@@ -71,7 +71,7 @@ module _ (rate : AutomationRate) (n : ℕ) (b : Bounds) where
   -- ---- the range, and so the whole file
 
   module _ (fine : are_bounds b ≡ true) (known : is_edition n ≡ true) (f : FitBounds b) where
-    answered : lowest (making_rows b n) ≡ Verdict.Answered
+    answered : lowest (making_rows b n) ≡ Ok tt
     unfolding lowest making_rows
     answered = rw (fine, known) refl
 
@@ -79,7 +79,7 @@ module _ (rate : AutomationRate) (n : ℕ) (b : Bounds) where
     unfolding made made_as
     made_is = rw answered refl
 
-    kept_range : (rest : List ℕ) → ranged_as Verdict.Answered (range_field b ++ rest) (opened rate n) ≡ behind rate n b []
+    kept_range : (rest : List ℕ) → ranged_as (Ok tt) (range_field b ++ rest) (opened rate n) ≡ behind rate n b []
     unfolding ranged_as packed numbers_of events_of file_of fields_of last_time
     kept_range rest = rw (bounds_written b rest f, made_is, (range_field_lem b rest).0.long, append-nil (range_field b), zero-add (length (range_field b))) refl
 
@@ -99,19 +99,19 @@ module _ (rate : AutomationRate) (n : ℕ) (b : Bounds) where
 -- ---- what the writer writes
 
 -- of the events: "24 in writing, a held event .. or a curve number not finite"
-judged_from_lem : (ws : List Waiting) (place many : ℕ) → (judged_from place ws many).verdict ≡ cond (any_unwritable ws) (CardVerdict.Refused Fault.Unwritable) CardVerdict.Answered
+judged_from_lem : (ws : List Waiting) (place many : ℕ) → (judged_from place ws many).verdict ≡ cond (any_unwritable ws) (Err Fault.Unwritable) (Ok tt)
 unfolding judged_from any_unwritable
 judged_from_lem [] place many = refl
 judged_from_lem (w ∷ ws) place many = go (is_unwritable w) (judged_from_lem ws (suc place) many)
   where
-    go : (u : Bool) → (judged_from (suc place) ws many).verdict ≡ cond (any_unwritable ws) (CardVerdict.Refused Fault.Unwritable) CardVerdict.Answered
-        → (cond u (unwritable place) (judged_from (suc place) ws many)).verdict ≡ cond (u || any_unwritable ws) (CardVerdict.Refused Fault.Unwritable) CardVerdict.Answered
+    go : (u : Bool) → (judged_from (suc place) ws many).verdict ≡ cond (any_unwritable ws) (Err Fault.Unwritable) (Ok tt)
+        → (cond u (unwritable place) (judged_from (suc place) ws many)).verdict ≡ cond (u || any_unwritable ws) (Err Fault.Unwritable) (Ok tt)
     go true more = refl
     go false more = more
 
 -- with a store of 4,096 numbers the writer refuses exactly where a block was answered, an event is held or a curve number is not finite, and then with 24
 pub refused_exactly : (p : Param) (store : List Float) → length store ≡ store_length
-    → (judged p store).verdict ≡ cond (has_played p.last_block || any_unwritable (attached p.queue store)) (CardVerdict.Refused Fault.Unwritable) CardVerdict.Answered
+    → (judged p store).verdict ≡ cond (has_played p.last_block || any_unwritable (attached p.queue store)) (Err Fault.Unwritable) (Ok tt)
 unfolding judged
 refused_exactly p store lent = rw (eq-eqb (length store) store_length lent) (go (has_played p.last_block))
   where
@@ -119,12 +119,12 @@ refused_exactly p store lent = rw (eq-eqb (length store) store_length lent) (go 
     many = length (file_of p.bounds (attached p.queue store))
 
     go : (b : Bool) → (cond b (unwritable 0) (judged_from 0 (attached p.queue store) many)).verdict
-        ≡ cond (b || any_unwritable (attached p.queue store)) (CardVerdict.Refused Fault.Unwritable) CardVerdict.Answered
+        ≡ cond (b || any_unwritable (attached p.queue store)) (Err Fault.Unwritable) (Ok tt)
     go true = refl
     go false = judged_from_lem (attached p.queue store) 0 many
 
 -- so where it is answered
-pub judged_lent : (p : Param) (store : List Float) → (judged p store).verdict ≡ CardVerdict.Answered → length store ≡ store_length
+pub judged_lent : (p : Param) (store : List Float) → (judged p store).verdict ≡ Ok tt → length store ≡ store_length
 unfolding judged is_accepted
 judged_lent p store h = go (eqb (length store) store_length) refl (ap is_accepted h)
   where
@@ -135,11 +135,11 @@ judged_lent p store h = go (eqb (length store) store_length) refl (ap is_accepte
     go true e k = eqb-true (length store) store_length e
     go false e k = never k
 
-none_unwritable : (p : Param) (store : List Float) → (judged p store).verdict ≡ CardVerdict.Answered → any_unwritable (attached p.queue store) ≡ false
+none_unwritable : (p : Param) (store : List Float) → (judged p store).verdict ≡ Ok tt → any_unwritable (attached p.queue store) ≡ false
 unfolding is_accepted
 none_unwritable p store h = go (has_played p.last_block) (any_unwritable (attached p.queue store)) (ap is_accepted (sym (refused_exactly p store (judged_lent p store h)) ∙ h))
   where
-    go : (a b : Bool) → is_accepted (cond (a || b) (CardVerdict.Refused Fault.Unwritable) CardVerdict.Answered) ≡ true → b ≡ false
+    go : (a b : Bool) → is_accepted (cond (a || b) (Err Fault.Unwritable) (Ok tt)) ≡ true → b ≡ false
     go true b k = never k
     go false true k = never k
     go false false k = refl
@@ -158,7 +158,7 @@ unfolding has_played
 new_due p u = subst (λ (b : Bool). are_due b p.queue ≡ true) (ap (λ (q : Param). has_played q.last_block) u.new) u.sound.due
 
 module _ (p : Param) (store : List Float) (u : Unplayed p) (f : FitBounds p.bounds) (g : FitWaiting (attached p.queue store))
-    (a : (judged p store).verdict ≡ CardVerdict.Answered) where
+    (a : (judged p store).verdict ≡ Ok tt) where
   abbrev waits : List Waiting
   waits = attached p.queue store
 
@@ -182,7 +182,7 @@ module _ (p : Param) (store : List Float) (u : Unplayed p) (f : FitBounds p.boun
   -- the whole parameter, rate and edition by the caller, and its curves' numbers with zeros behind them, whatever the caller had
   pub given_back : (q : Param) (other : List Float) → length other ≡ store_length
       → loaded (read p.rate (number_of_edition p.edition) (file_of p.bounds waits)) q other
-      ≡ record { says = record { verdict = CardVerdict.Answered; at = length (file_of p.bounds waits) }; param = p; store = packed waits }
+      ≡ record { says = record { verdict = Ok tt; at = length (file_of p.bounds waits) }; param = p; store = packed waits }
   unfolding loaded loaded_as
   given_back q other lent = rw (is_read, eq-eqb (length other) store_length lent, is_the_parameter) refl
 
@@ -193,10 +193,10 @@ pub refused_changes_nothing : (r : Reader) (p : Param) (store : List Float) → 
 unfolding loaded loaded_as is_accepted
 refused_changes_nothing r p store h = go (eqb (length store) store_length) r.verdict h
   where
-    after : Bool → CardVerdict → Loaded
+    after : Bool → Result Unit Fault → Loaded
     after b v = cond b (loaded_as v r p store) (record { says = bad_store; param = p; store = store })
 
-    go : (b : Bool) (v : CardVerdict) → is_accepted (after b v).says.verdict ≡ false → ((after b v).param ≡ p) × ((after b v).store ≡ store)
+    go : (b : Bool) (v : Result Unit Fault) → is_accepted (after b v).says.verdict ≡ false → ((after b v).param ≡ p) × ((after b v).store ≡ store)
     go false v k = (refl, refl)
-    go true CardVerdict.Answered k = never (sym k)
-    go true (CardVerdict.Refused f) k = (refl, refl)
+    go true (Ok _) k = never (sym k)
+    go true (Err f) k = (refl, refl)

@@ -1,4 +1,6 @@
 -- A field's bytes: where it is whole and its length is its tag's, its numbers lie inside; what stands behind it counts for nothing. Assumes nothing.
+use Rattle.std.proofs.Common.{Result, Ok, Err}
+use Rattle.rules.specs.declared.Refusal.{Refusal}
 use mathlib.Core.Path.{◌≡◌, refl, sym, ap, ◌∙◌}
 use mathlib.Core.Bool.{Bool, true, false, cond, not, ◌&&◌}
 use mathlib.Core.List.{List, ◌++◌}
@@ -8,7 +10,6 @@ use lib.Dec.{leb, eqb}
 use lib.ListN.{length, get_or-append, length-append}
 use lib.Ieee.{Float}
 use borrow.Author.Tests.{leb-true, eqb-true, not-false, le-leb}
-use Rattle.rules.specs.declared.Verdict.{Verdict}
 use Rattle.rules.specs.Refusals.{lowest, making_rows}
 use Rattle.rules.specs.Block.{Command, step, linear, exponential, target, curve, Called, called}
 use Rattle.laws.proofs.Tests.{never, both, and}
@@ -163,15 +164,15 @@ module _ (bs cs : List ℕ) where
         ∙ rw (double_front bs cs 3 (omega (arith, room bs w h)), double_front bs cs 11 (omega (arith, long, whole)), numbers_front, singles_front bs cs 19 (numbers_in bs) (omega (arith, long, whole))) (sym (curve_in_lem bs t))
     event_front a_range t e = never (sym (rw t at e))
 
-    ranged_front : (v : Verdict) (r : Reader) → ranged_as v (bs ++ cs) r ≡ ranged_as v bs r
+    ranged_front : (v : Result Unit Refusal) (r : Reader) → ranged_as v (bs ++ cs) r ≡ ranged_as v bs r
     unfolding ranged_as
-    ranged_front Verdict.Answered r = rw (bounds_front, field_front (whole_parts bs w).0) refl
-    ranged_front (Verdict.Refused why) r = refl
+    ranged_front (Ok _) r = rw (bounds_front, field_front (whole_parts bs w).0) refl
+    ranged_front (Err why) r = refl
 
-    taken_front : (v : Verdict) (k : Called) (t : Float) (r : Reader) → taken_as v k t (bs ++ cs) r ≡ taken_as v k t bs r
+    taken_front : (v : Result Unit Refusal) (k : Called) (t : Float) (r : Reader) → taken_as v k t (bs ++ cs) r ≡ taken_as v k t bs r
     unfolding taken_as
-    taken_front Verdict.Answered k t r = rw (field_front (whole_parts bs w).0) refl
-    taken_front (Verdict.Refused why) k t r = refl
+    taken_front (Ok _) k t r = rw (field_front (whole_parts bs w).0) refl
+    taken_front (Err why) k t r = refl
 
     turn_event : (c : Command) (r : Reader) → event_turn c (bs ++ cs) r ≡ event_turn c bs r
     unfolding event_turn

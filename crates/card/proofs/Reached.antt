@@ -1,4 +1,6 @@
 -- What is reached by calls before the first block can be written and read back (02, C-11): nothing but its queue is not as it was made. Assumes nothing.
+use Rattle.std.proofs.Common.{None, Result, Ok, Err}
+use Rattle.rules.specs.declared.Refusal.{Refusal}
 use mathlib.Core.Path.{◌≡◌, refl, sym, ap, ◌∙◌}
 use mathlib.Core.Bool.{Bool, true, false, cond, not}
 use mathlib.Core.List.{List, [], ◌∷◌}
@@ -9,8 +11,6 @@ use lib.Ieee.{Float}
 use Rattle.rules.specs.declared.Bounds.{Bounds}
 use Rattle.rules.specs.declared.AutomationRate.{AutomationRate}
 use Rattle.rules.specs.declared.Event.{Event}
-use Rattle.rules.specs.declared.LastEvent.{LastEvent}
-use Rattle.rules.specs.declared.Verdict.{Verdict}
 use Rattle.rules.specs.Numbers.{plus_zero, store_length, is_zero, taken_time}
 use Rattle.rules.specs.Queue.{Waiting, attached, packed, returned, value_after_cancel, value_after_hold, loses_head, loses_curve, head_of}
 use Rattle.rules.specs.Block.{Param, fresh, with_queue, made, Command, set, step, linear, exponential, target, curve, cancel, hold, called, scheduled_as, called_as}
@@ -21,7 +21,6 @@ use Rattle.laws.proofs.Kept.{made-fresh, made_sound, called_sound, called-apart}
 use Rattle.laws.proofs.Clear.{all-parts, step_parts, linear_parts, exponential_parts, target_parts, curve_parts}
 use Rattle.laws.proofs.Results.{taken-parts}
 use Rattle.playing.specs.Play.{State, begun, asked, after_call, scheduled}
-use Rattle.card.specs.declared.CardVerdict.TheVariants as CardVerdict
 use Rattle.card.specs.Card.{time_of, is_minus_zero, read, loaded, file_of, judged}
 use Rattle.card.specs.Back.{FitBounds, FitWaiting, Unplayed, command_of}
 use Rattle.card.proofs.Back.{given_back}
@@ -29,22 +28,22 @@ use Rattle.card.proofs.Accepts.{from_zero_not_minus}
 
 -- ---- a call leaves all but the queue
 
-scheduled_leaves : (v : Verdict) (p : Param) (store : List Float) (e : Event) → let r = (scheduled_as v p store e).param in r ≡ with_queue r.queue p
+scheduled_leaves : (v : Result Unit Refusal) (p : Param) (store : List Float) (e : Event) → let r = (scheduled_as v p store e).param in r ≡ with_queue r.queue p
 unfolding scheduled_as
-scheduled_leaves Verdict.Answered p store e = refl
-scheduled_leaves (Verdict.Refused r) p store e = refl
+scheduled_leaves (Ok _) p store e = refl
+scheduled_leaves (Err r) p store e = refl
 
-called_leaves : (v : Verdict) (p : Param) (store : List Float) (ws : List Waiting) (x : Float) → x ≡ p.intrinsic → let r = (called_as v p store ws x).param in r ≡ with_queue r.queue p
+called_leaves : (v : Result Unit Refusal) (p : Param) (store : List Float) (ws : List Waiting) (x : Float) → x ≡ p.intrinsic → let r = (called_as v p store ws x).param in r ≡ with_queue r.queue p
 unfolding called_as
-called_leaves Verdict.Answered p store ws x h = rw h refl
-called_leaves (Verdict.Refused r) p store ws x h = refl
+called_leaves (Ok _) p store ws x h = rw h refl
+called_leaves (Err r) p store ws x h = refl
 
 -- with no last event a cancel and a hold leave the intrinsic value
 same_value_lem : (b : Bool) (v : Float) → cond b v v ≡ v
 same_value_lem true v = refl
 same_value_lem false v = refl
 
-leaves_rest : (p : Param) (store : List Float) (c : Command) → p.last ≡ LastEvent.None → let r = (called p store c).param in r ≡ with_queue r.queue p
+leaves_rest : (p : Param) (store : List Float) (c : Command) → p.last ≡ None → let r = (called p store c).param in r ≡ with_queue r.queue p
 unfolding called value_after_cancel value_after_hold returned
 leaves_rest p store (set v) n = scheduled_leaves _ p store _
 leaves_rest p store (step v t) n = scheduled_leaves _ p store _
@@ -96,9 +95,9 @@ before_the_first_block b r n store cs = reached_unplayed (begun b r n store) cs 
 -- "What the writer writes, the reader gives back, event for event": the parameter and the store that any calls leave before the first block
 pub what_is_written_is_read : (b : Bounds) (r : AutomationRate) (n : ℕ) (store : List Float) (cs : List Command) → let s = scheduled (begun b r n store) cs in
     let ws = attached s.param.queue s.store in
-    FitBounds s.param.bounds → FitWaiting ws → (judged s.param s.store).verdict ≡ CardVerdict.Answered → (p : Param) (other : List Float) → length other ≡ store_length
+    FitBounds s.param.bounds → FitWaiting ws → (judged s.param s.store).verdict ≡ Ok tt → (p : Param) (other : List Float) → length other ≡ store_length
     → loaded (read s.param.rate (number_of_edition s.param.edition) (file_of s.param.bounds ws)) p other
-    ≡ record { says = record { verdict = CardVerdict.Answered; at = length (file_of s.param.bounds ws) }; param = s.param; store = packed ws }
+    ≡ record { says = record { verdict = Ok tt; at = length (file_of s.param.bounds ws) }; param = s.param; store = packed ws }
 what_is_written_is_read b r n store cs f g a p other lent =
     given_back (scheduled (begun b r n store) cs).param (scheduled (begun b r n store) cs).store (before_the_first_block b r n store cs) f g a p other lent
 

@@ -1,4 +1,6 @@
 -- "What the reader accepts, the writer writes to the same bytes" (02, C-11). Assumes nothing.
+use Rattle.std.proofs.Common.{None, Result, Ok, Err}
+use Rattle.rules.specs.declared.Refusal.{Refusal}
 use mathlib.Core.Path.{◌≡◌, refl, sym, ap, ◌∙◌, subst}
 use mathlib.Core.Bool.{Bool, true, false, cond, not}
 use mathlib.Core.List.{List, [], ◌∷◌, ◌++◌, append_assoc, append-nil}
@@ -10,11 +12,9 @@ use lib.ListN.{length, take, drop, length-drop, take-append-drop}
 use lib.Seq.{take-add, drop-drop, length-take-le}
 use lib.Ieee.{Float, is_nan}
 use borrow.Author.Tests.{not-false, eqb-true}
-use Rattle.rules.specs.declared.MaybeTime.TheVariants as MaybeTime
 use Rattle.rules.specs.declared.Bounds.{Bounds}
 use Rattle.rules.specs.declared.AutomationRate.{AutomationRate}
 use Rattle.rules.specs.declared.Event.{Event}
-use Rattle.rules.specs.declared.Verdict.{Verdict}
 use Rattle.rules.specs.Numbers.{is_finite, store_length}
 use Rattle.rules.specs.Refusals.{all_finite, are_bounds, making_rows, lowest}
 use Rattle.rules.specs.Queue.{Waiting, alone, events_of, numbers_of, packed, length_of}
@@ -127,16 +127,16 @@ cut_refused bs r h = go (is_accepted (field_turn bs r).verdict) refl
 
 -- an event that is kept
 pub kept_event : (c : Command) (bs : List ℕ) (r : Reader) → is_accepted (event_turn c bs r).verdict ≡ true
-    → (is_out_of_turn r.before c ≡ false) × ((called r.param r.store c).verdict ≡ Verdict.Answered)
+    → (is_out_of_turn r.before c ≡ false) × ((called r.param r.store c).verdict ≡ Ok tt)
 unfolding event_turn taken_as is_accepted
 kept_event c bs r h = go (is_out_of_turn r.before c) (called r.param r.store c).verdict refl refl h
   where
-    go : (o : Bool) (v : Verdict) → is_out_of_turn r.before c ≡ o → (called r.param r.store c).verdict ≡ v
+    go : (o : Bool) (v : Result Unit Refusal) → is_out_of_turn r.before c ≡ o → (called r.param r.store c).verdict ≡ v
         → is_accepted (cond o (refused_by Fault.OutOfTurn r) (taken_as v (called r.param r.store c) (time_of c) bs r)).verdict ≡ true
-        → (is_out_of_turn r.before c ≡ false) × ((called r.param r.store c).verdict ≡ Verdict.Answered)
+        → (is_out_of_turn r.before c ≡ false) × ((called r.param r.store c).verdict ≡ Ok tt)
     go true v a b k = never k
-    go false Verdict.Answered a b k = (a, b)
-    go false (Verdict.Refused why) a b k = never k
+    go false (Ok _) a b k = (a, b)
+    go false (Err why) a b k = never k
 
 -- ---- the event of a field that is kept
 
@@ -150,7 +150,7 @@ pub record Decoded (bs : List ℕ) (e : Event) (xs : List Float) : Type 0 where
   pub bytes : take (field_length bs) bs ≡ event_field e xs
 
 module _ (bs : List ℕ) (h : AreBytes bs) (w : is_whole bs ≡ true) (right : is_wrong bs ≡ false) (p : Param) (store : List Float)
-    (a : (called p store (event_in bs)).verdict ≡ Verdict.Answered) where
+    (a : (called p store (event_in bs)).verdict ≡ Ok tt) where
   -- the field of a value and a time
   value_field : length_in bs ≡ 12 → is_finite (single_at bs 3) ≡ true → is_finite (double_at bs 7) ≡ true → take (field_length bs) bs ≡ field_of (tag_of bs) (single_bytes (single_at bs 3) ++ double_bytes (double_at bs 7))
   value_field n v t = field_bytes bs h w _ (value_bytes bs h (room bs w right) v t ∙ ap (λ (k : ℕ). take k (drop 3 bs)) (sym n))
@@ -158,7 +158,7 @@ module _ (bs : List ℕ) (h : AreBytes bs) (w : is_whole bs ≡ true) (right : i
   fits_as : {m : ℕ} → tag_of bs ≡ m → fits_tag m (length_in bs) ≡ true
   fits_as t = rw t at (right_fits bs w right)
 
-  answers_as : {c : Command} → event_in bs ≡ c → (called p store c).verdict ≡ Verdict.Answered
+  answers_as : {c : Command} → event_in bs ≡ c → (called p store c).verdict ≡ Ok tt
   answers_as e = rw e at a
 
   pub decoded : {m : ℕ} → Tag m → tag_of bs ≡ m → is_range bs ≡ false → (v : Waiting) × Decoded bs v.event v.numbers
@@ -177,7 +177,7 @@ module _ (bs : List ℕ) (h : AreBytes bs) (w : is_whole bs ≡ true) (right : i
       )
   decoded a_linear t e =
       let r = value_answered _ _ _ (sym (scheduled_verdict _ _ _ _) ∙ answers_as (linear_in bs t)) in (
-        alone (Event.Linear (single_at bs 3) (double_at bs 7) MaybeTime.Missing),
+        alone (Event.Linear (single_at bs 3) (double_at bs 7) None),
         record {
           command = linear_in bs t;
           free = refl;
@@ -189,7 +189,7 @@ module _ (bs : List ℕ) (h : AreBytes bs) (w : is_whole bs ≡ true) (right : i
       )
   decoded an_exponential t e =
       let r = exponential_answered _ _ _ (sym (scheduled_verdict _ _ _ _) ∙ answers_as (exponential_in bs t)) in (
-        alone (Event.Exponential (single_at bs 3) (double_at bs 7) MaybeTime.Missing),
+        alone (Event.Exponential (single_at bs 3) (double_at bs 7) None),
         record {
           command = exponential_in bs t;
           free = refl;
@@ -202,7 +202,7 @@ module _ (bs : List ℕ) (h : AreBytes bs) (w : is_whole bs ≡ true) (right : i
   decoded a_target t e =
       let r = target_answered _ _ _ _ (sym (scheduled_verdict _ _ _ _) ∙ answers_as (target_in bs t)) in
       let size : length_in bs ≡ 20 = eqb-true (length_in bs) 20 (fits_as t) in (
-        alone (Event.Target (single_at bs 3) (double_at bs 7) (double_at bs 15) MaybeTime.Missing),
+        alone (Event.Target (single_at bs 3) (double_at bs 7) (double_at bs 15) None),
         record {
           command = target_in bs t;
           free = refl;
@@ -219,7 +219,7 @@ module _ (bs : List ℕ) (h : AreBytes bs) (w : is_whole bs ≡ true) (right : i
       let n : ℕ = numbers_in bs in
       let long = (curve_room bs w right t).1 in
       let size : 16 + 4 * n ≡ length_in bs = unfold field_length in omega (arith, long) in (
-        record { event = Event.Curve (double_at bs 3) (double_at bs 11) n MaybeTime.Missing; numbers = singles_at bs 19 n },
+        record { event = Event.Curve (double_at bs 3) (double_at bs 11) n None; numbers = singles_at bs 19 n },
         record {
           command = curve_in_lem bs t;
           free = refl;
@@ -279,14 +279,14 @@ module _ (rate : AutomationRate) (n : ℕ) (b : Bounds) where
 
   event_more : (bs : List ℕ) (ws : List Waiting) → Kept ws → is_whole bs ≡ true → (w : Waiting) → Decoded bs w.event w.numbers
       → field_turn bs (behind rate n b ws) ≡ event_turn (event_in bs) bs (behind rate n b ws)
-      → (is_out_of_turn (last_time (events_of ws)) (event_in bs) ≡ false) × ((called (behind rate n b ws).param (behind rate n b ws).store (event_in bs)).verdict ≡ Verdict.Answered)
+      → (is_out_of_turn (last_time (events_of ws)) (event_in bs) ≡ false) × ((called (behind rate n b ws).param (behind rate n b ws).store (event_in bs)).verdict ≡ Ok tt)
       → OneMore bs ws w
   unfolding is_unwritable
   event_more bs ws k whole w d turn ok =
       let e : Event = w.event in
       let xs : List Float = w.numbers in
       let o : is_out_of_turn (last_time (events_of ws)) (command_of e xs) ≡ false = rw d.command at ok.0 in
-      let a : (called (behind rate n b ws).param (behind rate n b ws).store (command_of e xs)).verdict ≡ Verdict.Answered = rw d.command at ok.1 in
+      let a : (called (behind rate n b ws).param (behind rate n b ws).store (command_of e xs)).verdict ≡ Ok _ = rw d.command at ok.1 in
       let size : field_length bs ≡ length (event_field e xs) = sym (length-take-le (field_length bs) bs (whole_parts bs whole).1) ∙ ap length d.bytes in
       let clear = k.sound.waiting.clear in
       let adds = adds (fresh b rate (edition_of n)) ws k.fit clear e xs d.free d.event d.long a (in_turn (last_time (events_of ws)) (command_of e xs) o) in
@@ -393,13 +393,13 @@ module _ (rate : AutomationRate) (n : ℕ) (bs : List ℕ) (h : AreBytes bs) (ok
   unfolding contents_turn
   ranged_turn = (kept_judges bs (opened rate n) ok).1 ∙ rw is_ranged_lem refl
 
-  makes : lowest (making_rows (bounds_in bs) n) ≡ Verdict.Answered
+  makes : lowest (making_rows (bounds_in bs) n) ≡ Ok tt
   unfolding ranged_as is_accepted
   makes = go (lowest (making_rows (bounds_in bs) n)) (subst (λ (r : Reader). is_accepted r.verdict ≡ true) ranged_turn ok)
     where
-      go : (v : Verdict) → is_accepted (ranged_as v bs (opened rate n)).verdict ≡ true → v ≡ Verdict.Answered
-      go Verdict.Answered k = refl
-      go (Verdict.Refused why) k = never k
+      go : (v : Result Unit Refusal) → is_accepted (ranged_as v bs (opened rate n)).verdict ≡ true → v ≡ Ok tt
+      go (Ok _) k = refl
+      go (Err why) k = never k
 
   finite_bounds : (is_finite (single_at bs 3) ≡ true) × ((is_finite (single_at bs 7) ≡ true) × (is_finite (single_at bs 11) ≡ true))
   unfolding making_rows are_bounds all_finite bounds_in
@@ -425,7 +425,7 @@ module _ (rate : AutomationRate) (n : ℕ) (bs : List ℕ) (h : AreBytes bs) (ok
   unfolding file_of fields_of
   range_long = sym (length-take-le (field_length bs) bs (whole_parts bs judges.whole).1) ∙ ap length (range_bytes ∙ sym (append-nil (range_field (bounds_in bs))))
 
-  kept_range : ranged_as Verdict.Answered bs (opened rate n) ≡ behind rate n (bounds_in bs) []
+  kept_range : ranged_as (Ok tt) bs (opened rate n) ≡ behind rate n (bounds_in bs) []
   unfolding ranged_as packed numbers_of events_of last_time
   kept_range = rw (made_is, ← range_long, zero-add (field_length bs)) refl
 

@@ -1,4 +1,6 @@
 -- The cases of cases-02/C-11 and 02's own field, computed by the checker.
+use Rattle.card.specs.declared.Fault.{Fault}
+use Rattle.std.proofs.Common.{Ok, Result, Err}
 use mathlib.Core.Path.{◌≡◌, refl}
 use mathlib.Core.Bool.{Bool, true, ◌&&◌}
 use mathlib.Core.List.{List, [], ◌∷◌, ◌++◌}
@@ -14,22 +16,21 @@ use Rattle.rules.specs.Block.{fresh, with_queue, curve, target, hold, Called, ca
 use Rattle.rules.proofs.Table.{results, bounds, n0, n1, n2, n3, n5, n6, n10, minus10}
 use Rattle.laws.specs.Sound as Sound
 use Rattle.words.specs.Words as Words
-use Rattle.card.specs.declared.CardVerdict.{CardVerdict}
 use Rattle.card.specs.Card as Card
 use Rattle.card.specs.Card.{fault_number, Reader, read, event_field, unwritable, judged, saved}
 
 -- ---- what is computed: its line names all definitions of the card; `results` stands for the rules
 
 -- 0, or the number
-unfoldable pub number_as : CardVerdict → ℕ
+unfoldable pub number_as : Result Unit Fault → ℕ
 unfolding results Sound.is_from_zero Sound.has_played Ieee.of_bits Ieee.to_bits Words.bytes_of Words.word_in Words.word_at Words.single_at Words.double_at Words.singles_at
     Words.single_bytes Words.double_bytes Words.numbers_bytes Card.fault_number Card.is_accepted Card.tag_of Card.has_head Card.length_in Card.field_length Card.is_whole Card.is_tag
     Card.is_range Card.fits_tag Card.numbers_in Card.bounds_in Card.event_in Card.is_wrong Card.is_misplaced Card.time_of Card.is_minus_zero Card.has_no_constant
     Card.is_out_of_turn Card.ranged_as Card.taken_as Card.event_turn Card.contents_turn Card.field_turn Card.taken Card.fed Card.end_turn Card.at_end Card.read
     Card.range_field Card.event_field Card.fields_of Card.file_of Card.has_hold Card.is_held Card.is_unwritable Card.judged_from Card.judged Card.written_to Card.saved_as
     Card.saved
-number_as CardVerdict.Answered = 0
-number_as (CardVerdict.Refused f) = fault_number f
+number_as (Ok _) = 0
+number_as (Err f) = fault_number f
 
 -- a file, and what is said of it: the number, and where
 pub data Row : Type 0 where

@@ -1,8 +1,7 @@
 -- 02, C-11: "What the writer writes, the reader gives back, event for event; what the reader accepts, the writer writes to the same bytes."
-use Rattle.std.specs.Prelude.{◌≡◌, Bool, true, false, ◌||◌, List, [], ◌∷◌, ℕ, T, length, Float}
+use Rattle.std.specs.Prelude.{◌≡◌, Bool, true, false, ◌||◌, List, [], ◌∷◌, ℕ, T, length, Float, Option, Some, None, Ok}
 use Rattle.std.specs.Float.{binary32, binary64}
 use Rattle.std.specs.Float.Ieee.{fits}
-use Rattle.rules.specs.declared.MaybeTime.{MaybeTime}
 use Rattle.rules.specs.declared.Bounds.{Bounds}
 use Rattle.rules.specs.declared.AutomationRate.{AutomationRate}
 use Rattle.rules.specs.declared.Event.{Event}
@@ -11,7 +10,6 @@ use Rattle.rules.specs.Block.{Command, step, linear, exponential, target, curve,
 use Rattle.laws.specs.Sound.{Sound}
 use Rattle.laws.specs.Apart.{are_apart}
 use Rattle.words.specs.Words.{AreSingles}
-use Rattle.card.specs.declared.CardVerdict.TheVariants as CardVerdict
 use Rattle.card.specs.Card.{Reader, file_of, is_unwritable, judged}
 
 -- ---- floats of their formats, as code has them
@@ -55,9 +53,9 @@ pub record Unplayed (p : Param) : Type 0 where
 
 -- ---- the reader behind the range and these events
 
-unfoldable pub last_time : List Event → MaybeTime
-last_time [] = MaybeTime.Missing
-last_time (e ∷ []) = MaybeTime.At (filed_under e)
+unfoldable pub last_time : List Event → Option Float
+last_time [] = None
+last_time (e ∷ []) = Some (filed_under e)
 last_time (e ∷ d ∷ es) = last_time (d ∷ es)
 
 abbrev pub behind : AutomationRate → ℕ → Bounds → List Waiting → Reader
@@ -70,14 +68,14 @@ behind rate n b ws =
       store = packed ws;
       before = last_time (events_of ws);
       offset = length (file_of b ws);
-      verdict = CardVerdict.Answered;
+      verdict = (Ok tt);
     }
 
 -- ---- a file that was read, written again
 
 -- the parameter and the store that it gave are written to its bytes
 pub record Rewritten (file : List ℕ) (p : Param) (store : List Float) : Type 0 where
-  pub answered : (judged p store).verdict ≡ CardVerdict.Answered
+  pub answered : (judged p store).verdict ≡ Ok tt
   pub bytes : file_of p.bounds (attached p.queue store) ≡ file
 
 -- "A written file has at most 17,867 bytes (63 targets and a curve of 4,096 numbers)" (reading 9)

@@ -1,11 +1,10 @@
 -- 02, C-11: a schedule file, "a run of tagged fields", in 02's words and order: the fields, the reader's turn on one, a file read, a parameter written.
-use Rattle.std.specs.Prelude.{Bool, true, false, cond, not, ◌&&◌, ◌||◌, List, [], ◌∷◌, ◌++◌, ℕ, zero, suc, ◌+◌, ◌-◌, ◌/◌, ◌%◌, leb, eqb, length, get_or, drop, replicate, Float}
-use Rattle.rules.specs.declared.MaybeTime.{MaybeTime}
+use Rattle.rules.specs.declared.Refusal.{Refusal}
+use Rattle.std.specs.Prelude.{Bool, true, false, cond, not, ◌&&◌, ◌||◌, List, [], ◌∷◌, ◌++◌, ℕ, zero, suc, ◌+◌, ◌-◌, ◌/◌, ◌%◌, leb, eqb, length, get_or, drop, replicate, Float, Option, Some, None, Result, Ok, Err}
 use Rattle.rules.specs.declared.Bounds.{Bounds}
 use Rattle.rules.specs.declared.AutomationRate.{AutomationRate}
 use Rattle.rules.specs.declared.Event.{Event}
 use Rattle.rules.specs.declared.Refusal.TheVariants as Refusal
-use Rattle.rules.specs.declared.Verdict.{Verdict}
 use Rattle.rules.specs.Numbers.{plus_zero, store_length, is_zero}
 use Rattle.rules.specs.Queue.{Waiting, attached}
 use Rattle.rules.specs.Refusals.{number_of, lowest, making_rows, all_finite, is_earlier}
@@ -14,7 +13,6 @@ use Rattle.laws.specs.Sound.{is_from_zero, has_played}
 use Rattle.words.specs.Words.{bytes_of, word_at, single_at, double_at, singles_at, single_bytes, double_bytes, numbers_bytes}
 use Rattle.param.specs.Param.{nothing_made}
 use Rattle.card.specs.declared.Fault.{Fault}
-use Rattle.card.specs.declared.CardVerdict.{CardVerdict}
 use Rattle.card.specs.declared.Judged.{Judged}
 
 -- ---- refusals
@@ -31,9 +29,9 @@ fault_number (Fault.Own why) = number_of why
 fault_number Fault.NoRoom = 101
 
 -- "what the reader accepts"; of the writer, what it writes
-unfoldable pub is_accepted : CardVerdict → Bool
-is_accepted CardVerdict.Answered = true
-is_accepted (CardVerdict.Refused f) = false
+unfoldable pub is_accepted : Result Unit Fault → Bool
+is_accepted (Ok _) = true
+is_accepted (Err f) = false
 
 -- ---- a field: "one byte tag, two bytes length, low byte first, then that many bytes"; these are its bytes, and what is behind them
 
@@ -92,10 +90,10 @@ pub record Reader : Type 0 where
   pub param : Param
   pub store : List Float
   -- the time of the event's field before
-  pub before : MaybeTime
+  pub before : Option Float
   -- where the next field begins; of a field that is refused, its own "byte offset"
   pub offset : ℕ
-  pub verdict : CardVerdict
+  pub verdict : Result Unit Fault
 
 abbrev pub opened : AutomationRate → ℕ → Reader
 opened rate n =
@@ -105,9 +103,9 @@ opened rate n =
       ranged = false;
       param = nothing_made;
       store = replicate store_length plus_zero;
-      before = MaybeTime.Missing;
+      before = None;
       offset = 0;
-      verdict = CardVerdict.Answered;
+      verdict = (Ok tt);
     }
 
 -- "and nothing stored"
@@ -121,11 +119,11 @@ refused_by f r =
       store = r.store;
       before = r.before;
       offset = r.offset;
-      verdict = CardVerdict.Refused f;
+      verdict = Err f;
     }
 
 -- behind a field that is kept
-abbrev pub kept_as : List ℕ → Param → List Float → MaybeTime → Reader → Reader
+abbrev pub kept_as : List ℕ → Param → List Float → Option Float → Reader → Reader
 kept_as bs p store before r =
     record {
       rate = r.rate;
@@ -135,7 +133,7 @@ kept_as bs p store before r =
       store = store;
       before = before;
       offset = r.offset + field_length bs;
-      verdict = CardVerdict.Answered;
+      verdict = (Ok tt);
     }
 
 -- ---- the reader's turn on one field
@@ -175,18 +173,18 @@ has_no_constant (cancel c) = false
 has_no_constant (hold c) = false
 
 -- 28 "an event earlier than the one before it, a time of −0, or a time constant of 0"
-unfoldable pub is_out_of_turn : MaybeTime → Command → Bool
+unfoldable pub is_out_of_turn : Option Float → Command → Bool
 is_out_of_turn before c = is_earlier before (time_of c) || (is_minus_zero (time_of c) || has_no_constant c)
 
 -- "as making a parameter" (reading 7)
-unfoldable pub ranged_as : Verdict → List ℕ → Reader → Reader
-ranged_as Verdict.Answered bs r = kept_as bs (made (bounds_in bs) r.rate r.edition) r.store r.before r
-ranged_as (Verdict.Refused why) bs r = refused_by (Fault.Own why) r
+unfoldable pub ranged_as : Result Unit Refusal → List ℕ → Reader → Reader
+ranged_as (Ok _) bs r = kept_as bs (made (bounds_in bs) r.rate r.edition) r.store r.before r
+ranged_as (Err why) bs r = refused_by (Fault.Own why) r
 
 -- "then each event in turn"
-unfoldable pub taken_as : Verdict → Called → Float → List ℕ → Reader → Reader
-taken_as Verdict.Answered k t bs r = kept_as bs k.param k.store (MaybeTime.At t) r
-taken_as (Verdict.Refused why) k t bs r = refused_by (Fault.Own why) r
+unfoldable pub taken_as : Result Unit Refusal → Called → Float → List ℕ → Reader → Reader
+taken_as (Ok _) k t bs r = kept_as bs k.param k.store (Some t) r
+taken_as (Err why) k t bs r = refused_by (Fault.Own why) r
 
 -- 28 "before 01's own"
 unfoldable pub event_turn : Command → List ℕ → Reader → Reader
@@ -259,15 +257,15 @@ pub record Loaded : Type 0 where
   pub store : List Float
 
 -- "A refused reading leaves the parameter and store that the caller had" (reading 7)
-unfoldable pub loaded_as : CardVerdict → Reader → Param → List Float → Loaded
-loaded_as CardVerdict.Answered r p store =
-    record { says = record { verdict = CardVerdict.Answered; at = r.offset }; param = r.param; store = r.store }
-loaded_as (CardVerdict.Refused f) r p store =
-    record { says = record { verdict = CardVerdict.Refused f; at = r.offset }; param = p; store = store }
+unfoldable pub loaded_as : Result Unit Fault → Reader → Param → List Float → Loaded
+loaded_as (Ok _) r p store =
+    record { says = record { verdict = Ok tt; at = r.offset }; param = r.param; store = r.store }
+loaded_as (Err f) r p store =
+    record { says = record { verdict = Err f; at = r.offset }; param = p; store = store }
 
 -- a store "of another length is refused with 14 at offset 0, ahead of the file" (reading 8)
 abbrev pub bad_store : Judged
-bad_store = record { verdict = CardVerdict.Refused (Fault.Own Refusal.BadStore); at = 0 }
+bad_store = record { verdict = Err (Fault.Own Refusal.BadStore); at = 0 }
 
 -- by a reader at the file's end; p and the store are the caller's
 unfoldable pub loaded : Reader → Param → List Float → Loaded
@@ -301,9 +299,9 @@ fields_of (w ∷ ws) = event_field w.event w.numbers ++ fields_of ws
 unfoldable pub file_of : Bounds → List Waiting → List ℕ
 file_of b ws = range_field b ++ fields_of ws
 
-unfoldable pub has_hold : MaybeTime → Bool
-has_hold MaybeTime.Missing = false
-has_hold (MaybeTime.At c) = true
+unfoldable pub has_hold : Option Float → Bool
+has_hold None = false
+has_hold (Some c) = true
 
 -- "a held event"; a step is never one
 unfoldable pub is_held : Event → Bool
@@ -319,11 +317,11 @@ is_unwritable w = is_held w.event || not (all_finite w.numbers)
 
 -- the place of an event, counted "from 0 in queue order" (reading 6)
 abbrev pub unwritable : ℕ → Judged
-unwritable place = record { verdict = CardVerdict.Refused Fault.Unwritable; at = place }
+unwritable place = record { verdict = Err Fault.Unwritable; at = place }
 
 -- of the events from a place on "the lowest place is given" (reading 10); else how many bytes are to be written
 unfoldable pub judged_from : ℕ → List Waiting → ℕ → Judged
-judged_from place [] many = record { verdict = CardVerdict.Answered; at = many }
+judged_from place [] many = record { verdict = Ok tt; at = many }
 judged_from place (w ∷ ws) many = let more = judged_from (suc place) ws many in cond (is_unwritable w) (unwritable place) more
 
 -- "14 (place 0) comes first, then 24" (reading 10), of which "a block already answered (place 0)" is looked at first
@@ -342,8 +340,8 @@ pub record Saved : Type 0 where
 unfoldable pub written_to : List ℕ → List ℕ → Saved
 written_to out file =
     cond (leb (length file) (length out))
-    (record { says = record { verdict = CardVerdict.Answered; at = length file }; out = file ++ drop (length file) out })
-    (record { says = record { verdict = CardVerdict.Refused Fault.NoRoom; at = length file }; out = out })
+    (record { says = record { verdict = Ok tt; at = length file }; out = file ++ drop (length file) out })
+    (record { says = record { verdict = Err Fault.NoRoom; at = length file }; out = out })
 
 unfoldable pub saved_as : Judged → List ℕ → List ℕ → Saved
 saved_as j out file = cond (is_accepted j.verdict) (written_to out file) (record { says = j; out = out })

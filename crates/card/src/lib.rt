@@ -24,16 +24,10 @@ pub enum Fault {
     NoRoom,
 }
 
-#[derive(Clone, Copy)]
-pub enum CardVerdict {
-    Answered,
-    Refused(Fault),
-}
-
 // What a call says, and where: the offset of a field that is refused, an event's place in writing; answered, how many bytes the file has.
 #[derive(Clone, Copy)]
 pub struct Judged {
-    pub verdict: CardVerdict,
+    pub verdict: Result<(), Fault>,
     pub at: usize,
 }
 
@@ -53,11 +47,11 @@ pub fn number_of(fault: Fault) -> u8
     }
 }
 
-pub fn is_accepted(verdict: CardVerdict) -> bool
+pub fn is_accepted(verdict: Result<(), Fault>) -> bool
     ensures { result ≡ is_accepted verdict }
 {
     match verdict {
-        CardVerdict::Answered => true,
-        CardVerdict::Refused(_) => false,
+        Ok(()) => true,
+        Err(_) => false,
     }
 }

@@ -1,4 +1,5 @@
 -- What the calls do, case by case. Assumes nothing.
+use Rattle.std.proofs.Common.{Ok, Err}
 use mathlib.Core.Path.{◌≡◌, refl, sym, ap, ◌∙◌}
 use mathlib.Core.Bool.{true, false, ◌&&◌}
 use mathlib.Core.List.{List, ◌++◌}
@@ -10,7 +11,6 @@ use lib.Ieee.{Float}
 use borrow.Author.Tests.{le-leb, lt-leb, eq-eqb, ne_eqb}
 use Rattle.rules.specs.declared.AutomationRate.{AutomationRate}
 use Rattle.rules.specs.declared.Refusal.{Refusal}
-use Rattle.rules.specs.declared.Verdict.TheVariants as Verdict
 use Rattle.rules.specs.Numbers.{store_length}
 use Rattle.rules.specs.Block.{Param}
 use Rattle.laws.proofs.Tests.{clash, and}
@@ -31,11 +31,11 @@ use Rattle.card_coding.proofs.Kept.{kept_zero, keeps, card_is}
 -- ---- writing
 
 module _ {s : List ℕ} {d : Outcome} (x : Decodes s d) {store : List Float} {out : List ℕ} {at : ℕ} where
-  pub writes_bad : {why : Refusal} → d.verdict ≡ Verdict.Refused why → WritesCard s store out at bad_card out at
+  pub writes_bad : {why : Refusal} → d.verdict ≡ Err why → WritesCard s store out at bad_card out at
   unfolding written
   writes_bad h = record { says = rw (refused_state x h) }
 
-  pub writes : {j : Judged} {after : List ℕ} {n : ℕ} → d.verdict ≡ Verdict.Answered → Saves d.param store out j after → Numbers j.verdict n → WritesCard s store out at n after j.at
+  pub writes : {j : Judged} {after : List ℕ} {n : ℕ} → d.verdict ≡ Ok tt → Saves d.param store out j after → Numbers j.verdict n → WritesCard s store out at n after j.at
   unfolding written
   writes h w n =
       let o = answered_state x h in

@@ -1,4 +1,6 @@
 -- The file's end, case by case. Assumes nothing.
+use Rattle.card.specs.declared.Fault.{Fault}
+use Rattle.std.proofs.Common.{Ok, Result, Err}
 use mathlib.Core.Path.{◌≡◌, refl, sym, ap, ◌∙◌}
 use mathlib.Core.Bool.{Bool, true, false, cond, ◌&&◌}
 use mathlib.Core.List.{List}
@@ -16,7 +18,6 @@ use Rattle.param.specs.Param.{param_of}
 use Rattle.param.proofs.Calls.{struct_back}
 use Rattle.coding.specs.Coding.{state_length, is_state, param_in, state_of, Encodes}
 use Rattle.coding.proofs.Read.{reads_back}
-use Rattle.card.specs.declared.CardVerdict.{CardVerdict}
 use Rattle.card.specs.declared.Judged.{Judged}
 use Rattle.card.specs.Card.{fault_number, is_accepted, Reader, Reading, at_end, Loaded, loaded_as, bad_store, loaded}
 use Rattle.card.proofs.Fields.{and_false}
@@ -32,11 +33,11 @@ same_end : (q : Reader) (p o : Param) (store : List Float) (state : List ℕ) �
 unfolding ended_as loaded loaded_as is_accepted
 same_end q p o store state = go (eqb (length store) store_length) q.verdict
   where
-    go : (b : Bool) (v : CardVerdict)
+    go : (b : Bool) (v : Result Unit Fault)
         → ended_as (cond b (loaded_as v q p store) (record { says = bad_store; param = p; store = store })) state
         ≡ ended_as (cond b (loaded_as v q o store) (record { says = bad_store; param = o; store = store })) state
-    go true CardVerdict.Answered = refl
-    go true (CardVerdict.Refused f) = refl
+    go true (Ok _) = refl
+    go true (Err f) = refl
     go false v = refl
 
 -- and where the file is answered the parameter is the file's, whatever the caller's is
@@ -44,11 +45,11 @@ same_given : (q : Reader) (p o : Param) (store : List Float) → is_accepted (lo
 unfolding loaded loaded_as is_accepted
 same_given q p o store h = go (eqb (length store) store_length) q.verdict h
   where
-    go : (b : Bool) (v : CardVerdict) → is_accepted (cond b (loaded_as v q p store) (record { says = bad_store; param = p; store = store })).says.verdict ≡ true
+    go : (b : Bool) (v : Result Unit Fault) → is_accepted (cond b (loaded_as v q p store) (record { says = bad_store; param = p; store = store })).says.verdict ≡ true
         → (cond b (loaded_as v q p store) (record { says = bad_store; param = p; store = store })).param
         ≡ (cond b (loaded_as v q o store) (record { says = bad_store; param = o; store = store })).param
-    go true CardVerdict.Answered k = refl
-    go true (CardVerdict.Refused f) k = never k
+    go true (Ok _) k = refl
+    go true (Err f) k = never k
     go false v k = never k
 
 module _ (card : List ℕ) (numbers : List Float) (window : List ℕ) (before : Ended) where
@@ -95,11 +96,11 @@ module _ (card : List ℕ) (numbers : List Float) (window : List ℕ) (before : 
           gives = λ s k z. absurd (h z);
         }
       where
-        go : (s : Reading) → Keeps card numbers window s → (v : CardVerdict) → s.reader.verdict ≡ v
+        go : (s : Reading) → Keeps card numbers window s → (v : Result Unit Fault) → s.reader.verdict ≡ v
             → record { number = get_or card 1 0; at = get_or card 2 0; state = before.state; store = before.store }
             ≡ ended_as (loaded (at_end s) (param_in before.state) before.store) before.state
-        go s k CardVerdict.Answered e = absurd (h (k.number ∙ ap verdict_number e))
-        go s k (CardVerdict.Refused f) e = rw (k.number, k.offset, e, eq-eqb (length before.store) store_length same) refl
+        go s k (Ok _) e = absurd (h (k.number ∙ ap verdict_number e))
+        go s k (Err f) e = rw (k.number, k.offset, e, eq-eqb (length before.store) store_length same) refl
 
     module _ (same : length before.store ≡ store_length) (z : get_or card 1 0 ≡ 0) {r : CardReader} (x : ReadsCard card r) {l : code.Loaded} {left : List Float}
         (y : Loads (reading_of r numbers window) r.param before.store l left) {n : ℕ} (m : Numbers l.says.verdict n) where
@@ -115,7 +116,7 @@ module _ (card : List ℕ) (numbers : List Float) (window : List ℕ) (before : 
       ends_as {after} a =
           let state : after ≡ cond (is_accepted whole.says.verdict) (state_of whole.param before.state) before.state =
           a ∙ ap (λ (p : Param). cond (is_accepted l.says.verdict) (state_of p before.state) before.state) param_is
-          ∙ ap (λ (v : CardVerdict). cond (is_accepted v) (state_of whole.param before.state) before.state) (ap (λ (j : Judged). j.verdict) y.says) in
+          ∙ ap (λ (v : Result Unit Fault). cond (is_accepted v) (state_of whole.param before.state) before.state) (ap (λ (j : Judged). j.verdict) y.says) in
           let number : n ≡ verdict_number whole.says.verdict = m.is ∙ ap (λ (j : Judged). verdict_number j.verdict) y.says in
           let at : l.says.at ≡ whole.says.at = ap (λ (j : Judged). j.at) y.says in
           let is : record { number = n; at = l.says.at; state = after; store = left } ≡ ended_as whole before.state = rw (number, at, state, y.left) in

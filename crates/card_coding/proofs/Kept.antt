@@ -1,4 +1,5 @@
 -- The array that keeps a reader: its test, part by part, and what is read from it and written to it. Assumes nothing.
+use Rattle.std.proofs.Common.{Option, Ok, Err, Result}
 use mathlib.Core.Path.{◌≡◌, refl, sym, ap, ◌∙◌}
 use mathlib.Core.Bool.{Bool, true, false, not, ◌&&◌}
 use mathlib.Core.List.{List, [], ◌∷◌, ◌++◌, append-nil}
@@ -11,8 +12,6 @@ use lib.Ieee.{Float}
 use borrow.Author.Rules.{part_to_end}
 use borrow.Author.Tests.{leb-true, eqb-true, le-leb, eq-eqb, ne_eqb, not-true}
 use Rattle.rules.specs.declared.AutomationRate.{AutomationRate}
-use Rattle.rules.specs.declared.MaybeTime.{MaybeTime}
-use Rattle.rules.specs.declared.Verdict.TheVariants as Verdict
 use Rattle.rules.specs.declared.Refusal.{Refusal}
 use Rattle.rules.specs.Numbers.{store_length}
 use Rattle.rules.specs.Refusals.{number_of}
@@ -25,7 +24,6 @@ use Rattle.coding.specs.Coding.{state_length, is_state, param_in, state_of, time
 use Rattle.coding.proofs.Written.{rate_back}
 use Rattle.coding.proofs.Read.{accepted_long, reads_back, answered_state, refused_state}
 use Rattle.card.specs.declared.Fault.{Fault}
-use Rattle.card.specs.declared.CardVerdict.{CardVerdict}
 use Rattle.card.specs.Card.{fault_number, is_accepted, is_whole, Reading}
 use Rattle.card_reader.specs.declared.CardReader.{CardReader}
 use Rattle.card_reader.specs.Reader.{reader_of, reading_of, window_length, SoundReader, SoundWindow}
@@ -62,10 +60,10 @@ fault_number_lem (Fault.Own why) h = refusal_number why h
 fault_number_lem Fault.NoRoom h = omega (arith, h)
 
 -- 0 is the number of what is not refused
-pub kept_zero : (v : CardVerdict) → eqb (verdict_number v) 0 ≡ is_accepted v
+pub kept_zero : (v : Result Unit Fault) → eqb (verdict_number v) 0 ≡ is_accepted v
 unfolding verdict_number is_accepted
-kept_zero CardVerdict.Answered = refl
-kept_zero (CardVerdict.Refused f) = ne_eqb (fault_number f) 0 (fault_number_lem f)
+kept_zero (Ok _) = refl
+kept_zero (Err f) = ne_eqb (fault_number f) 0 (fault_number_lem f)
 
 -- ---- the test
 
@@ -112,11 +110,11 @@ state_good card h = (both (is_state (state_in card)) _ h).0
 pub decoded : (card : List ℕ) {d : Outcome} → Decodes (take (length card - card_head) (drop card_head card)) d → Decodes (state_in card) d
 decoded card x = rw (part_to_end card card_head) at x
 
-pub uncounted : (card : List ℕ) {d : Outcome} {why : Refusal} → Decodes (take (length card - card_head) (drop card_head card)) d → d.verdict ≡ Verdict.Refused why → false ≡ is_counted card
+pub uncounted : (card : List ℕ) {d : Outcome} {why : Refusal} → Decodes (take (length card - card_head) (drop card_head card)) d → d.verdict ≡ Err why → false ≡ is_counted card
 unfolding is_counted
 uncounted card x h = rw (refused_state (decoded card x) h)
 
-pub counted : (card : List ℕ) {d : Outcome} {n most : ℕ} → Decodes (take (length card - card_head) (drop card_head card)) d → d.verdict ≡ Verdict.Answered
+pub counted : (card : List ℕ) {d : Outcome} {n most : ℕ} → Decodes (take (length card - card_head) (drop card_head card)) d → d.verdict ≡ Ok tt
     → n ≡ length (param_of d.param).queue → most ≡ bytes_counted (not (eqb (get_or card 6 0) 0)) n → leb (get_or card 2 0) most ≡ is_counted card
 unfolding is_counted is_ranged
 counted card x h en em =
@@ -125,12 +123,12 @@ counted card x h en em =
 
 given : {s : List ℕ} {d : Outcome} → Decodes s d → is_state s ≡ true → d.param ≡ struct_of (param_in s)
 given {s} {d} x h =
-    let is : d ≡ record { verdict = Verdict.Answered; param = struct_of (param_in s) } = x.gives ∙ rw h in
+    let is : d ≡ record { verdict = (Ok tt); param = struct_of (param_in s) } = x.gives ∙ rw h in
     ap (λ (o : Outcome). o.param) is
 
-pub reads_card : (card : List ℕ) {d : Outcome} {rate : AutomationRate} {before : MaybeTime} → is_state (state_in card) ≡ true
+pub reads_card : (card : List ℕ) {d : Outcome} {rate : AutomationRate} {before : Option Float} → is_state (state_in card) ≡ true
     → Decodes (take (length card - card_head) (drop card_head card)) d → rate ≡ rate_in (get_or card 4 0) → before ≡ time_in (get_or card 7 0) (get_or card 8 0)
-    → ReadsCard card (record { param = d.param; rate = rate; edition = get_or card 5 0; ranged = not (eqb (get_or card 6 0) 0); before = before; offset = get_or card 2 0; verdict = CardVerdict.Answered; held = get_or card 3 0 })
+    → ReadsCard card (record { param = d.param; rate = rate; edition = get_or card 5 0; ranged = not (eqb (get_or card 6 0) 0); before = before; offset = get_or card 2 0; verdict = Ok tt; held = get_or card 3 0 })
 unfolding is_ranged
 reads_card card good x a b = record { is = rw (given (decoded card x) good, a, b); sound = x.sound }
 
@@ -198,12 +196,12 @@ unfolding bit_of
 bit_back true = refl
 bit_back false = refl
 
-pub zero_kept : (v : CardVerdict) → verdict_number v ≡ 0 → v ≡ CardVerdict.Answered
+pub zero_kept : (v : Result Unit Fault) → verdict_number v ≡ 0 → v ≡ Ok tt
 unfolding verdict_number
-zero_kept CardVerdict.Answered h = refl
-zero_kept (CardVerdict.Refused f) h = absurd (fault_number_lem f h)
+zero_kept (Ok _) h = refl
+zero_kept (Err f) h = absurd (fault_number_lem f h)
 
-same_reading : {a b : AutomationRate} {c d : Bool} {p q : Param} {t u : MaybeTime} {v w : CardVerdict} (n o : ℕ) (store : List Float) (rest : List ℕ) → a ≡ b → c ≡ d → p ≡ q → t ≡ u → v ≡ w
+same_reading : {a b : AutomationRate} {c d : Bool} {p q : Param} {t u : Option Float} {v w : Result Unit Fault} (n o : ℕ) (store : List Float) (rest : List ℕ) → a ≡ b → c ≡ d → p ≡ q → t ≡ u → v ≡ w
     → ◌≡◌ {A = Reading} (record { reader = record { rate = a; edition = n; ranged = c; param = p; store = store; before = t; offset = o; verdict = v }; rest = rest })
     (record { reader = record { rate = b; edition = n; ranged = d; param = q; store = store; before = u; offset = o; verdict = w }; rest = rest })
 same_reading n o store rest ea ec ep et ev = rw (ea, ec, ep, et, ev)

@@ -1,10 +1,10 @@
 -- What a caller keeps of a reader between two parts: an array of numbers, and beside it the curves' numbers and the window. Which number stands at which
 -- place, the test that is made of it, what is read from it, and what is written.
-use Rattle.std.specs.Prelude.{◌≡◌, Bool, true, cond, not, ◌&&◌, List, [], ◌∷◌, ◌++◌, ℕ, suc, ◌*◌, ◌≤◌, leb, eqb, length, get_or, take, drop, Float}
+use Rattle.card.specs.declared.Fault.{Fault}
+use Rattle.std.specs.Prelude.{◌≡◌, Bool, true, cond, not, ◌&&◌, List, [], ◌∷◌, ◌++◌, ℕ, suc, ◌*◌, ◌≤◌, leb, eqb, length, get_or, take, drop, Float, Ok, Result, Err}
 use Rattle.rules.specs.Numbers.{store_length}
 use Rattle.param.specs.Param.{param_of, struct_of, SoundParam}
 use Rattle.coding.specs.Coding.{is_state, param_in, state_of, time_in, rate_in, flag_of, bits_of, rate_word}
-use Rattle.card.specs.declared.CardVerdict.{CardVerdict}
 use Rattle.card.specs.Card.{fault_number, is_whole, Reader, Reading}
 use Rattle.card_reader.specs.declared.CardReader.{CardReader}
 use Rattle.card_reader.specs.Reader.{reader_of, reading_of, window_length}
@@ -23,9 +23,9 @@ abbrev pub card_version : ℕ
 card_version = 1
 
 -- 0, or the fault's number
-unfoldable pub verdict_number : CardVerdict → ℕ
-verdict_number CardVerdict.Answered = 0
-verdict_number (CardVerdict.Refused f) = fault_number f
+unfoldable pub verdict_number : Result Unit Fault → ℕ
+verdict_number (Ok _) = 0
+verdict_number (Err f) = fault_number f
 
 unfoldable pub bit_of : Bool → ℕ
 bit_of b = cond b 1 0
@@ -52,7 +52,7 @@ reader_in card =
       ranged = is_ranged card;
       before = time_in (get_or card 7 0) (get_or card 8 0);
       offset = get_or card 2 0;
-      verdict = CardVerdict.Answered;
+      verdict = (Ok tt);
       held = get_or card 3 0;
     }
 
@@ -88,7 +88,7 @@ is_card card numbers window = are_long card numbers window && (is_head card && (
 
 -- ---- what is written
 
-abbrev pub head_words : CardVerdict → ℕ → ℕ → Reader → List ℕ
+abbrev pub head_words : Result Unit Fault → ℕ → ℕ → Reader → List ℕ
 head_words v offset held r =
     card_version ∷ verdict_number v ∷ offset ∷ held ∷ rate_word r.rate ∷ r.edition ∷ bit_of r.ranged ∷ flag_of r.before ∷ bits_of r.before ∷ []
 
@@ -109,7 +109,7 @@ pub record Keeps (card : List ℕ) (numbers : List Float) (window : List ℕ) (s
 -- ---- what the functions ensure
 
 -- the number fits a byte
-pub record Numbers (v : CardVerdict) (n : ℕ) : Type 0 where
+pub record Numbers (v : Result Unit Fault) (n : ℕ) : Type 0 where
   pub is : n ≡ verdict_number v
   pub small : n ≤ 255
 

@@ -6,13 +6,11 @@ ghost use Rattle.coding.specs.Coding.{is_state};
 ghost use Rattle.card_reader.specs.Reader.{window_length};
 ghost use Rattle.card_coding.specs.Array.{card_length, state_in, bit_of, are_long, is_head, is_waiting, bytes_counted, is_counted, is_card, Numbers, ReadsCard, PutsHead, PutsCard};
 
-use card::CardVerdict;
 use card_reader::CardReader;
 use card_reader::field::is_whole;
 use coding::event::{flag_of, time_bits, time_in};
 use coding::{rate_in, rate_word};
 use param::AudioParam;
-use rules::Verdict;
 
 // How many numbers an array has: its version, the reader's own, then the state of its parameter.
 pub const LENGTH: usize = 408;
@@ -28,12 +26,12 @@ pub const BAD_CARD: u32 = 100;
 // ---- words
 
 // 0, or the fault's number.
-pub fn verdict_number(verdict: CardVerdict) -> u32
+pub fn verdict_number(verdict: Result<(), Fault>) -> u32
     ensures { Numbers verdict result }
 {
     match verdict {
-        CardVerdict::Answered => 0,
-        CardVerdict::Refused(fault) => card::number_of(fault) as u32,
+        Ok(()) => 0,
+        Err(fault) => card::number_of(fault) as u32,
     }
 }
 
@@ -86,7 +84,7 @@ fn is_counted(card: &[u64]) -> bool
 {
     let d = coding::decode(&card[HEAD..]);
     let verdict = d.verdict;
-    let Verdict::Answered = verdict else {
+    let Ok(()) = verdict else {
         return false;
     };
     let p = d.param;
@@ -125,7 +123,7 @@ pub fn reader_in(card: &[u64]) -> CardReader
         ranged: card[6] != 0,
         before: time_in(card[7], card[8]),
         offset: card[2] as usize,
-        verdict: CardVerdict::Answered,
+        verdict: Ok(()),
         held: card[3] as usize,
     }
 }

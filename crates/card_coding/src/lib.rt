@@ -8,7 +8,7 @@ ghost use Rattle.card_coding.specs.Calls.{bad_card, WritesCard, OpensCard, Hears
 use array::{BAD_CARD, LENGTH, is_card, put_card, reader_in, verdict_number};
 use card_reader::CardReader;
 use param::AudioParam;
-use rules::{AutomationRate, Verdict};
+use rules::AutomationRate;
 
 mod array; // array.rt: the array, and the reader that it keeps
 
@@ -22,7 +22,7 @@ pub fn write(state: &[u64], store: &[f32], out: &mut [u8], at: &mut usize) -> u3
 {
     let d = coding::decode(state);
     let verdict = d.verdict;
-    let Verdict::Answered = verdict else {
+    let Ok(()) = verdict else {
         return BAD_CARD;
     };
     let p = d.param;

@@ -1,4 +1,6 @@
 -- What the calls do that an event's field stands for. Assumes nothing.
+use Rattle.std.proofs.Common.{Result, Ok, Err}
+use Rattle.rules.specs.declared.Refusal.{Refusal}
 use mathlib.Core.Path.{◌≡◌, refl, sym, ap, ◌∙◌}
 use mathlib.Core.Bool.{Bool, true, false, cond, ◌&&◌}
 use mathlib.Core.List.{List, []}
@@ -9,7 +11,6 @@ use lib.ListN.{length, replicate}
 use lib.Ieee.{Float}
 use borrow.Author.Tests.{lt-ltb, le-ltb}
 use Rattle.rules.specs.declared.Event.{Event}
-use Rattle.rules.specs.declared.Verdict.{Verdict}
 use Rattle.rules.specs.Numbers.{store_length, is_finite}
 use Rattle.rules.specs.Queue.{Waiting, filed_under, lengths_of, attached, place_behind, arrived, inserted}
 use Rattle.rules.specs.Refusals.{lowest, all_finite, curve_rows}
@@ -80,9 +81,9 @@ module _ (p : Param) (store : List Float) (t d : Float) (xs ys : List Float) (ma
   unfolding called
   long_alike = go (lowest (curve_rows p.queue store t d ys)) refl
     where
-      go : (v : Verdict) → lowest (curve_rows p.queue store t d ys) ≡ v → called p store (curve t d xs) ≡ called p store (curve t d ys)
-      go Verdict.Answered e = absurd (omega (arith, (curve_answered p.queue store t d ys e).room))
-      go (Verdict.Refused why) e = refused_called _ p store _ _ why (long_verdict ∙ e) ∙ sym (refused_called _ p store _ _ why e)
+      go : (v : Result Unit Refusal) → lowest (curve_rows p.queue store t d ys) ≡ v → called p store (curve t d xs) ≡ called p store (curve t d ys)
+      go (Ok _) e = absurd (omega (arith, (curve_answered p.queue store t d ys e).room))
+      go (Err why) e = refused_called _ p store _ _ why (long_verdict ∙ e) ∙ sym (refused_called _ p store _ _ why e)
 
 pub does_long : {p : AudioParam} {s after : List Float} {r : Outcome} {t d : Float} (xs ys : List Float) → store_length < length xs → store_length < length ys
     → all_finite xs ≡ all_finite ys → Answers p s (curve t d ys) r after → Answers p s (curve t d xs) r after
@@ -101,18 +102,18 @@ alike_finite n x = go (is_finite x) refl n
 -- ---- one event more waits where a call is answered
 
 abbrev Longer : Param → Called → Type 0
-Longer p k = k.verdict ≡ Verdict.Answered → length k.param.queue ≡ suc (length p.queue)
+Longer p k = k.verdict ≡ Ok tt → length k.param.queue ≡ suc (length p.queue)
 
-scheduled_longer : (v : Verdict) (p : Param) (s : List Float) (e : Event) → Longer p (scheduled_as v p s e)
+scheduled_longer : (v : Result Unit Refusal) (p : Param) (s : List Float) (e : Event) → Longer p (scheduled_as v p s e)
 unfolding scheduled_as arrived
-scheduled_longer Verdict.Answered p s e h = put-length (place_behind (filed_under e) p.queue) e p.queue
-scheduled_longer (Verdict.Refused why) p s e h = let z : ◌≡◌ {A = ℕ} 0 1 = cc in absurd (omega arith)
+scheduled_longer (Ok _) p s e h = put-length (place_behind (filed_under e) p.queue) e p.queue
+scheduled_longer (Err why) p s e h = let z : ◌≡◌ {A = ℕ} 0 1 = cc in absurd (omega arith)
 
-curve_longer : (v : Verdict) (p : Param) (s : List Float) (w : Waiting) (i : Float) → Longer p (called_as v p s (inserted w (attached p.queue s)) i)
+curve_longer : (v : Result Unit Refusal) (p : Param) (s : List Float) (w : Waiting) (i : Float) → Longer p (called_as v p s (inserted w (attached p.queue s)) i)
 unfolding called_as arrived
-curve_longer Verdict.Answered p s w i h =
+curve_longer (Ok _) p s w i h =
     rw (events_inserted w (attached p.queue s), events_attached p.queue s) (put-length (place_behind (filed_under w.event) p.queue) w.event p.queue)
-curve_longer (Verdict.Refused why) p s w i h = let z : ◌≡◌ {A = ℕ} 0 1 = cc in absurd (omega arith)
+curve_longer (Err why) p s w i h = let z : ◌≡◌ {A = ℕ} 0 1 = cc in absurd (omega arith)
 
 pub event_longer : (bs : List ℕ) (p : Param) (s : List Float) → Longer p (called p s (event_in bs))
 unfolding event_in called

@@ -1,4 +1,6 @@
 -- The file's end: the last turn, by what is left over, and what is given back. Assumes nothing.
+use Rattle.card.specs.declared.Fault.{Fault}
+use Rattle.std.proofs.Common.{Ok, Result, Err}
 use mathlib.Core.Path.{◌≡◌, refl, sym, ap, ◌∙◌}
 use mathlib.Core.Bool.{true, false}
 use mathlib.Core.List.{List, [], ◌∷◌}
@@ -14,7 +16,6 @@ use Rattle.param.specs.declared.AudioParam.{AudioParam}
 use Rattle.param.specs.Param.{param_of, struct_of, SoundParam}
 use Rattle.param.proofs.Calls.{whole}
 use Rattle.card.specs.declared.Fault.TheVariants as Fault
-use Rattle.card.specs.declared.CardVerdict.{CardVerdict}
 use Rattle.card.specs.Card.{is_accepted, Reader, refused_by, field_turn, end_turn, at_end, Reading, bad_store, loaded_as, loaded}
 use Rattle.card.specs.Card as card
 use Rattle.card_reader.specs.declared.CardReader.{CardReader}
@@ -52,17 +53,17 @@ module _ (r : Reader) (p : Param) (store : List Float) where
     unfolding loaded loaded_as is_accepted
     good kept = rw (eq-eqb (length store) store_length long) (go r.verdict kept)
       where
-        go : (v : CardVerdict) → is_accepted v ≡ true → loaded_as v r p store ≡ record { says = record { verdict = v; at = r.offset }; param = r.param; store = r.store }
-        go CardVerdict.Answered h = refl
-        go (CardVerdict.Refused f) h = never h
+        go : (v : Result Unit Fault) → is_accepted v ≡ true → loaded_as v r p store ≡ record { says = record { verdict = v; at = r.offset }; param = r.param; store = r.store }
+        go (Ok _) h = refl
+        go (Err f) h = never h
 
     faulty : is_accepted r.verdict ≡ false → loaded r p store ≡ record { says = record { verdict = r.verdict; at = r.offset }; param = p; store = store }
     unfolding loaded loaded_as is_accepted
     faulty refused = rw (eq-eqb (length store) store_length long) (go r.verdict refused)
       where
-        go : (v : CardVerdict) → is_accepted v ≡ false → loaded_as v r p store ≡ record { says = record { verdict = v; at = r.offset }; param = p; store = store }
-        go CardVerdict.Answered h = never (sym h)
-        go (CardVerdict.Refused f) h = refl
+        go : (v : Result Unit Fault) → is_accepted v ≡ false → loaded_as v r p store ≡ record { says = record { verdict = v; at = r.offset }; param = p; store = store }
+        go (Ok _) h = never (sym h)
+        go (Err f) h = refl
 
 loads : {s : Reading} {p q : AudioParam} {store : List Float} {l : Loaded} {after : List Float} {k : card.Loaded} → loaded (at_end s) (param_of p) store ≡ k → SoundParam q
     → l ≡ record { says = k.says; param = q } → param_of q ≡ k.param → after ≡ k.store → Loads s p store l after

@@ -1,12 +1,10 @@
 -- The reader as code holds it, and what its functions ensure: one relation for a kind of call, by the rules of `card`.
-use Rattle.std.specs.Prelude.{◌≡◌, Bool, true, false, cond, ◌&&◌, List, ℕ, suc, ◌+◌, ◌-◌, ◌*◌, ◌≤◌, ◌<◌, length, take, drop, Float}
+use Rattle.std.specs.Prelude.{◌≡◌, Bool, true, false, cond, ◌&&◌, List, ℕ, suc, ◌+◌, ◌-◌, ◌*◌, ◌≤◌, ◌<◌, length, take, drop, Float, Option, Ok, Err}
 use Rattle.rules.specs.declared.AutomationRate.{AutomationRate}
-use Rattle.rules.specs.declared.MaybeTime.{MaybeTime}
 use Rattle.rules.specs.Numbers.{store_length}
 use Rattle.param.specs.declared.AudioParam.{AudioParam}
 use Rattle.param.specs.Param.{param_of, struct_of, SoundParam}
 use Rattle.card.specs.declared.Fault.{Fault}
-use Rattle.card.specs.declared.CardVerdict.TheVariants as CardVerdict
 use Rattle.card.specs.Card.{tag_of, is_tag, is_wrong, is_whole, is_accepted, Reader, opened, Reading, taken, fed, at_end}
 use Rattle.card.specs.Card as card
 use Rattle.card_reader.specs.declared.CardReader.{CardReader}
@@ -74,12 +72,12 @@ refused_reader f r =
       ranged = r.ranged;
       before = r.before;
       offset = r.offset;
-      verdict = CardVerdict.Refused f;
+      verdict = Err f;
       held = r.held;
     }
 
 -- the reader behind a field that is kept
-abbrev pub kept_reader : CardReader → AudioParam → MaybeTime → ℕ → CardReader
+abbrev pub kept_reader : CardReader → AudioParam → Option Float → ℕ → CardReader
 kept_reader r p before len =
     record {
       param = p;
@@ -88,7 +86,7 @@ kept_reader r p before len =
       ranged = true;
       before = before;
       offset = r.offset + len;
-      verdict = CardVerdict.Answered;
+      verdict = (Ok tt);
       held = r.held;
     }
 

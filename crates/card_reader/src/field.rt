@@ -11,7 +11,7 @@ ghost use Rattle.card_reader.specs.Reader.{FieldFits};
 use floats::{is_finite32, is_zero64};
 use param::{AudioParam, Outcome};
 use refusals::sound::is_from_zero;
-use rules::{Bounds, MaybeTime};
+use rules::Bounds;
 use words::{double_at, single_at, word_at};
 
 pub const RANGE: u8 = 6;
@@ -110,12 +110,12 @@ pub fn time_in(bytes: &[u8]) -> f64
     }
 }
 
-fn is_earlier(before: MaybeTime, time: f64) -> bool
+fn is_earlier(before: Option<f64>, time: f64) -> bool
     ensures { result ≡ is_earlier before time }
 {
     match before {
-        MaybeTime::Missing => false,
-        MaybeTime::At(t) => time < t,
+        None => false,
+        Some(t) => time < t,
     }
 }
 
@@ -138,7 +138,7 @@ fn has_no_constant(bytes: &[u8]) -> bool
 }
 
 // An event earlier than the one before it, a time of -0, or a time constant of 0.
-pub fn is_out_of_turn(before: MaybeTime, bytes: &[u8]) -> bool
+pub fn is_out_of_turn(before: Option<f64>, bytes: &[u8]) -> bool
     requires { FieldFits bytes.now × (is_range bytes.now ≡ false) }
     ensures { result ≡ is_out_of_turn before (event_in bytes.now) }
 {

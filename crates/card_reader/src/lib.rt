@@ -8,14 +8,14 @@ ghost use Rattle.param.specs.Param.{SoundParam};
 ghost use Rattle.card.specs.Card.{is_accepted, is_whole, is_range, contents_turn, field_turn};
 ghost use Rattle.card_reader.specs.Reader.{FieldFits, reading_of, window_length, part_length, SoundReader, SoundWindow, refused_reader, kept_reader, Opens, Does, ended, Takes, Feeds, TakesPart, Loads};
 
-use card::{CardVerdict, Fault, Judged, is_accepted};
+use card::{Fault, Judged, is_accepted};
 use field::{
     RANGE, bounds_in, field_length, is_misplaced, is_out_of_turn, is_tag, is_whole, is_wrong,
     schedule, time_in,
 };
 use lines::moved;
 use param::AudioParam;
-use rules::{AutomationRate, Bounds, MaybeTime, Refusal, Verdict};
+use rules::{AutomationRate, Bounds, Refusal};
 use text::write::put_word;
 
 pub mod field; // field.rt: what stands in a field
@@ -30,10 +30,10 @@ pub struct CardReader {
     // whether the range has come
     pub ranged: bool,
     // the time of the event's field before
-    pub before: MaybeTime,
+    pub before: Option<f64>,
     // where the next field begins; of a field that is refused, its own
     pub offset: usize,
-    pub verdict: CardVerdict,
+    pub verdict: Result<(), Fault>,
     // how many bytes of a field that has not come whole stand in front of the window
     pub held: usize,
 }
@@ -91,9 +91,9 @@ impl CardReader {
             rate,
             edition,
             ranged: false,
-            before: MaybeTime::Missing,
+            before: None,
             offset: 0,
-            verdict: CardVerdict::Answered,
+            verdict: Ok(()),
             held: 0,
         }
     }
@@ -112,13 +112,13 @@ impl CardReader {
             ranged: self.ranged,
             before,
             offset: self.offset,
-            verdict: CardVerdict::Refused(fault),
+            verdict: Err(fault),
             held: self.held,
         }
     }
 
     // The field at hand, of so many bytes, is kept.
-    fn kept(self, param: AudioParam, before: MaybeTime, len: usize) -> CardReader
+    fn kept(self, param: AudioParam, before: Option<f64>, len: usize) -> CardReader
         requires { self.offset + len < 2 ^ 64 }
         ensures { result ≡ kept_reader self param before len }
     {
@@ -130,7 +130,7 @@ impl CardReader {
             ranged: true,
             before,
             offset: self.offset + len,
-            verdict: CardVerdict::Answered,
+            verdict: Ok(()),
             held: self.held,
         }
     }
@@ -144,12 +144,12 @@ impl CardReader {
         let made = AudioParam::with_edition(bounds_in(bytes), rate, self.edition);
         let verdict = made.verdict;
         match verdict {
-            Verdict::Answered => {
+            Ok(()) => {
                 let param = made.param;
                 let before = self.before;
                 self.kept(param, before, field_length(bytes))
             }
-            Verdict::Refused(why) => self.refused(Fault::Own(why)),
+            Err(why) => self.refused(Fault::Own(why)),
         }
     }
 
@@ -166,12 +166,12 @@ impl CardReader {
         let called = schedule(param, bytes, numbers);
         let verdict = called.verdict;
         match verdict {
-            Verdict::Answered => {
+            Ok(()) => {
                 let param = called.param;
-                let before = MaybeTime::At(time_in(bytes));
+                let before = Some(time_in(bytes));
                 self.kept(param, before, field_length(bytes))
             }
-            Verdict::Refused(why) => self.refused(Fault::Own(why)),
+            Err(why) => self.refused(Fault::Own(why)),
         }
     }
 
@@ -298,7 +298,7 @@ impl CardReader {
         ensures { Loads (reading_of self numbers.old window.now) param store.old result store.new }
     {
         if store.len() != AudioParam::STORE {
-            let verdict = CardVerdict::Refused(Fault::Own(Refusal::BadStore));
+            let verdict = Err(Fault::Own(Refusal::BadStore));
             return Loaded {
                 says: Judged { verdict, at: 0 },
                 param,

@@ -1,4 +1,5 @@
 -- What is said of a schedule that is to be written: its events in turn, and the tests ahead of them. Assumes nothing.
+use Rattle.std.proofs.Common.{Ok}
 use mathlib.Core.Path.{◌≡◌, refl, ap, ◌∙◌}
 use mathlib.Core.Bool.{Bool, true, false, cond, not}
 use mathlib.Core.List.{List, [], ◌∷◌}
@@ -15,7 +16,6 @@ use Rattle.rules.specs.Queue.{Waiting, attached}
 use Rattle.rules.specs.Block.{Param}
 use Rattle.laws.specs.Sound.{has_played}
 use Rattle.laws.proofs.Tests.{never}
-use Rattle.card.specs.declared.CardVerdict.TheVariants as CardVerdict
 use Rattle.card.specs.declared.Judged.{Judged}
 use Rattle.card.specs.Card.{is_accepted, range_field, event_field, fields_of, file_of, is_unwritable, bad_store, unwritable, judged_from, judged}
 use Rattle.card.proofs.Bound.{range_size}
@@ -23,7 +23,7 @@ use Rattle.card_writer.proofs.Parts.{fields-length, fields-over}
 
 -- nothing is against writing these many bytes
 abbrev pub fine : ℕ → Judged
-fine many = record { verdict = CardVerdict.Answered; at = many }
+fine many = record { verdict = Ok tt; at = many }
 
 pub file_length : (b : Bounds) (ws : List Waiting) → length (file_of b ws) ≡ 15 + length (fields_of ws)
 unfolding file_of

@@ -1,4 +1,6 @@
 -- What is written, and what is said of it: refused, without room, and whole. Assumes nothing.
+use Rattle.card.specs.declared.Fault.{Fault}
+use Rattle.std.proofs.Common.{Ok, Result, Err}
 use mathlib.Core.Path.{◌≡◌, ap, ◌∙◌}
 use mathlib.Core.Bool.{true, false}
 use mathlib.Core.List.{List}
@@ -15,14 +17,13 @@ use Rattle.rules.specs.Block.{Param}
 use Rattle.text.specs.Put.{put, Put}
 use Rattle.text.proofs.Writing.{put_same, put_then}
 use Rattle.card.specs.declared.Fault.TheVariants as Fault
-use Rattle.card.specs.declared.CardVerdict.{CardVerdict}
 use Rattle.card.specs.declared.Judged.{Judged}
 use Rattle.card.specs.Card.{is_accepted, range_field, fields_of, file_of, judged, Saved, written_to, saved_as, saved}
 use Rattle.card.proofs.Back.{judged_lent}
 use Rattle.card.proofs.Bound.{range_size}
 use Rattle.card_writer.proofs.Judging.{fine, file_length, kept}
 
-abbrev says : CardVerdict → ℕ → List ℕ → Saved
+abbrev says : Result Unit Fault → ℕ → List ℕ → Saved
 says v at out = record { says = record { verdict = v; at = at }; out = out }
 
 module _ (p : Param) (store : List Float) {j : Judged} (is : j ≡ judged p store) where
@@ -47,12 +48,12 @@ module _ (p : Param) (store : List Float) {j : Judged} (is : j ≡ judged p stor
     bytes_said = said ∙ file_length p.bounds (attached p.queue store)
 
     module _ (out : List ℕ) where
-      pub saved_short : length out < j.at → says (CardVerdict.Refused Fault.NoRoom) j.at out ≡ saved p store out
+      pub saved_short : length out < j.at → says (Err Fault.NoRoom) j.at out ≡ saved p store out
       unfolding saved saved_as written_to
       saved_short h = rw (← is, k, lt-leb (length file) (length out) (rw said at h), said)
 
       pub saved-whole : {b : Bounds} {l₁ l₂ : List ℕ} {next r : ℕ} → j.at ≤ length out → b ≡ p.bounds → Put out 0 (range_field b) l₁ next
-          → Put l₁ next (fields_of (attached p.queue store)) l₂ r → says CardVerdict.Answered r l₂ ≡ saved p store out
+          → Put l₁ next (fields_of (attached p.queue store)) l₂ r → says (Ok tt) r l₂ ≡ saved p store out
       unfolding saved saved_as written_to file_of put
       saved-whole {b} h e range events =
           let all : Put out 0 file _ _ = put_then (put_same (ap range_field e) range) events (omega (arith, range.place, range_size b, bytes_said)) in

@@ -1,4 +1,5 @@
 -- A turn of a loop over the waiting events: the one at its place, with its numbers of the store, and what waits behind it. Assumes nothing.
+use Rattle.std.proofs.Common.{Some}
 use mathlib.Core.Path.{◌≡◌, sym}
 use mathlib.Core.List.{List, [], ◌∷◌}
 use Prim.Native.Nat.{ℕ, ◌+◌, ◌≤◌, ◌<◌}
@@ -6,7 +7,6 @@ use native.Mathlib.Omega.{arith}
 use lib.ListN.{length, get_or, take, drop, length-take, drop_of_length-le}
 use lib.Ieee.{Float}
 use Rattle.rules.specs.declared.Event.{Event}
-use Rattle.rules.specs.declared.Head.{Head}
 use Rattle.rules.specs.Numbers.{store_length}
 use Rattle.rules.specs.Queue.{length_of, lengths_of, attached}
 use Rattle.laws.proofs.Store.{attached-length}
@@ -43,7 +43,7 @@ pub record Turn (q : AudioParamEventTimeline) (store : List Float) (i from len :
 module _ {p : AudioParam} {q : AudioParamEventTimeline} (w : Walked p q) (store : List Float) (i : ℕ) where
   pub turn : {from len : ℕ} → i < q.len → from ≡ lengths_of (take i (waiting q)) → len ≡ length_of (slot_at q i) → Turn q store i from len
   turn {from} {len} inside f n =
-      let there : first_of (drop i (waiting q)) ≡ Head.Event (slot_at q i) = sym (slot_there q w.neat i inside) in
+      let there : first_of (drop i (waiting q)) ≡ Some (slot_at q i) = sym (slot_there q w.neat i inside) in
       let room : from + len ≤ store_length = omega (arith, past_most (waiting q) store i f there, w.room) in
       record {
         past = rw n (past_is (waiting q) store i f there);

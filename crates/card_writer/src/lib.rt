@@ -9,11 +9,11 @@ ghost use Rattle.param.specs.Param.{SoundParam, param_of};
 ghost use Rattle.card.specs.Card.{field_of, range_field, event_field, fields_of, file_of, has_hold, is_held, is_unwritable, judged_from, judged};
 ghost use Rattle.card_writer.specs.Writer.{schedule_of, Saves};
 
-use card::{CardVerdict, Fault, Judged, is_accepted};
+use card::{Fault, Judged, is_accepted};
 use param::AudioParam;
 use refusals::all_finite;
 use refusals::sound::has_played;
-use rules::{Bounds, Event, MaybeTime, Refusal};
+use rules::{Bounds, Event, Refusal};
 use text::write::put_byte;
 use timeline::length_of;
 use words::{put_double, put_number, put_single};
@@ -23,12 +23,12 @@ const RANGE: usize = 15;
 
 // ---- what is refused
 
-fn has_hold(hold: MaybeTime) -> bool
+fn has_hold(hold: Option<f64>) -> bool
     ensures { result ≡ has_hold hold }
 {
     match hold {
-        MaybeTime::Missing => false,
-        MaybeTime::At(_) => true,
+        None => false,
+        Some(_) => true,
     }
 }
 
@@ -82,7 +82,7 @@ fn judge_events(p: AudioParam, store: &[f32]) -> Judged
         let numbers = &store[from..to];
         if is_unwritable(e, numbers) {
             return Judged {
-                verdict: CardVerdict::Refused(Fault::Unwritable),
+                verdict: Err(Fault::Unwritable),
                 at: i,
             };
         }
@@ -91,7 +91,7 @@ fn judge_events(p: AudioParam, store: &[f32]) -> Judged
         i += 1;
     }
     Judged {
-        verdict: CardVerdict::Answered,
+        verdict: Ok(()),
         at: many,
     }
 }
@@ -103,13 +103,13 @@ fn judge(p: AudioParam, store: &[f32]) -> Judged
 {
     if store.len() != AudioParam::STORE {
         return Judged {
-            verdict: CardVerdict::Refused(Fault::Own(Refusal::BadStore)),
+            verdict: Err(Fault::Own(Refusal::BadStore)),
             at: 0,
         };
     }
     if has_played(p.last_block_time()) {
         return Judged {
-            verdict: CardVerdict::Refused(Fault::Unwritable),
+            verdict: Err(Fault::Unwritable),
             at: 0,
         };
     }
@@ -239,14 +239,14 @@ pub fn write(p: AudioParam, store: &[f32], out: &mut [u8]) -> Judged
     let at = said.at;
     if out.len() < at {
         return Judged {
-            verdict: CardVerdict::Refused(Fault::NoRoom),
+            verdict: Err(Fault::NoRoom),
             at,
         };
     }
     let next = put_range(out, 0, p.bounds());
     let at = put_events(p, store, out, next);
     Judged {
-        verdict: CardVerdict::Answered,
+        verdict: Ok(()),
         at,
     }
 }

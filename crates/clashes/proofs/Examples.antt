@@ -1,11 +1,11 @@
 -- What calls run into, and that in words, computed. Assumes nothing.
+use Rattle.std.proofs.Common.{Some, None}
 use mathlib.Core.Path.{◌≡◌, refl}
 use mathlib.Core.List.{List, [], ◌∷◌}
 use Prim.Native.Nat.{ℕ}
 use Prim.Native.String.{String}
 use lib.Ieee.{Float, binary64, round, of_bits, to_bits, add, le, lt, eq}
 use Rattle.rules.specs.declared.Event.{Event}
-use Rattle.rules.specs.declared.MaybeTime.TheVariants as MaybeTime
 use Rattle.rules.specs.Numbers.{plus_zero, is_zero, taken_time}
 use Rattle.rules.specs.Queue.{hold_or, filed_under, curve_end, is_inside, covers, is_filed_inside, those}
 use Rattle.timeline.specs.Timeline.{first_of}
@@ -24,9 +24,9 @@ time b = of_bits binary64 b
 -- a curve from 1 for 5 seconds, and one from 7 that is held at 8; a ramp to 12 that is held at 10
 abbrev queue : List Event
 queue =
-    Event.Curve (time 0x3ff0000000000000) (time 0x4014000000000000) 3 MaybeTime.Missing
-    ∷ Event.Curve (time 0x401c000000000000) (time 0x4014000000000000) 3 (MaybeTime.At (time 0x4020000000000000))
-    ∷ Event.Linear plus_zero (time 0x4028000000000000) (MaybeTime.At (time 0x4024000000000000)) ∷ []
+    Event.Curve (time 0x3ff0000000000000) (time 0x4014000000000000) 3 None
+    ∷ Event.Curve (time 0x401c000000000000) (time 0x4014000000000000) 3 (Some (time 0x4020000000000000))
+    ∷ Event.Linear plus_zero (time 0x4028000000000000) (Some (time 0x4024000000000000)) ∷ []
 
 abbrev Says : Call → String → Type 0
 Says call sentence = clash_text (clash_of queue call) ≡ codes sentence

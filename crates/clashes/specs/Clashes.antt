@@ -1,10 +1,8 @@
 -- Refusal 11 (document 02, C-14): "an event whose time lies at or after a waiting curve's start and before its end, a curve whose own span .. holds a waiting
 -- event's time, or whose start lies inside a waiting curve's span". Which curve or which event that is, and that in words.
-use Rattle.std.specs.Prelude.{List, ◌++◌, ℕ, Float}
+use Rattle.std.specs.Prelude.{List, ◌++◌, ℕ, Float, Option, Some, None}
 use Rattle.std.specs.Float.{binary64}
 use Rattle.rules.specs.declared.Event.{Event}
-use Rattle.rules.specs.declared.Head.{Head}
-use Rattle.rules.specs.declared.MaybeTime.TheVariants as MaybeTime
 use Rattle.rules.specs.Numbers.{plus_zero, taken_time}
 use Rattle.rules.specs.Queue.{filed_under, curve_end, covers, is_filed_inside, those}
 use Rattle.timeline.specs.Timeline.{first_of}
@@ -24,14 +22,14 @@ span_of (Event.Exponential v t h) = Clash.None
 span_of (Event.Target v t c h) = Clash.None
 span_of (Event.Curve s d n h) = Clash.Curve s (curve_end s d h)
 
-unfoldable pub curve_in : Head → Clash
-curve_in Head.Empty = Clash.None
-curve_in (Head.Event e) = span_of e
+unfoldable pub curve_in : Option Event → Clash
+curve_in None = Clash.None
+curve_in (Some e) = span_of e
 
 -- an event, by the time that it is filed under
-unfoldable pub event_in : Head → Clash
-event_in Head.Empty = Clash.None
-event_in (Head.Event e) = Clash.Event (filed_under e)
+unfoldable pub event_in : Option Event → Clash
+event_in None = Clash.None
+event_in (Some e) = Clash.Event (filed_under e)
 
 unfoldable pub or_else : Clash → Clash → Clash
 or_else Clash.None other = other
@@ -44,7 +42,7 @@ covered_by q t = curve_in (first_of (those (covers (taken_time t)) q))
 
 -- "a curve whose own span .. holds a waiting event's time": the first such event
 unfoldable pub holding : List Event → Float → Float → Clash
-holding q t d = let start = taken_time t in event_in (first_of (those (is_filed_inside start (curve_end start d MaybeTime.Missing)) q))
+holding q t d = let start = taken_time t in event_in (first_of (those (is_filed_inside start (curve_end start d None)) q))
 
 -- what a call runs into: "An immediate set is a step at time 0"; of a curve, first the curve that its "start lies inside"
 unfoldable pub clash_of : List Event → Call → Clash

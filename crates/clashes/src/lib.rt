@@ -12,7 +12,7 @@ use calls::Call;
 use decimal::write::put_time;
 use floats::taken_time;
 use replies::put_meaning;
-use rules::{Event, Head, MaybeTime};
+use rules::Event;
 use text::write::put_word;
 use timeline::{AudioParamEventTimeline, curve_end, filed_under};
 
@@ -45,21 +45,21 @@ fn span_of(e: Event) -> Clash
     }
 }
 
-fn curve_in(head: Head) -> Clash
+fn curve_in(head: Option<Event>) -> Clash
     ensures { result ≡ curve_in head }
 {
     match head {
-        Head::Empty => Clash::None,
-        Head::Event(e) => span_of(e),
+        None => Clash::None,
+        Some(e) => span_of(e),
     }
 }
 
-fn event_in(head: Head) -> Clash
+fn event_in(head: Option<Event>) -> Clash
     ensures { result ≡ event_in head }
 {
     match head {
-        Head::Empty => Clash::None,
-        Head::Event(e) => Clash::Event {
+        None => Clash::None,
+        Some(e) => Clash::Event {
             time: filed_under(e),
         },
     }
@@ -89,7 +89,7 @@ fn holding(q: AudioParamEventTimeline, time: f64, duration: f64) -> Clash
     ensures { result ≡ rule.holding (waiting q) time duration }
 {
     let start = taken_time(time);
-    let end = curve_end(start, duration, MaybeTime::Missing);
+    let end = curve_end(start, duration, None);
     event_in(q.filed_inside(start, end))
 }
 

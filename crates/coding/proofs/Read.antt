@@ -1,4 +1,5 @@
 -- A state read as a parameter: it is accepted where what it has is sound, and gives back what was written. Assumes nothing.
+use Rattle.std.proofs.Common.{Ok, Err}
 use mathlib.Core.Path.{◌≡◌, refl, sym, ap, ◌∙◌}
 use mathlib.Core.Bool.{Bool, true, false, cond, ◌&&◌}
 use mathlib.Core.List.{List}
@@ -12,7 +13,6 @@ use Rattle.rules.specs.declared.AutomationRate.{AutomationRate}
 use Rattle.rules.specs.declared.AutomationRate.TheVariants as Rate
 use Rattle.rules.specs.declared.Event.{Event}
 use Rattle.rules.specs.declared.Refusal.{Refusal}
-use Rattle.rules.specs.declared.Verdict.TheVariants as Verdict
 use Rattle.rules.specs.Numbers.{most_events}
 use Rattle.rules.specs.Refusals.{lowest, are_bounds, is_edition, making_rows}
 use Rattle.rules.specs.Block.{Param, made, made_as, with_queue}
@@ -84,12 +84,12 @@ module _ (s : List ℕ) where
     pub decodes : {r : Outcome} → Restores parts r → Decodes s r
     decodes {r} a = record { gives = go (is_state s) refl; sound = a.sound }
       where
-        go : (b : Bool) → is_state s ≡ b → r ≡ cond b (record { verdict = Verdict.Answered; param = struct_of (param_in s) }) unmade
+        go : (b : Bool) → is_state s ≡ b → r ≡ cond b (record { verdict = (Ok tt); param = struct_of (param_in s) }) unmade
         go false e = a.gives ∙ rw (accepted, e)
         go true e =
             let f : leb q.len most_events ≡ true = unfold is_whole in (both (leb q.len most_events) (is_sound (param_of parts)) (accepted ∙ e)).0 in
-            a.gives ∙ ap (λ (b : Bool). cond b (record { verdict = Verdict.Answered; param = struct_of (param_of parts) }) unmade) (accepted ∙ e)
-            ∙ ap (λ (x : Param). record { verdict = Verdict.Answered; param = struct_of x }) (read f)
+            a.gives ∙ ap (λ (b : Bool). cond b (record { verdict = (Ok tt); param = struct_of (param_of parts) }) unmade) (accepted ∙ e)
+            ∙ ap (λ (x : Param). record { verdict = (Ok tt); param = struct_of x }) (read f)
 
 -- ---- "decoding after encoding is the identity, every accepted state is sound"
 
@@ -139,11 +139,11 @@ encoded_accepted {p} {s} {after} f long e =
     (and (le-leb (get_or after 14 0) most_events (omega arith)) (rw e.back (passes_test (param_of p) f.sound))))))
 
 pub decoded_encoded : {p : AudioParam} {s after : List ℕ} {r : Outcome} → SoundParam p → length after ≡ state_length → Encodes p s after → Decodes after r
-    → r ≡ record { verdict = Verdict.Answered; param = p }
+    → r ≡ record { verdict = (Ok tt); param = p }
 decoded_encoded {p} {s} {after} f long e d =
-    d.gives ∙ ap (λ (b : Bool). cond b (record { verdict = Verdict.Answered; param = struct_of (param_in after) }) unmade) (encoded_accepted f long e)
-    ∙ ap (λ (x : Param). record { verdict = Verdict.Answered; param = struct_of x }) e.back
-    ∙ ap (λ (x : AudioParam). record { verdict = Verdict.Answered; param = x }) (sym (whole p f))
+    d.gives ∙ ap (λ (b : Bool). cond b (record { verdict = (Ok tt); param = struct_of (param_in after) }) unmade) (encoded_accepted f long e)
+    ∙ ap (λ (x : Param). record { verdict = (Ok tt); param = struct_of x }) e.back
+    ∙ ap (λ (x : AudioParam). record { verdict = (Ok tt); param = x }) (sym (whole p f))
 
 -- ---- the state of a parameter, written
 
@@ -162,24 +162,24 @@ module _ {p : AudioParam} {s after : List ℕ} (f : SoundParam p) (long : length
 -- ---- what a state gives
 
 module _ {s : List ℕ} {d : Outcome} (x : Decodes s d) where
-  pub answered_state : d.verdict ≡ Verdict.Answered → (is_state s ≡ true) × (param_of d.param ≡ param_in s)
+  pub answered_state : d.verdict ≡ Ok tt → (is_state s ≡ true) × (param_of d.param ≡ param_in s)
   answered_state h = go (is_state s) refl
     where
       go : (b : Bool) → is_state s ≡ b → (b ≡ true) × (param_of d.param ≡ param_in s)
       go true e =
-          let is : d ≡ record { verdict = Verdict.Answered; param = struct_of (param_in s) } = x.gives ∙ rw e in
+          let is : d ≡ record { verdict = (Ok tt); param = struct_of (param_in s) } = x.gives ∙ rw e in
           (refl, ap (λ (o : Outcome). param_of o.param) is ∙ struct_back (param_in s))
       go false e = let is : d ≡ unmade = x.gives ∙ rw e in let z : ◌≡◌ {A = ℕ} 0 1 = cc in absurd (omega arith)
 
-  pub answered_long : d.verdict ≡ Verdict.Answered → length s ≡ state_length
+  pub answered_long : d.verdict ≡ Ok tt → length s ≡ state_length
   answered_long h = accepted_long s (answered_state h).0
 
-  pub refused_state : {why : Refusal} → d.verdict ≡ Verdict.Refused why → is_state s ≡ false
+  pub refused_state : {why : Refusal} → d.verdict ≡ Err why → is_state s ≡ false
   refused_state {why} h = go (is_state s) refl
     where
       go : (b : Bool) → is_state s ≡ b → b ≡ false
       go false e = refl
       go true e =
-          let is : d ≡ record { verdict = Verdict.Answered; param = struct_of (param_in s) } = x.gives ∙ rw e in
+          let is : d ≡ record { verdict = (Ok tt); param = struct_of (param_in s) } = x.gives ∙ rw e in
           let z : ◌≡◌ {A = ℕ} 0 1 = cc in
           absurd (omega arith)

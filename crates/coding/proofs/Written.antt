@@ -1,4 +1,6 @@
 -- A parameter written over a state, event by event, and read again. Assumes nothing.
+use Rattle.std.proofs.Common.{Option}
+use Rattle.rules.specs.declared.Finished.{Finished}
 use mathlib.Core.Path.{◌≡◌, refl, sym, ap, ◌∙◌}
 use mathlib.Core.List.{List, [], ◌∷◌, ◌++◌, append_assoc, append-nil}
 use Prim.Native.Nat.{ℕ, ◌+◌, ◌*◌, ◌≤◌}
@@ -7,8 +9,6 @@ use lib.ListN.{length, get_or, set, take, drop, take-append-drop, length-append,
 use lib.Seq.{sets, sets-eq, length-sets, take_at, take_all, drop-drop, drop-append-add, length-take-le}
 use lib.Ieee.{Float}
 use Rattle.rules.specs.declared.Bounds.{Bounds}
-use Rattle.rules.specs.declared.MaybeTime.{MaybeTime}
-use Rattle.rules.specs.declared.LastEvent.{LastEvent}
 use Rattle.rules.specs.declared.AutomationRate.{AutomationRate}
 use Rattle.rules.specs.declared.AutomationRate.TheVariants as Rate
 use Rattle.rules.specs.declared.Edition.{Edition}
@@ -88,13 +88,13 @@ module _ {q : List Event} {s₀ s : List ℕ} {i : ℕ} (w : Wrote q s₀ i s) (
 
 -- ---- the head
 
-pub last_length : {s after : List ℕ} {l : LastEvent} → PutsLast s l after → length after ≡ length s
+pub last_length : {s after : List ℕ} {l : Option Finished} → PutsLast s l after → length after ≡ length s
 last_length {s} {after} {l} p = ap length p.is ∙ length-sets s 11 (last_flag l ∷ last_time l ∷ last_value l ∷ [])
 
 pub head_length : {p : Param} {s after : List ℕ} → PutsHead s p after → length s ≡ state_length → length after ≡ state_length
 head_length {p} {s} h long = ap length h.is ∙ simp (length-append, length-drop) (omega arith)
 
-module _ (p : Param) (s : List ℕ) {b : Bounds} {r : AutomationRate} {e : Edition} {x : Float} {t u : MaybeTime} {l : LastEvent} {min default max rate edition value flag time mark end n : ℕ}
+module _ (p : Param) (s : List ℕ) {b : Bounds} {r : AutomationRate} {e : Edition} {x : Float} {t u : Option Float} {l : Option Finished} {min default max rate edition value flag time mark end n : ℕ}
     {after : List ℕ} (last : PutsLast (sets s 0 (state_version ∷ min ∷ default ∷ max ∷ rate ∷ edition ∷ value ∷ flag ∷ time ∷ mark ∷ end ∷ [])) l after) where
   pub puts_head : length s ≡ state_length → b ≡ p.bounds → r ≡ p.rate → e ≡ p.edition → x ≡ p.intrinsic → t ≡ p.last_block → u ≡ p.last_end → l ≡ p.last → n ≡ length p.queue
       → SingleBits b.min min → SingleBits b.default default → SingleBits b.max max → rate ≡ rate_word r → edition ≡ number_of_edition e → SingleBits x value → flag ≡ flag_of t → TimeBits t time

@@ -1,14 +1,12 @@
 -- The state that a caller keeps, an array of numbers: which number stands at which place, what is read from it, and what is written.
-use Rattle.std.specs.Prelude.{◌≡◌, Bool, cond, ◌&&◌, List, [], ◌∷◌, ◌++◌, ℕ, zero, suc, ◌+◌, ◌*◌, ◌≤◌, leb, eqb, length, get_or, take, drop, Float}
+use Rattle.rules.specs.declared.Finished.{Finished}
+use Rattle.std.specs.Prelude.{◌≡◌, Bool, cond, ◌&&◌, List, [], ◌∷◌, ◌++◌, ℕ, zero, suc, ◌+◌, ◌*◌, ◌≤◌, leb, eqb, length, get_or, take, drop, Float, Option, Some, None, Ok}
 use Rattle.std.proofs.lemmas.List.Edits.{sets}
 use Rattle.std.specs.Float.{binary32, binary64}
 use Rattle.std.specs.Float.Ieee.{to_bits}
-use Rattle.rules.specs.declared.MaybeTime.{MaybeTime}
-use Rattle.rules.specs.declared.LastEvent.{LastEvent}
 use Rattle.rules.specs.declared.AutomationRate.{AutomationRate}
 use Rattle.rules.specs.declared.AutomationRate.TheVariants as Rate
 use Rattle.rules.specs.declared.Event.{Event}
-use Rattle.rules.specs.declared.Verdict.TheVariants as Verdict
 use Rattle.rules.specs.Numbers.{most_events}
 use Rattle.rules.specs.Refusals.{is_edition}
 use Rattle.rules.specs.Block.{Param, edition_of}
@@ -44,11 +42,11 @@ place_of i = head_words + event_words * i
 -- ---- what is read
 
 -- 0, or the time that follows
-unfoldable pub time_in : ℕ → ℕ → MaybeTime
-time_in flag t = cond (eqb flag 0) MaybeTime.Missing (MaybeTime.At (double_in t))
+unfoldable pub time_in : ℕ → ℕ → Option Float
+time_in flag t = cond (eqb flag 0) None (Some (double_in t))
 
-unfoldable pub last_in : ℕ → ℕ → ℕ → LastEvent
-last_in flag t v = cond (eqb flag 0) LastEvent.None (LastEvent.Done (record { time = double_in t; value = single_in v }))
+unfoldable pub last_in : ℕ → ℕ → ℕ → Option Finished
+last_in flag t v = cond (eqb flag 0) None (Some (record { time = double_in t; value = single_in v }))
 
 -- 0 for A-rate, 1 for K-rate
 unfoldable pub rate_in : ℕ → AutomationRate
@@ -58,7 +56,7 @@ unfoldable pub is_rate : ℕ → Bool
 is_rate n = leb n 1
 
 -- by its kind: 0 step, 1 linear, 2 exponential, 3 target, 4 curve; a number that a kind has not is not read. What has no kind is read as a curve of no numbers, and no parameter has one.
-unfoldable pub event_of : ℕ → ℕ → ℕ → ℕ → MaybeTime → Event
+unfoldable pub event_of : ℕ → ℕ → ℕ → ℕ → Option Float → Event
 event_of kind value time other hold =
     cond (eqb kind 0) (Event.Step (single_in value) (double_in time))
     (cond (eqb kind 1) (Event.Linear (single_in value) (double_in time) hold)
@@ -97,35 +95,35 @@ is_state s =
 
 -- ---- what is written
 
-unfoldable pub flag_of : MaybeTime → ℕ
-flag_of MaybeTime.Missing = 0
-flag_of (MaybeTime.At t) = 1
+unfoldable pub flag_of : Option Float → ℕ
+flag_of None = 0
+flag_of (Some t) = 1
 
-unfoldable pub bits_of : MaybeTime → ℕ
-bits_of MaybeTime.Missing = 0
-bits_of (MaybeTime.At t) = to_bits binary64 t
+unfoldable pub bits_of : Option Float → ℕ
+bits_of None = 0
+bits_of (Some t) = to_bits binary64 t
 
 unfoldable pub rate_word : AutomationRate → ℕ
 rate_word Rate.A = 0
 rate_word Rate.K = 1
 
-unfoldable pub last_flag : LastEvent → ℕ
-last_flag LastEvent.None = 0
-last_flag (LastEvent.Done l) = 1
+unfoldable pub last_flag : Option Finished → ℕ
+last_flag None = 0
+last_flag (Some l) = 1
 
-unfoldable pub last_time : LastEvent → ℕ
-last_time LastEvent.None = 0
-last_time (LastEvent.Done l) = to_bits binary64 l.time
+unfoldable pub last_time : Option Finished → ℕ
+last_time None = 0
+last_time (Some l) = to_bits binary64 l.time
 
-unfoldable pub last_value : LastEvent → ℕ
-last_value LastEvent.None = 0
-last_value (LastEvent.Done l) = to_bits binary32 l.value
+unfoldable pub last_value : Option Finished → ℕ
+last_value None = 0
+last_value (Some l) = to_bits binary32 l.value
 
-abbrev pub six_words : ℕ → ℕ → ℕ → ℕ → MaybeTime → List ℕ
+abbrev pub six_words : ℕ → ℕ → ℕ → ℕ → Option Float → List ℕ
 six_words kind value time other hold = kind ∷ value ∷ time ∷ other ∷ flag_of hold ∷ bits_of hold ∷ []
 
 unfoldable pub words_of : Event → List ℕ
-words_of (Event.Step v t) = six_words 0 (to_bits binary32 v) (to_bits binary64 t) 0 MaybeTime.Missing
+words_of (Event.Step v t) = six_words 0 (to_bits binary32 v) (to_bits binary64 t) 0 None
 words_of (Event.Linear v t h) = six_words 1 (to_bits binary32 v) (to_bits binary64 t) 0 h
 words_of (Event.Exponential v t h) = six_words 2 (to_bits binary32 v) (to_bits binary64 t) 0 h
 words_of (Event.Target v t c h) = six_words 3 (to_bits binary32 v) (to_bits binary64 t) (to_bits binary64 c) h
@@ -152,12 +150,12 @@ written_at s at ws = take at s ++ ws ++ drop (at + length ws) s
 -- ---- what the functions ensure
 
 -- a time's bits give it back
-pub record TimeBits (t : MaybeTime) (n : ℕ) : Type 0 where
+pub record TimeBits (t : Option Float) (n : ℕ) : Type 0 where
   pub is : n ≡ bits_of t
   pub back : time_in (flag_of t) (bits_of t) ≡ t
 
 -- six numbers of an event are written, and its time and its hold time are given back
-pub record PutsWords (s : List ℕ) (at kind word : ℕ) (time : Float) (other : ℕ) (hold : MaybeTime) (after : List ℕ) : Type 0 where
+pub record PutsWords (s : List ℕ) (at kind word : ℕ) (time : Float) (other : ℕ) (hold : Option Float) (after : List ℕ) : Type 0 where
   pub is : after ≡ written_at s at (six_words kind word (to_bits binary64 time) other hold)
   pub time_back : double_in (to_bits binary64 time) ≡ time
   pub hold_back : time_in (flag_of hold) (bits_of hold) ≡ hold
@@ -168,7 +166,7 @@ pub record PutsEvent (s : List ℕ) (at : ℕ) (e : Event) (after : List ℕ) : 
   pub back : event_at (words_of e) 0 ≡ e
 
 -- the last event's three numbers
-pub record PutsLast (s : List ℕ) (l : LastEvent) (after : List ℕ) : Type 0 where
+pub record PutsLast (s : List ℕ) (l : Option Finished) (after : List ℕ) : Type 0 where
   pub is : after ≡ sets s 11 (last_flag l ∷ last_time l ∷ last_value l ∷ [])
   pub back : last_in (last_flag l) (last_time l) (last_value l) ≡ l
 
@@ -190,7 +188,7 @@ pub record Queues (s : List ℕ) (q : AudioParamEventTimeline) : Type 0 where
 
 -- a state gives its parameter, or is refused as bad bounds are
 pub record Decodes (s : List ℕ) (r : Outcome) : Type 0 where
-  pub gives : r ≡ cond (is_state s) (record { verdict = Verdict.Answered; param = struct_of (param_in s) }) unmade
+  pub gives : r ≡ cond (is_state s) (record { verdict = (Ok tt); param = struct_of (param_in s) }) unmade
   pub sound : SoundParam r.param
 
 -- a parameter is written over a state, which then gives it back

@@ -2,39 +2,39 @@
 ghost use Rattle.std.specs.Prelude.{◌≡◌, ◌+◌, ◌≤◌, length};
 ghost use Rattle.coding.specs.Coding.{time_in, event_of, event_at, flag_of, TimeBits, PutsWords, PutsEvent};
 
-use rules::{Event, MaybeTime};
+use rules::Event;
 use words::{double_bits, double_in, single_bits, single_in};
 
-pub fn time_in(flag: u64, time: u64) -> MaybeTime
+pub fn time_in(flag: u64, time: u64) -> Option<f64>
     ensures { result ≡ time_in flag time }
 {
     if flag == 0 {
-        MaybeTime::Missing
+        None
     } else {
-        MaybeTime::At(double_in(time))
+        Some(double_in(time))
     }
 }
 
-pub fn flag_of(t: MaybeTime) -> u64
+pub fn flag_of(t: Option<f64>) -> u64
     ensures { result ≡ flag_of t }
 {
     match t {
-        MaybeTime::Missing => 0,
-        MaybeTime::At(_) => 1,
+        None => 0,
+        Some(_) => 1,
     }
 }
 
-pub fn time_bits(t: MaybeTime) -> u64
+pub fn time_bits(t: Option<f64>) -> u64
     ensures { TimeBits t result }
 {
     match t {
-        MaybeTime::Missing => 0,
-        MaybeTime::At(x) => double_bits(x),
+        None => 0,
+        Some(x) => double_bits(x),
     }
 }
 
 // An event by its kind.
-fn event_of(kind: u64, word: u64, time: u64, other: u64, hold: MaybeTime) -> Event
+fn event_of(kind: u64, word: u64, time: u64, other: u64, hold: Option<f64>) -> Event
     ensures { result ≡ event_of kind word time other hold }
 {
     let value = single_in(word);
@@ -81,7 +81,7 @@ fn put_words(
     word: u64,
     time: f64,
     other: u64,
-    hold: MaybeTime,
+    hold: Option<f64>,
 )
     requires { at + 6 ≤ length state.old }
     ensures { PutsWords state.old at kind word time other hold state.new }
@@ -104,7 +104,7 @@ pub fn put_event(state: &mut [u64], at: usize, e: Event)
 {
     match e {
         Event::Step { value, time } => {
-            let hold = MaybeTime::Missing;
+            let hold = None;
             put_words(state, at, 0, single_bits(value), time, 0, hold)
         }
         Event::Linear { value, time, hold } => {

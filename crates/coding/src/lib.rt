@@ -9,7 +9,7 @@ ghost use Rattle.coding.specs.Coding.{state_length, last_in, rate_in, rate_word,
 use event::{event_at, flag_of, put_event, time_bits, time_in};
 use param::{AudioParam, Outcome, edition_of};
 use refusals::is_edition;
-use rules::{AutomationRate, Bounds, Edition, Finished, LastEvent};
+use rules::{AutomationRate, Bounds, Edition, Finished};
 use timeline::{AudioParamEvent, AudioParamEventTimeline};
 use words::{double_bits, double_in, single_bits, single_in};
 
@@ -35,13 +35,13 @@ pub fn rate_in(word: u64) -> AutomationRate
     }
 }
 
-fn last_in(flag: u64, time: u64, value: u64) -> LastEvent
+fn last_in(flag: u64, time: u64, value: u64) -> Option<Finished>
     ensures { result ≡ last_in flag time value }
 {
     if flag == 0 {
-        LastEvent::None
+        None
     } else {
-        LastEvent::Done(Finished {
+        Some(Finished {
             time: double_in(time),
             value: single_in(value),
         })
@@ -128,17 +128,17 @@ fn edition_word(edition: Edition) -> u64
     }
 }
 
-fn put_last(state: &mut [u64], last: LastEvent)
+fn put_last(state: &mut [u64], last: Option<Finished>)
     requires { length state.old ≡ state_length }
     ensures { PutsLast state.old last state.new }
 {
     match last {
-        LastEvent::None => {
+        None => {
             state[11] = 0;
             state[12] = 0;
             state[13] = 0;
         }
-        LastEvent::Done(l) => {
+        Some(l) => {
             state[11] = 1;
             state[12] = double_bits(l.time);
             state[13] = single_bits(l.value);

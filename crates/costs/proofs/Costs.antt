@@ -1,4 +1,6 @@
 -- 02, C-20: the sums of a session's totals, call by call, and so the bound on its steps. Assumes nothing.
+use Rattle.std.proofs.Common.{Result, Ok, Err}
+use Rattle.rules.specs.declared.Refusal.{Refusal}
 use mathlib.Core.Path.{◌≡◌, refl, ap, ◌∙◌}
 use mathlib.Core.Bool.{Bool, not}
 use mathlib.Core.List.{List, [], ◌∷◌, ◌++◌}
@@ -10,7 +12,6 @@ use lib.Ieee.{Float}
 use Rattle.rules.specs.declared.Bounds.{Bounds}
 use Rattle.rules.specs.declared.AutomationRate.{AutomationRate}
 use Rattle.rules.specs.declared.Event.{Event}
-use Rattle.rules.specs.declared.Verdict.{Verdict}
 use Rattle.rules.specs.Numbers.{taken_time}
 use Rattle.rules.specs.Queue.{Waiting, filed_under, place_behind, events_of, attached, inserted, arrived, cancelled, goes_at}
 use Rattle.rules.specs.Walk.{Walked}
@@ -49,18 +50,18 @@ arrived_weighs e q =
     let n : ℕ = place_behind (filed_under e) q in
     (omega (arith, put-length n e q), omega (arith, one_at_most e, weigh_put exponentials n e q))
 
-scheduled_stores : (v : Verdict) (p : Param) (store : List Float) (e : Event) → Stores p (scheduled_as v p store e)
+scheduled_stores : (v : Result Unit Refusal) (p : Param) (store : List Float) (e : Event) → Stores p (scheduled_as v p store e)
 unfolding scheduled_as once_answered
-scheduled_stores Verdict.Answered p store e = arrived_weighs e p.queue
-scheduled_stores (Verdict.Refused r) p store e = (omega arith, omega arith)
+scheduled_stores (Ok _) p store e = arrived_weighs e p.queue
+scheduled_stores (Err r) p store e = (omega arith, omega arith)
 
 inserted_is : (w : Waiting) (q : List Event) (store : List Float) → events_of (inserted w (attached q store)) ≡ arrived w.event q
 inserted_is w q store = events_inserted w (attached q store) ∙ ap (arrived w.event) (events_attached q store)
 
-curve_stores : (v : Verdict) (p : Param) (store : List Float) (w : Waiting) (i : Float) → Stores p (called_as v p store (inserted w (attached p.queue store)) i)
+curve_stores : (v : Result Unit Refusal) (p : Param) (store : List Float) (w : Waiting) (i : Float) → Stores p (called_as v p store (inserted w (attached p.queue store)) i)
 unfolding called_as once_answered
-curve_stores Verdict.Answered p store w i = rw (inserted_is w p.queue store) (arrived_weighs w.event p.queue)
-curve_stores (Verdict.Refused r) p store w i = (omega arith, omega arith)
+curve_stores (Ok _) p store w i = rw (inserted_is w p.queue store) (arrived_weighs w.event p.queue)
+curve_stores (Err r) p store w i = (omega arith, omega arith)
 
 -- ---- a cancel, and a hold
 
@@ -68,14 +69,14 @@ curve_stores (Verdict.Refused r) p store w i = (omega arith, omega arith)
 abbrev pub Cancels : Param → Called → Type 0
 Cancels p r = (waiting_in r.param ≤ waiting_in p) × (turnable r.param ≤ turnable p)
 
-cancel_cancels : (v : Verdict) (p : Param) (store : List Float) (c i : Float) → Cancels p (called_as v p store (cancelled c (attached p.queue store)) i)
+cancel_cancels : (v : Result Unit Refusal) (p : Param) (store : List Float) (c i : Float) → Cancels p (called_as v p store (cancelled c (attached p.queue store)) i)
 unfolding called_as
-cancel_cancels Verdict.Answered p store c i =
+cancel_cancels (Ok _) p store c i =
     let stay : Event → Bool = λ e. not (goes_at c e) in
     rw
     (events_cancelled c (attached p.queue store), events_attached p.queue store)
     (rw (weigh_each, weigh_each) at (weigh_those each stay p.queue), weigh_those exponentials stay p.queue)
-cancel_cancels (Verdict.Refused r) p store c i = (omega arith, omega arith)
+cancel_cancels (Err r) p store c i = (omega arith, omega arith)
 
 hold_cancels : (p : Param) (store : List Float) (c : Float) → Sound p → Cancels p (called p store (hold c))
 hold_cancels p store c s =
@@ -114,7 +115,7 @@ pub record Plays (p : Param) (a : Answer) : Type 0 where
   pub finished : a.finished + waiting_in a.param ≡ waiting_in p
   pub turned : a.turned + turnable a.param ≤ turnable p
 
-module _ (p : Param) (store : List Float) (c : Call) (fine : verdict_of p store c ≡ Verdict.Answered) where
+module _ (p : Param) (store : List Float) (c : Call) (fine : verdict_of p store c ≡ Ok tt) where
   abbrev ws : List Waiting
   ws = attached p.queue store
 
@@ -137,9 +138,9 @@ module _ (p : Param) (store : List Float) (c : Call) (fine : verdict_of p store 
 pub block_plays : (p : Param) (store : List Float) (c : Call) → Plays p (answered p store c)
 block_plays p store c = go (verdict_of p store c) refl
   where
-    go : (v : Verdict) → verdict_of p store c ≡ v → Plays p (answered p store c)
-    go Verdict.Answered e = answered_plays p store c e
-    go (Verdict.Refused r) e =
+    go : (v : Result Unit Refusal) → verdict_of p store c ≡ v → Plays p (answered p store c)
+    go (Ok _) e = answered_plays p store c e
+    go (Err r) e =
         rw (refused_block p store c r e) (unfold once_answered in record { steps = refl; finished = omega arith; turned = omega arith })
 
 block_balanced : (p : Param) (a : Answer) → Plays p a → Balanced p (block_cost a) a.param

@@ -1,4 +1,6 @@
 -- An exponential is turned at most once, and is none then: those that a walk turned, with those that it left, are no more than waited before it. Assumes nothing.
+use Rattle.std.proofs.Common.{Option, Some, None}
+use Rattle.rules.specs.declared.Finished.{Finished}
 use mathlib.Core.Path.{◌≡◌, refl}
 use mathlib.Core.Bool.{Bool, true, false}
 use mathlib.Core.List.{List, [], ◌∷◌}
@@ -6,10 +8,7 @@ use Prim.Native.Nat.{ℕ, ◌+◌, ◌≤◌}
 use native.Mathlib.Omega.{arith}
 use lib.Ieee as Ieee
 use lib.Ieee.{Float}
-use Rattle.rules.specs.declared.MaybeTime.{MaybeTime}
 use Rattle.rules.specs.declared.Event.{Event}
-use Rattle.rules.specs.declared.Head.{Head}
-use Rattle.rules.specs.declared.LastEvent.{LastEvent}
 use Rattle.rules.specs.declared.BlockInfos.{BlockInfos}
 use Rattle.rules.specs.Samples.{is_ratio, ratio_of}
 use Rattle.rules.specs.Queue.{Waiting, hold_or, events_of, head_of}
@@ -33,7 +32,7 @@ module _ (f : BlockInfos) (m : ℕ) where
   step_turns w v t h = by_cond (Ieee.lt f.next (step_time f t)) (stops (omega arith)) (goes h)
 
   module _ (x : Waiting) where
-    span_turns : (w : Walk) (t v : Float) (e : MaybeTime) (sample : Float → Float) → Stays w x → Turns Stays Goes (span_turn f w x t v e sample)
+    span_turns : (w : Walk) (t v : Float) (e : Option Float) (sample : Float → Float) → Stays w x → Turns Stays Goes (span_turn f w x t v e sample)
     unfolding span_turn fill with_values with_intrinsic consumed
     span_turns w t v e sample h = by_cond (Ieee.le f.next (hold_or e t)) (stops h) (goes (omega arith))
 
@@ -41,12 +40,12 @@ module _ (f : BlockInfos) (m : ℕ) where
     unfolding target_left with_values with_intrinsic exponentials
     left_turns w target v h = by_cond (snaps target v) (stops (omega arith)) (stops h)
 
-    run_turns : (w : Walk) (target : Float) (sample : Float → Float) (e : MaybeTime) → Stays w x → Turns Stays Goes (target_run f w x target sample e)
+    run_turns : (w : Walk) (target : Float) (sample : Float → Float) (e : Option Float) → Stays w x → Turns Stays Goes (target_run f w x target sample e)
     unfolding target_run fill with_values consumed
-    run_turns w target sample MaybeTime.Missing h = left_turns _ target _ h
-    run_turns w target sample (MaybeTime.At end) h = let less : w.turned ≤ m = omega arith in goes less
+    run_turns w target sample None h = left_turns _ target _ h
+    run_turns w target sample (Some end) h = let less : w.turned ≤ m = omega arith in goes less
 
-    turn_of_turns : (n : Head) (e : Event) → x.event ≡ e → (w : Walk) → Stays w x → Turns Stays Goes (turn_of f w x n e)
+    turn_of_turns : (n : Option Event) (e : Event) → x.event ≡ e → (w : Walk) → Stays w x → Turns Stays Goes (turn_of f w x n e)
     unfolding turn_of linear_turn exponential_turn target_turn curve_turn counted with_last with_turned exponentials
     turn_of_turns n (Event.Step v t) is w h = step_turns w v t (omega arith)
     turn_of_turns n (Event.Linear v t e) is w h = span_turns _ t v e _ h
@@ -56,7 +55,7 @@ module _ (f : BlockInfos) (m : ℕ) where
     turn_of_turns n (Event.Target v t c e) is w h = by_cond (Ieee.lt f.next t) (stops h) (run_turns _ v _ _ h)
     turn_of_turns n (Event.Curve s d k e) is w h = by_cond (Ieee.lt f.next s) (stops h) (span_turns w _ _ e _ h)
 
-    turn_turns : (n : Head) (w : Walk) → Stays w x → Turns Stays Goes (turn f w x n)
+    turn_turns : (n : Option Event) (w : Walk) → Stays w x → Turns Stays Goes (turn f w x n)
     unfolding turn counted
     turn_turns n w h = turn_of_turns n x.event refl (counted w) h
 
@@ -83,12 +82,12 @@ module _ (f : BlockInfos) where
 
 -- ---- a block
 
-rendered_turns_as : (b : Bool) (f : BlockInfos) (v : Float) (l : LastEvent) (ws : List Waiting) → Turned f (weigh exponentials (events_of ws)) (rendered_as b f v l ws)
+rendered_turns_as : (b : Bool) (f : BlockInfos) (v : Float) (l : Option Finished) (ws : List Waiting) → Turned f (weigh exponentials (events_of ws)) (rendered_as b f v l ws)
 unfolding rendered_as
 rendered_turns_as true f v l ws = omega arith
 rendered_turns_as false f v l ws = omega (arith, walk_turns f ws (walk_from v l (values_before f.rate v) 0))
 
-pub rendered_turns : (f : BlockInfos) (v : Float) (l : LastEvent) (ws : List Waiting)
+pub rendered_turns : (f : BlockInfos) (v : Float) (l : Option Finished) (ws : List Waiting)
     → (rendered f v l ws).walk.turned + weigh exponentials (events_of (rendered f v l ws).queue) ≤ weigh exponentials (events_of ws)
 unfolding rendered
 rendered_turns f v l ws = rendered_turns_as (rests_for f (head_of ws)) f v l ws

@@ -1,8 +1,8 @@
 -- 02, C-20: "What a session can cost. The firmware lead sizes the processor by heads walked. Take any sequence of calls on a fresh parameter."
-use Rattle.std.specs.Prelude.{◌≡◌, List, [], ◌∷◌, ℕ, ◌+◌, ◌-◌, ◌*◌, ◌≤◌, length, take, Float}
+use Rattle.rules.specs.declared.Refusal.{Refusal}
+use Rattle.std.specs.Prelude.{◌≡◌, List, [], ◌∷◌, ℕ, ◌+◌, ◌-◌, ◌*◌, ◌≤◌, length, take, Float, Result, Ok, Err}
 use Rattle.rules.specs.declared.Bounds.{Bounds}
 use Rattle.rules.specs.declared.AutomationRate.{AutomationRate}
-use Rattle.rules.specs.declared.Verdict.{Verdict}
 use Rattle.rules.specs.Block.{Param, made, Command, set, step, linear, exponential, target, curve, cancel, hold, Called, called, Call, Answer, answered}
 use Rattle.costs.specs.declared.Totals.{Totals}
 
@@ -32,12 +32,12 @@ abbrev pub nothing : Totals
 nothing = record { steps = 0; blocks = 0; stored = 0; finished = 0; cancelled = 0; turned = 0 }
 
 -- "Refused calls count nowhere."
-unfoldable pub once_answered : Verdict → ℕ
-once_answered Verdict.Answered = 1
-once_answered (Verdict.Refused r) = 0
+unfoldable pub once_answered : Result Unit Refusal → ℕ
+once_answered (Ok _) = 1
+once_answered (Err r) = 0
 
 -- a call that schedules: "Events stored"
-unfoldable pub storing : Verdict → Totals
+unfoldable pub storing : Result Unit Refusal → Totals
 storing v = record { steps = 0; blocks = 0; stored = once_answered v; finished = 0; cancelled = 0; turned = 0 }
 
 -- "Events cancelled are counted from the queue before and after each cancel"

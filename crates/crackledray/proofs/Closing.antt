@@ -1,4 +1,5 @@
 -- What a state gives, the call on that, and what is written: the exported call, whatever the call is. Assumes nothing.
+use Rattle.std.proofs.Common.{Result, Ok, Err}
 use mathlib.Core.Path.{◌≡◌, refl, sym, ap, ◌∙◌}
 use mathlib.Core.Bool.{true, false}
 use mathlib.Core.List.{List}
@@ -11,7 +12,6 @@ use borrow.Author.Tests.{eq-eqb, ne_eqb}
 use Rattle.rules.specs.declared.AutomationRate.{AutomationRate}
 use Rattle.rules.specs.declared.Bounds.{Bounds}
 use Rattle.rules.specs.declared.Refusal.{Refusal}
-use Rattle.rules.specs.declared.Verdict.{Verdict}
 use Rattle.rules.specs.Block.{Param, made, Command, Called, called, Call, Answer, answered}
 use Rattle.laws.proofs.Tests.{clash}
 use Rattle.param.specs.declared.AudioParam.{AudioParam}
@@ -30,22 +30,22 @@ use Rattle.crackledray.specs.Exported.{bad_state, number_as, state_after, told, 
 -- ---- numbers
 
 -- 0 is no refusal's number
-zero_answers : (v : Verdict) → number_as v ≡ 0 → v ≡ Verdict.Answered
+zero_answers : (v : Result Unit Refusal) → number_as v ≡ 0 → v ≡ Ok tt
 unfolding number_as
-zero_answers Verdict.Answered h = refl
-zero_answers (Verdict.Refused why) h = absurd (refusal_number why h)
+zero_answers (Ok _) h = refl
+zero_answers (Err why) h = absurd (refusal_number why h)
 
 -- ---- the state of a parameter
 
 module _ {p : AudioParam} {s after : List ℕ} (f : SoundParam p) (long : length s ≡ state_length) (e : Encodes p s after) where
-  pub closes_answered : (v : Verdict) {n : ℕ} → n ≡ number_as v → n ≡ 0 → Closes v (param_of p) s n after
+  pub closes_answered : (v : Result Unit Refusal) {n : ℕ} → n ≡ number_as v → n ≡ 0 → Closes v (param_of p) s n after
   unfolding state_after
   closes_answered v h z = record { number = h; state = rw (zero_answers v (sym h ∙ z)) e.is; reads = λ t. reads_back f long e }
 
-pub closes_refused : (v : Verdict) {n : ℕ} (p : Param) (s : List ℕ) → n ≡ number_as v → (n ≡ 0 → ⊥) → Closes v p s n s
+pub closes_refused : (v : Result Unit Refusal) {n : ℕ} (p : Param) (s : List ℕ) → n ≡ number_as v → (n ≡ 0 → ⊥) → Closes v p s n s
 unfolding number_as state_after
-closes_refused Verdict.Answered p s h z = absurd (z h)
-closes_refused (Verdict.Refused why) p s h z =
+closes_refused (Ok _) p s h z = absurd (z h)
+closes_refused (Err why) p s h z =
     record { number = h; state = refl; reads = λ t. let z : ◌≡◌ {A = ℕ} 0 1 = cc in absurd (omega arith) }
 
 -- ---- the constructor
@@ -70,11 +70,11 @@ begins {s} {after} {b} {rate} {edition} {m} long made-it e h =
 -- ---- a call
 
 module _ {s : List ℕ} {d : Outcome} (x : Decodes s d) where
-  pub tells_bad : {store : List Float} {c : Command} {why : Refusal} → d.verdict ≡ Verdict.Refused why → Tells s store c bad_state s store
+  pub tells_bad : {store : List Float} {c : Command} {why : Refusal} → d.verdict ≡ Err why → Tells s store c bad_state s store
   unfolding told
   tells_bad h = record { says = rw (refused_state x h); reads = λ t. clash t (refused_state x h) }
 
-  module _ {store left : List Float} {c : Command} {r : Outcome} {n : ℕ} {after : List ℕ} (h : d.verdict ≡ Verdict.Answered) (a : Answers d.param store c r left)
+  module _ {store left : List Float} {c : Command} {r : Outcome} {n : ℕ} {after : List ℕ} (h : d.verdict ≡ Ok tt) (a : Answers d.param store c r left)
       (k : Closes r.verdict (param_of r.param) s n after) where
     abbrev answer : Called
     answer = called (param_in s) store c
@@ -91,9 +91,9 @@ module _ {s : List ℕ} {d : Outcome} (x : Decodes s d) where
     state_reads : (is_state after ≡ true) × (param_in after ≡ answer.param)
     state_reads = go r.verdict refl
       where
-        go : (v : Verdict) → r.verdict ≡ v → (is_state after ≡ true) × (param_in after ≡ answer.param)
-        go Verdict.Answered e = let b = k.reads e in (b.0, b.1 ∙ param)
-        go (Verdict.Refused why) e =
+        go : (v : Result Unit Refusal) → r.verdict ≡ v → (is_state after ≡ true) × (param_in after ≡ answer.param)
+        go (Ok _) e = let b = k.reads e in (b.0, b.1 ∙ param)
+        go (Err why) e =
             let same : after ≡ s = k.state ∙ unfold state_after in rw e in
             let kept = (refused_same x.sound a e).0 in
             (rw same (answered_state x h).0, ap param_in same ∙ sym (answered_state x h).1 ∙ ap param_of (sym kept) ∙ param)
@@ -104,11 +104,11 @@ module _ {s : List ℕ} {d : Outcome} (x : Decodes s d) where
 
   -- ---- a block
 
-  pub plays_bad : {store : List Float} {c : Call} {why : Refusal} (before : Played) → d.verdict ≡ Verdict.Refused why → before.state ≡ s → Plays s store c before before
+  pub plays_bad : {store : List Float} {c : Call} {why : Refusal} (before : Played) → d.verdict ≡ Err why → before.state ≡ s → Plays s store c before before
   unfolding played
   plays_bad before h e = record { says = rw (refused_state x h); reads = λ t. clash t (refused_state x h) }
 
-  module _ {store left output : List Float} {c : Call} {r : Processed} {n : ℕ} {after : List ℕ} (before : Played) (h : d.verdict ≡ Verdict.Answered)
+  module _ {store left output : List Float} {c : Call} {r : Processed} {n : ℕ} {after : List ℕ} (before : Played) (h : d.verdict ≡ Ok tt)
       (a : Processes d.param store c r output left) (k : Closes r.verdict (param_of r.param) s n after) where
     abbrev block : Answer
     block = answered (param_in s) store c
@@ -125,9 +125,9 @@ module _ {s : List ℕ} {d : Outcome} (x : Decodes s d) where
     block_reads : (is_state after ≡ true) × (param_in after ≡ block.param)
     block_reads = go r.verdict refl
       where
-        go : (v : Verdict) → r.verdict ≡ v → (is_state after ≡ true) × (param_in after ≡ block.param)
-        go Verdict.Answered e = let b = k.reads e in (b.0, b.1 ∙ block_param)
-        go (Verdict.Refused why) e =
+        go : (v : Result Unit Refusal) → r.verdict ≡ v → (is_state after ≡ true) × (param_in after ≡ block.param)
+        go (Ok _) e = let b = k.reads e in (b.0, b.1 ∙ block_param)
+        go (Err why) e =
             let same : after ≡ s = k.state ∙ unfold state_after in rw e in
             let kept = ap (λ (y : Processed). y.param) (refused_keeps a x.sound e).0 in
             (rw same (answered_state x h).0, ap param_in same ∙ sym (answered_state x h).1 ∙ ap param_of (sym kept) ∙ block_param)

@@ -1,9 +1,9 @@
 -- What the exported calls answer: of a state that passes its test, what document 01's call answers; of any other, a number of its own and no change.
-use Rattle.std.specs.Prelude.{◌≡◌, Bool, true, false, cond, List, ℕ, eqb, length, Float}
+use Rattle.rules.specs.declared.Refusal.{Refusal}
+use Rattle.std.specs.Prelude.{◌≡◌, Bool, true, false, cond, List, ℕ, eqb, length, Float, Result, Ok, Err}
 use Rattle.rules.specs.declared.AutomationRate.{AutomationRate}
 use Rattle.rules.specs.declared.AutomationRate.TheVariants as Rate
 use Rattle.rules.specs.declared.Bounds.{Bounds}
-use Rattle.rules.specs.declared.Verdict.{Verdict}
 use Rattle.rules.specs.Refusals.{number_of, lowest, making_rows}
 use Rattle.rules.specs.Block.{Param, made, Command, Called, called, Call, Answer, answered}
 use Rattle.coding.specs.Coding.{state_length, param_in, is_state, state_of}
@@ -19,9 +19,9 @@ abbrev pub bad_state : ℕ
 bad_state = 100
 
 -- 0, or document 01's number
-unfoldable pub number_as : Verdict → ℕ
-number_as Verdict.Answered = 0
-number_as (Verdict.Refused why) = number_of why
+unfoldable pub number_as : Result Unit Refusal → ℕ
+number_as (Ok _) = 0
+number_as (Err why) = number_of why
 
 -- true is K-rate
 unfoldable pub rate_of : Bool → AutomationRate
@@ -31,9 +31,9 @@ rate_of true = Rate.K
 -- ---- what a call leaves
 
 -- an answered call writes its parameter over the state; a refused one leaves the state as it is
-unfoldable pub state_after : Verdict → Param → List ℕ → List ℕ
-state_after Verdict.Answered p s = state_of p s
-state_after (Verdict.Refused why) p s = s
+unfoldable pub state_after : Result Unit Refusal → Param → List ℕ → List ℕ
+state_after (Ok _) p s = state_of p s
+state_after (Err why) p s = s
 
 -- number, state and store after a call that schedules or cancels
 pub record Told : Type 0 where
@@ -88,7 +88,7 @@ pub record Plays (s : List ℕ) (store : List Float) (c : Call) (before after : 
   pub reads : is_state s ≡ true → (is_state after.state ≡ true) × (param_in after.state ≡ (answered (param_in s) store c).param)
 
 -- what is done with a call's answer: its number is given, and its parameter written
-pub record Closes (v : Verdict) (p : Param) (s : List ℕ) (n : ℕ) (after : List ℕ) : Type 0 where
+pub record Closes (v : Result Unit Refusal) (p : Param) (s : List ℕ) (n : ℕ) (after : List ℕ) : Type 0 where
   pub number : n ≡ number_as v
   pub state : after ≡ state_after v p s
-  pub reads : v ≡ Verdict.Answered → (is_state after ≡ true) × (param_in after ≡ p)
+  pub reads : v ≡ Ok tt → (is_state after ≡ true) × (param_in after ≡ p)

@@ -12,7 +12,7 @@ ghost use Rattle.card_coding.specs.Calls.{bad_card, WritesCard, OpensCard, Hears
 ghost use Rattle.crackledray.specs.Exported.{version, bad_state, rate_of, number_as, Begins, Tells, Plays, Closes};
 
 use param::AudioParam;
-use rules::{AutomationRate, Bounds, Verdict};
+use rules::{AutomationRate, Bounds, Refusal};
 
 const VERSION: u32 = 0x00_0800;
 
@@ -29,17 +29,17 @@ fn rate_of(k_rate: bool) -> AutomationRate
 }
 
 // 0, or document 01's number.
-fn number_of(verdict: Verdict) -> u32
+fn number_of(verdict: Result<(), Refusal>) -> u32
     ensures { result ≡ number_as verdict }
 {
     match verdict {
-        Verdict::Answered => 0,
-        Verdict::Refused(why) => refusals::number_of(why) as u32,
+        Ok(()) => 0,
+        Err(why) => refusals::number_of(why) as u32,
     }
 }
 
 // What a call answers: its number, and its parameter written where it is answered.
-fn close(verdict: Verdict, p: AudioParam, state: &mut [u64]) -> u32
+fn close(verdict: Result<(), Refusal>, p: AudioParam, state: &mut [u64]) -> u32
     requires { SoundParam p × (length state.old ≡ state_length) }
     ensures { Closes verdict (param_of p) state.old result state.new }
 {
@@ -112,7 +112,7 @@ pub extern "C" fn crackledray_set(state: &mut [u64], value: f32) -> u32
 {
     let d = coding::decode(&state[..]);
     let verdict = d.verdict;
-    let Verdict::Answered = verdict else {
+    let Ok(()) = verdict else {
         return BAD_STATE;
     };
     let p = d.param;
@@ -128,7 +128,7 @@ pub extern "C" fn crackledray_step(state: &mut [u64], value: f32, time: f64) -> 
 {
     let d = coding::decode(&state[..]);
     let verdict = d.verdict;
-    let Verdict::Answered = verdict else {
+    let Ok(()) = verdict else {
         return BAD_STATE;
     };
     let p = d.param;
@@ -144,7 +144,7 @@ pub extern "C" fn crackledray_linear(state: &mut [u64], value: f32, time: f64) -
 {
     let d = coding::decode(&state[..]);
     let verdict = d.verdict;
-    let Verdict::Answered = verdict else {
+    let Ok(()) = verdict else {
         return BAD_STATE;
     };
     let p = d.param;
@@ -160,7 +160,7 @@ pub extern "C" fn crackledray_exponential(state: &mut [u64], value: f32, time: f
 {
     let d = coding::decode(&state[..]);
     let verdict = d.verdict;
-    let Verdict::Answered = verdict else {
+    let Ok(()) = verdict else {
         return BAD_STATE;
     };
     let p = d.param;
@@ -176,7 +176,7 @@ pub extern "C" fn crackledray_target(state: &mut [u64], value: f32, time: f64, c
 {
     let d = coding::decode(&state[..]);
     let verdict = d.verdict;
-    let Verdict::Answered = verdict else {
+    let Ok(()) = verdict else {
         return BAD_STATE;
     };
     let p = d.param;
@@ -198,7 +198,7 @@ pub extern "C" fn crackledray_curve(
 {
     let d = coding::decode(&state[..]);
     let verdict = d.verdict;
-    let Verdict::Answered = verdict else {
+    let Ok(()) = verdict else {
         return BAD_STATE;
     };
     let p = d.param;
@@ -214,7 +214,7 @@ pub extern "C" fn crackledray_cancel(state: &mut [u64], time: f64, store: &mut [
 {
     let d = coding::decode(&state[..]);
     let verdict = d.verdict;
-    let Verdict::Answered = verdict else {
+    let Ok(()) = verdict else {
         return BAD_STATE;
     };
     let p = d.param;
@@ -230,7 +230,7 @@ pub extern "C" fn crackledray_hold(state: &mut [u64], time: f64, store: &mut [f3
 {
     let d = coding::decode(&state[..]);
     let verdict = d.verdict;
-    let Verdict::Answered = verdict else {
+    let Ok(()) = verdict else {
         return BAD_STATE;
     };
     let p = d.param;
@@ -260,7 +260,7 @@ pub extern "C" fn crackledray_block(
 {
     let d = coding::decode(&state[..]);
     let verdict = d.verdict;
-    let Verdict::Answered = verdict else {
+    let Ok(()) = verdict else {
         return BAD_STATE;
     };
     let p = d.param;

@@ -1,7 +1,6 @@
 -- The part of a curve store that is one parameter's, and what a call leaves of it and of the queue.
-use Rattle.std.specs.Prelude.{◌≡◌, List, ◌++◌, ℕ, ◌-◌, length, drop, replicate, Float}
+use Rattle.std.specs.Prelude.{◌≡◌, List, ◌++◌, ℕ, ◌-◌, length, drop, replicate, Float, None}
 use Rattle.std.proofs.Math.Seq.{paste}
-use Rattle.rules.specs.declared.MaybeTime.TheVariants as MaybeTime
 use Rattle.rules.specs.declared.Event.TheVariants as Event
 use Rattle.rules.specs.Numbers.{plus_zero}
 use Rattle.rules.specs.Queue.{Waiting, events_of, numbers_of}
@@ -23,4 +22,4 @@ pub record Leaves (q : AudioParamEventTimeline) (before after : List Float) (ws 
 
 -- a new curve with its numbers
 abbrev pub curve_of : Float → Float → List Float → Waiting
-curve_of start duration xs = record { event = Event.Curve start duration (length xs) MaybeTime.Missing; numbers = xs }
+curve_of start duration xs = record { event = Event.Curve start duration (length xs) None; numbers = xs }

@@ -8,7 +8,7 @@ ghost use Rattle.rules.specs.Queue.{lengths_of, attached, those, inserted, cance
 ghost use Rattle.timeline.specs.Timeline.{Neat, waiting, is_kept};
 ghost use Rattle.curves.specs.Curves.{packed_in, Leaves, curve_of};
 
-use rules::{Event, MaybeTime};
+use rules::Event;
 use timeline::AudioParamEventTimeline;
 
 pub fn write(part: &mut [f32], at: usize, values: &[f32])
@@ -62,7 +62,7 @@ pub fn insert(
     part.copy_within(at..used, at + len);
     write(part, at, values);
     zero_behind(part, used + len);
-    let hold = MaybeTime::Missing;
+    let hold = None;
     q.put_at(
         place,
         Event::Curve {

@@ -1,5 +1,6 @@
 -- Any list of results, each of which meets the contract for what the one before left, is what the rules schedule and play; so demand 3 is the code's, and
 -- that no event lies inside a curve before the first block. Assumes nothing.
+use Rattle.std.proofs.Common.{Ok}
 use mathlib.Core.Path.{◌≡◌, refl, sym, ap, ◌∙◌}
 use mathlib.Core.Bool.{Bool, true, false}
 use mathlib.Core.List.{List, [], map}
@@ -8,7 +9,6 @@ use lib.ListN.{length, take, drop}
 use lib.Ieee.{Float}
 use Rattle.rules.specs.declared.Bounds.{Bounds}
 use Rattle.rules.specs.declared.AutomationRate.{AutomationRate}
-use Rattle.rules.specs.declared.Verdict.TheVariants as Verdict
 use Rattle.rules.specs.Numbers.{store_length}
 use Rattle.rules.specs.Block.{Param, Call, Command, set, step, linear, exponential, target, curve, cancel, hold, called, made}
 use Rattle.laws.specs.Apart.{are_apart}
@@ -28,8 +28,8 @@ use Rattle.playing.proofs.Results.{results_scheduled, results_played, results_th
 use Rattle.demands.specs.Run.{Held, state_of, Done, left_by_done, called_by, is_lent, DoneAs, MeetsCall, Block, left_by_block, answer_by, MeetsBlock}
 
 -- what the contracts require of what is passed on
-abbrev pub Ok : Held → Type 0
-Ok h = SoundParam h.param
+abbrev pub Fine : Held → Type 0
+Fine h = SoundParam h.param
 
 pub back : {p : AudioParam} {q : Param} → p ≡ struct_of q → param_of p ≡ q
 back {p} {q} e = ap param_of e ∙ struct_back q
@@ -49,31 +49,31 @@ unlent_call p store (curve t d xs) h = never (sym h)
 unlent_call p store (cancel c) h = never (sym h)
 unlent_call p store (hold c) h = never (sym h)
 
-settled_as : (b : Bool) (h : Held) (c : Command) (r : Done) → is_lent c ≡ b → DoneAs b h c r → (called_by r ≡ asked (state_of h) c) × Ok (left_by_done r)
+settled_as : (b : Bool) (h : Held) (c : Command) (r : Done) → is_lent c ≡ b → DoneAs b h c r → (called_by r ≡ asked (state_of h) c) × Fine (left_by_done r)
 unfolding asked
 settled_as true h c r e a = (rw (a.verdict, back a.param, a.left), a.sound)
 settled_as false h c r e (a, kept) =
     (rw (unlent_call (param_of h.param) h.store c e, a.verdict, back a.param, kept), a.sound)
 
-pub call_settled : (h : Held) (c : Command) (r : Done) → Ok h → MeetsCall h c r → (called_by r ≡ asked (state_of h) c) × Ok (left_by_done r)
+pub call_settled : (h : Held) (c : Command) (r : Done) → Fine h → MeetsCall h c r → (called_by r ≡ asked (state_of h) c) × Fine (left_by_done r)
 call_settled h c r ok m = settled_as (is_lent c) h c r refl m
 
 -- ---- blocks
 
-pub block_settled : (h : Held) (c : Call) (r : Block) → Ok h → MeetsBlock h c r → (answer_by r ≡ answer_to (state_of h) c) × Ok (left_by_block r)
+pub block_settled : (h : Held) (c : Call) (r : Block) → Fine h → MeetsBlock h c r → (answer_by r ≡ answer_to (state_of h) c) × Fine (left_by_block r)
 unfolding answer_to
 block_settled h c r ok m =
     let a = m.contract in
     (rw (a.verdict, back a.param, a.left, a.written, a.steps, a.current, a.one, m.finished, m.turned), a.sound)
 
 -- the results of blocks are what the rules play
-pub code_plays : {h : Held} {cs : List Call} {rs : List Block} → Ok h → Results left_by_block MeetsBlock h cs rs → map answer_by rs ≡ played (state_of h) cs
-code_plays ok = results_played state_of left_by_block Ok answer_by MeetsBlock (λ r. refl) block_settled ok
+pub code_plays : {h : Held} {cs : List Call} {rs : List Block} → Fine h → Results left_by_block MeetsBlock h cs rs → map answer_by rs ≡ played (state_of h) cs
+code_plays ok = results_played state_of left_by_block Fine answer_by MeetsBlock (λ r. refl) block_settled ok
 
 -- the results of calls leave what the rules schedule
-pub code_schedules : {h : Held} {cs : List Command} {rs : List Done} → Ok h → Results left_by_done MeetsCall h cs rs
-    → (state_of (last_left left_by_done h rs) ≡ scheduled (state_of h) cs) × Ok (last_left left_by_done h rs)
-code_schedules ok = results_scheduled state_of left_by_done Ok called_by MeetsCall (λ r. refl) call_settled ok
+pub code_schedules : {h : Held} {cs : List Command} {rs : List Done} → Fine h → Results left_by_done MeetsCall h cs rs
+    → (state_of (last_left left_by_done h rs) ≡ scheduled (state_of h) cs) × Fine (last_left left_by_done h rs)
+code_schedules ok = results_scheduled state_of left_by_done Fine called_by MeetsCall (λ r. refl) call_settled ok
 
 -- a parameter just made is the rules' one
 code_begins : {b : Bounds} {rate : AutomationRate} {n : ℕ} {o : Outcome} → Makes b rate n o → (store : List Float)
@@ -127,20 +127,20 @@ module _ (b : Bounds) (rate : AutomationRate) (n : ℕ) (one other : List Float)
       (r : Outcome) → Restores (resumed_param m cs) r → (store : List Float) → Holds (waiting (resumed m (state_of x) (state_of y) cs)) store
       → (rs us vs : List Block) → Results left_by_block MeetsBlock x all rs → Results left_by_block MeetsBlock y all us
       → Results left_by_block MeetsBlock (record { param = r.param; store = store }) (drop (length cs) all) vs
-      → (r ≡ record { verdict = Verdict.Answered; param = resumed_param m cs })
+      → (r ≡ record { verdict = (Ok tt); param = resumed_param m cs })
       × (map apart (take (length cs) (map answer_by rs)) ≡ map apart (take (length cs) (map answer_by us)))
       × (map told (drop (length cs) (map answer_by us)) ≡ map told (map answer_by vs))
   demand_3_of_code m agree all r restores store holds rs us vs rx ry rz =
       let cs : List Call = while_two_wait (behind m (state_of x)) (state_of x) all in
       let same : PlayedTheSame m (state_of x) (state_of y) all cs = code_plays_the_same m agree all in
       let ok : SoundParam (resumed_param m cs) = struct_sound (resumed m (state_of x) (state_of y) cs).param same.sound in
-      let gives : r ≡ record { verdict = Verdict.Answered; param = resumed_param m cs } = restores_own ok restores in
+      let gives : r ≡ record { verdict = (Ok tt); param = resumed_param m cs } = restores_own ok restores in
       let is : r.param ≡ resumed_param m cs = ap (λ (o : Outcome). o.param) gives in
       let heard =
       results_the_same
       state_of
       left_by_block
-      Ok
+      Fine
       answer_by
       MeetsBlock
       (λ r. refl)

@@ -1,4 +1,5 @@
 -- From what the parameter's block ensures to what a session's block ensures. Assumes nothing.
+use Rattle.std.proofs.Common.{Result, Ok, Err}
 use mathlib.Core.Path.{◌≡◌, sym, ap, ◌∙◌, subst}
 use mathlib.Core.Bool.{Bool}
 use mathlib.Core.List.{List, ◌++◌}
@@ -9,7 +10,6 @@ use lib.ListN.{length, take, drop, replicate, length-replicate, replicate-append
 use lib.Seq.{take_at, length-take-le}
 use lib.Ieee.{Float, binary32, of_bits}
 use Rattle.rules.specs.declared.Refusal.{Refusal}
-use Rattle.rules.specs.declared.Verdict.{Verdict}
 use Rattle.rules.specs.Block as rule
 use Rattle.rules.specs.Block.{Param, answered}
 use Rattle.laws.proofs.Rows.{ceiling_most}
@@ -34,13 +34,13 @@ use Rattle.desk.specs.Desk.{desk_of, after_block, SoundDesk, Spoken, block_line,
 
 -- ---- its text
 
-module _ {v : Verdict} (count steps : ℕ) (current : Float) (one : Bool) (output : List Float) {rest : Bool} where
-  pub answered_line : v ≡ Verdict.Answered → rest ≡ are_marks (drop count output)
+module _ {v : Result Unit Refusal} (count steps : ℕ) (current : Float) (one : Bool) (output : List Float) {rest : Bool} where
+  pub answered_line : v ≡ Ok tt → rest ≡ are_marks (drop count output)
       → block_text steps current one ++ (list_text 32 32 (take count output) ++ rest_text rest) ≡ block_line v count steps current one output
   unfolding block_line
   answered_line h e = rw (h, e)
 
-  pub refused_line : {why : Refusal} → v ≡ Verdict.Refused why → rest ≡ are_marks (drop 0 output) → verdict_text v ++ rest_text rest ≡ block_line v count steps current one output
+  pub refused_line : {why : Refusal} → v ≡ Err why → rest ≡ are_marks (drop 0 output) → verdict_text v ++ rest_text rest ≡ block_line v count steps current one output
   unfolding block_line
   refused_line h e = rw (h, e)
 
@@ -58,7 +58,7 @@ module _ (time period : Float) (count : ℕ) (input output : List Float) (d : De
   asks = record { time = time; period = period; count = count; input = input; output = output }
 
   -- where it is answered, its samples are no more than 1,024, under either edition, and the output holds them
-  pub block_fits : r.verdict ≡ Verdict.Answered → (count ≤ 1024) × (count ≤ length output')
+  pub block_fits : r.verdict ≡ Ok tt → (count ≤ 1024) × (count ≤ length output')
   block_fits h =
       let g = given (param_of d.param) (take d.lent s) asks (sym (verdict_is a) ∙ h) in
       (le_trans g.few (ceiling_most d.param.edition), rw (length-kept a h) g.room)

@@ -1,4 +1,6 @@
 -- What a desk keeps are the totals of a session of calls on a parameter just made that left its parameter, so that C-20's sums hold of them. Assumes nothing.
+use Rattle.card.specs.declared.Fault.{Fault}
+use Rattle.std.proofs.Common.{Ok, Result, Err}
 use mathlib.Core.Path.{◌≡◌, refl, sym, ap, ◌∙◌}
 use mathlib.Core.Bool.{Bool, true, false, cond}
 use mathlib.Core.List.{List, [], ◌∷◌, ◌++◌}
@@ -20,7 +22,6 @@ use Rattle.costs.proofs.Costs.{one_more_left, one_more_costs, session_sums}
 use Rattle.tally.specs.Tally.{largest, capped, kept}
 use Rattle.tally.proofs.Kept.{kept-plus, kept_sums}
 use Rattle.rules.specs.Numbers.{store_length}
-use Rattle.card.specs.declared.CardVerdict.{CardVerdict}
 use Rattle.card.specs.Card.{Reader, read, Loaded, loaded, loaded_as, bad_store}
 use Rattle.desk.specs.Desk.{Table, unread, making, asked, lending, poking, playing, marks, stating, saving, loaded_turn, loading_by, loading, answer_of, said_turn, table_of, unmade_desk}
 use Rattle.param.proofs.Calls.{struct_back}
@@ -75,7 +76,7 @@ unfolding making left_by_all totals
 making_counts b r n t = record { bounds = b; rate = r; edition = n; calls = []; param = refl; totals = unfold kept capped in refl }
 
 -- what a reader's end gives, by whether the store is lent and by its verdict
-abbrev given_by : Reader → Table → Bool → CardVerdict → Loaded
+abbrev given_by : Reader → Table → Bool → Result Unit Fault → Loaded
 given_by r t b v =
     cond b (loaded_as v r t.param (take store_length t.store)) (record { says = bad_store; param = t.param; store = take store_length t.store })
 
@@ -84,8 +85,8 @@ loading_counts : (r : Reader) (t : Table) → Counts t → Scheduled r.param →
 unfolding loading_by loaded_turn loaded loaded_as
 loading_counts r t k Made-so = go (eqb (length (take store_length t.store)) store_length) r.verdict
   where
-    go : (b : Bool) (v : CardVerdict) → Counts (loaded_turn (given_by r t b v).says.verdict (given_by r t b v) t).table
-    go true CardVerdict.Answered =
+    go : (b : Bool) (v : Result Unit Fault) → Counts (loaded_turn (given_by r t b v).says.verdict (given_by r t b v) t).table
+    go true (Ok _) =
         record {
           bounds = Made-so.bounds;
           rate = Made-so.rate;
@@ -94,7 +95,7 @@ loading_counts r t k Made-so = go (eqb (length (take store_length t.store)) stor
           param = Made-so.param;
           totals = ap kept (sym Made-so.totals);
         }
-    go true (CardVerdict.Refused f) = k
+    go true (Err f) = k
     go false v = k
 
 -- ---- every line

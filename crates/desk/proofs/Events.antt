@@ -1,4 +1,6 @@
 -- The events of a schedule file are calls on a parameter just made, each of which stored one: so that what a load counts is what they cost. Assumes nothing.
+use Rattle.std.proofs.Common.{Result, Ok, Err}
+use Rattle.rules.specs.declared.Refusal.{Refusal}
 use mathlib.Core.Path.{◌≡◌, refl, sym, ap, ◌∙◌, subst}
 use mathlib.Core.Bool.{Bool, true, false, cond, not, ◌&&◌}
 use mathlib.Core.List.{List, [], ◌∷◌, ◌++◌}
@@ -10,7 +12,6 @@ use lib.Ieee.{Float}
 use Rattle.rules.specs.declared.Bounds.{Bounds}
 use Rattle.rules.specs.declared.AutomationRate.{AutomationRate}
 use Rattle.rules.specs.declared.AutomationRate.TheVariants as Rate
-use Rattle.rules.specs.declared.Verdict.{Verdict}
 use Rattle.rules.specs.Refusals.{lowest, making_rows}
 use Rattle.rules.specs.Block.{Param, made, step, linear, exponential, target, curve, Called, called}
 use Rattle.laws.specs.Sound.{Sound}
@@ -62,7 +63,7 @@ event_costs bs p r = go (eqb (tag_of bs) 1) (eqb (tag_of bs) 2) (eqb (tag_of bs)
     go false false false true = refl
     go false false false false = refl
 
-module _ (bs : List ℕ) (p : Param) (store : List Float) (k : Scheduled p) (e : (called p store (event_in bs)).verdict ≡ Verdict.Answered) where
+module _ (bs : List ℕ) (p : Param) (store : List Float) (k : Scheduled p) (e : (called p store (event_in bs)).verdict ≡ Ok tt) where
   abbrev after : Param
   after = (called p store (event_in bs)).param
 
@@ -99,20 +100,20 @@ module _ (bs : List ℕ) (p : Param) (store : List Float) (k : Scheduled p) (e :
 -- ---- a field, the fields of a part, the file
 
 module _ (bs : List ℕ) (r : Reader) (k : Scheduled r.param) where
-  range_scheduled : (v : Verdict) → Scheduled (ranged_as v bs r).param
+  range_scheduled : (v : Result Unit Refusal) → Scheduled (ranged_as v bs r).param
   unfolding ranged_as
-  range_scheduled Verdict.Answered = just_made (bounds_in bs) r.rate r.edition refl
-  range_scheduled (Verdict.Refused why) = k
+  range_scheduled (Ok _) = just_made (bounds_in bs) r.rate r.edition refl
+  range_scheduled (Err why) = k
 
   event_scheduled : Scheduled (event_turn (event_in bs) bs r).param
   unfolding event_turn taken_as
   event_scheduled = go (is_out_of_turn r.before (event_in bs)) (called r.param r.store (event_in bs)).verdict refl
     where
-      go : (o : Bool) (v : Verdict) → (called r.param r.store (event_in bs)).verdict ≡ v
+      go : (o : Bool) (v : Result Unit Refusal) → (called r.param r.store (event_in bs)).verdict ≡ v
           → Scheduled (cond o (refused_by Fault.OutOfTurn r) (taken_as v (called r.param r.store (event_in bs)) (time_of (event_in bs)) bs r)).param
       go true v e = k
-      go false Verdict.Answered e = one_event_more bs r.param r.store k e
-      go false (Verdict.Refused why) e = k
+      go false (Ok _) e = one_event_more bs r.param r.store k e
+      go false (Err why) e = k
 
   contents_scheduled : Scheduled (contents_turn bs r).param
   unfolding contents_turn

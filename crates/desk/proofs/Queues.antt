@@ -1,4 +1,6 @@
 -- The waiting events printed one after the other, with their numbers: the text, and the room that it takes. Assumes nothing.
+use Rattle.std.proofs.Common.{Option, Some, None}
+use Rattle.rules.specs.declared.Finished.{Finished}
 use mathlib.Core.Path.{◌≡◌, refl, sym, ap, ◌∙◌}
 use mathlib.Core.List.{List, [], ◌∷◌, ◌++◌}
 use Prim.Native.Nat.{ℕ, ◌+◌, ◌-◌, ◌*◌, ◌≤◌, ◌<◌}
@@ -11,11 +13,8 @@ use mathlib.Core.Bool.{Bool}
 use Rattle.rules.specs.declared.AutomationRate.{AutomationRate}
 use Rattle.rules.specs.declared.Edition.{Edition}
 use Rattle.rules.specs.declared.Bounds.{Bounds}
-use Rattle.rules.specs.declared.LastEvent.{LastEvent}
-use Rattle.rules.specs.declared.MaybeTime.{MaybeTime}
 use Rattle.rules.specs.Block.{Param}
 use Rattle.rules.specs.declared.Event.{Event}
-use Rattle.rules.specs.declared.Head.{Head}
 use Rattle.rules.specs.Queue.{length_of, lengths_of}
 use Rattle.laws.proofs.Events.{lengths_append, lengths_split}
 use Rattle.timeline.specs.Timeline.{first_of}
@@ -24,12 +23,12 @@ use Rattle.desk.specs.Desk.{waiting_text, queue_text, state_line, first_text, wa
 
 -- ---- the first of some events
 
-first_of_lem : (r : List Event) {e : Event} → Head.Event e ≡ first_of r → (lengths_of (take 1 r) ≡ length_of e) × ((s : List Float) → first_text r s ≡ waiting_text e s)
+first_of_lem : (r : List Event) {e : Event} → Some e ≡ first_of r → (lengths_of (take 1 r) ≡ length_of e) × ((s : List Float) → first_text r s ≡ waiting_text e s)
 unfolding first_of lengths_of first_text
 first_of_lem [] h = let z : ◌≡◌ {A = ℕ} 0 1 = cc in absurd (omega arith)
 first_of_lem (x ∷ xs) {e} h = let same : x ≡ e = cc in (rw (add-zero (length_of x), same), λ s. rw same)
 
-pub first_none : (r : List Event) (s : List Float) → Head.Empty ≡ first_of r → first_text r s ≡ []
+pub first_none : (r : List Event) (s : List Float) → None ≡ first_of r → first_text r s ≡ []
 unfolding first_of first_text
 first_none [] s h = refl
 first_none (x ∷ xs) s h = let z : ◌≡◌ {A = ℕ} 0 1 = cc in absurd (omega arith)
@@ -46,7 +45,7 @@ module _ (q : List Event) (i : ℕ) where
   its_room : lengths_of (take i q) + lengths_of (take 1 (drop i q)) ≤ lengths_of q
   its_room = omega (arith, lengths_split i q, lengths_split 1 (drop i q))
 
-  module _ (s : List Float) (e : Event) (from len : ℕ) (there : Head.Event e ≡ first_of (drop i q)) (f : from ≡ lengths_of (take i q)) (n : len ≡ length_of e) where
+  module _ (s : List Float) (e : Event) (from len : ℕ) (there : Some e ≡ first_of (drop i q)) (f : from ≡ lengths_of (take i q)) (n : len ≡ length_of e) where
     own : lengths_of (take 1 (drop i q)) ≡ len
     own = (first_of_lem (drop i q) there).0 ∙ sym n
 
@@ -95,7 +94,7 @@ all_width q few room = omega arith
 
 -- ---- the state, as its parts were asked for
 
-pub state_line_lem : (p : Param) (s : List Float) {rate : AutomationRate} {e : Edition} {b : Bounds} {v : Float} {block end : MaybeTime} {last : LastEvent} {n from : ℕ} {zeros : Bool}
+pub state_line_lem : (p : Param) (s : List Float) {rate : AutomationRate} {e : Edition} {b : Bounds} {v : Float} {block end : Option Float} {last : Option Finished} {n from : ℕ} {zeros : Bool}
     → rate ≡ p.rate → e ≡ p.edition → b ≡ p.bounds → v ≡ p.intrinsic → block ≡ p.last_block → end ≡ p.last_end → last ≡ p.last → n ≡ length p.queue → from ≡ lengths_of (take n p.queue) → zeros ≡ are_zeros (drop from (take 4096 s))
     → state_text rate e b v block end last n ++ (queue_text p.queue s ++ zeros_text zeros) ≡ state_line p s
 unfolding state_line

@@ -1,4 +1,5 @@
 -- A schedule file written and read: from what the writer and the reader ensure to what a session's calls ensure. Assumes nothing.
+use Rattle.std.proofs.Common.{Ok, Result, Err}
 use mathlib.Core.Path.{◌≡◌, refl, sym, ap, ◌∙◌, subst}
 use mathlib.Core.Bool.{Bool, true, false, cond, ◌&&◌}
 use mathlib.Core.List.{List, [], ◌∷◌, ◌++◌, append-nil}
@@ -26,7 +27,6 @@ use Rattle.param.specs.declared.AudioParam.{AudioParam}
 use Rattle.param.specs.Param.{param_of, struct_of, SoundParam}
 use Rattle.param.proofs.Calls.{whole, struct_back}
 use Rattle.card.specs.declared.Fault.{Fault}
-use Rattle.card.specs.declared.CardVerdict.{CardVerdict}
 use Rattle.card.specs.declared.Judged.{Judged}
 use Rattle.card.specs.Card as card
 use Rattle.card.specs.Card.{fault_number, is_accepted, has_head, is_whole, Reader, Reading, begun, fed, taken, at_end, loaded_as, file_of, judged, written_to, saved_as, Saved}
@@ -52,23 +52,23 @@ file_of_param p store = file_of (param_of p).bounds (attached (param_of p).queue
 abbrev pub Prints : AudioParam → List Float → Judged → List ℕ → Judged → Type 0
 Prints p store r after j =
     (saved_line r (take r.at after) ≡ saved_line j (file_of_param p store))
-    × (r.verdict ≡ CardVerdict.Answered → (r.at ≤ length after) × (r.at ≤ 17867))
+    × (r.verdict ≡ Ok tt → (r.at ≤ length after) × (r.at ≤ 17867))
 
 module _ (p : AudioParam) (store : List Float) (out : List ℕ) {r : Judged} {after : List ℕ} where
-  by_verdict : (j : Judged) (v : CardVerdict) → length (file_of_param p store) ≤ 17867 → 17867 ≤ length out → j.verdict ≡ v
+  by_verdict : (j : Judged) (v : Result Unit Fault) → length (file_of_param p store) ≤ 17867 → 17867 ≤ length out → j.verdict ≡ v
       → record { says = r; out = after } ≡ saved_as j out (file_of_param p store) → Prints p store r after j
   unfolding saved_as is_accepted written_to file_line
-  by_verdict j CardVerdict.Answered bound room h e =
+  by_verdict j (Ok _) bound room h e =
       let file : List ℕ = file_of_param p store in
       let fits : length file ≤ length out = omega (arith, bound, room) in
-      let wrote : ◌≡◌ {A = Saved} (record { says = r; out = after }) (record { says = record { verdict = CardVerdict.Answered; at = length file }; out = file ++ drop (length file) out }) = rw (h, le-leb (length file) (length out) fits) at e in
-      let said : r ≡ record { verdict = CardVerdict.Answered; at = length file } = ap (λ (s : Saved). s.says) wrote in
+      let wrote : ◌≡◌ {A = Saved} (record { says = r; out = after }) (record { says = record { verdict = Ok tt; at = length file }; out = file ++ drop (length file) out }) = rw (h, le-leb (length file) (length out) fits) at e in
+      let said : r ≡ record { verdict = (Ok tt); at = length file } = ap (λ (s : Saved). s.says) wrote in
       let left : after ≡ file ++ drop (length file) out = ap (λ (s : Saved). s.out) wrote in
       let at : r.at ≡ length file = ap (λ (x : Judged). x.at) said in (
         rw (said, left, h) (ap saved_text (take_at file (drop (length file) out) (length file) refl)),
         λ answered. (omega (arith, at, ap length left, length-append file (drop (length file) out)), omega (arith, at, bound)),
       )
-  by_verdict j (CardVerdict.Refused f) bound room h e =
+  by_verdict j (Err f) bound room h e =
       let kept : ◌≡◌ {A = Saved} (record { says = r; out = after }) (record { says = j; out = out }) =
       e ∙ ap (λ (b : Bool). cond b (written_to out (file_of_param p store)) (record { says = j; out = out })) (ap is_accepted h)
       in
@@ -125,14 +125,14 @@ unfolding plus command_seen
 all_stored n = let none : 0 - n ≡ 0 = omega arith in rw (none, sub-zero n, zero-add n)
 
 -- a refused one leaves the caller's
-kept_as_was : (r : Reader) (p : Param) (store : List Float) {f : Fault} → (card.loaded r p store).says.verdict ≡ CardVerdict.Refused f → (card.loaded r p store).store ≡ store
+kept_as_was : (r : Reader) (p : Param) (store : List Float) {f : Fault} → (card.loaded r p store).says.verdict ≡ Err f → (card.loaded r p store).store ≡ store
 unfolding card.loaded loaded_as
 kept_as_was r p store {f} e = go (eqb (length store) store_length) r.verdict e
   where
-    go : (b : Bool) (v : CardVerdict) → (cond b (loaded_as v r p store) (record { says = card.bad_store; param = p; store = store })).says.verdict ≡ CardVerdict.Refused f
+    go : (b : Bool) (v : Result Unit Fault) → (cond b (loaded_as v r p store) (record { says = card.bad_store; param = p; store = store })).says.verdict ≡ Err f
         → (cond b (loaded_as v r p store) (record { says = card.bad_store; param = p; store = store })).store ≡ store
-    go true CardVerdict.Answered e = absurd (let z : ◌≡◌ {A = ℕ} 0 1 = cc in omega arith)
-    go true (CardVerdict.Refused g) e = refl
+    go true (Ok _) e = absurd (let z : ◌≡◌ {A = ℕ} 0 1 = cc in omega arith)
+    go true (Err g) e = refl
     go false v e = refl
 
 -- the numbers behind the first 4,096 are cleared
@@ -165,14 +165,14 @@ module _ (s : Reading) (d : Desk) (store : List Float) {r : Loaded} {after : Lis
   abbrev given : card.Loaded
   given = card.loaded (at_end s) (param_of d.param) (take store_length store)
 
-  turn_is : {v : CardVerdict} → given.says.verdict ≡ v → loading_by (at_end s) (table_of d store) ≡ loaded_turn v given (table_of d store)
+  turn_is : {v : Result Unit Fault} → given.says.verdict ≡ v → loading_by (at_end s) (table_of d store) ≡ loaded_turn v given (table_of d store)
   unfolding loading_by
-  turn_is e = ap (λ (v : CardVerdict). loaded_turn v given (table_of d store)) e
+  turn_is e = ap (λ (v : Result Unit Fault). loaded_turn v given (table_of d store)) e
 
-  verdict_is : {v : CardVerdict} → r.says.verdict ≡ v → given.says.verdict ≡ v
+  verdict_is : {v : Result Unit Fault} → r.says.verdict ≡ v → given.says.verdict ≡ v
   verdict_is h = ap (λ (j : Judged). j.verdict) (sym a.says) ∙ h
 
-  pub answered_load : {l : List ℕ} {at n : ℕ} {t : Answered} {totals : Totals} {s' : List Float} {l' : List ℕ} → r.says.verdict ≡ CardVerdict.Answered
+  pub answered_load : {l : List ℕ} {at n : ℕ} {t : Answered} {totals : Totals} {s' : List Float} {l' : List ℕ} → r.says.verdict ≡ Ok tt
       → t.desk ≡ desk_of r.param 4096 totals → totals ≡ kept (plus nothing (command_seen 0 n)) → n ≡ waiting_in (param_of r.param)
       → s' ≡ after ++ replicate 4096 plus_zero → Put l at (111 ∷ 107 ∷ []) l' t.next → Spoken 41999 (loading_by (at_end s)) d store l at t s' l'
   unfolding loaded_turn verdict_text
@@ -190,7 +190,7 @@ module _ (s : Reading) (d : Desk) (store : List Float) {r : Loaded} {after : Lis
         room = omega (arith, p.place);
       })
 
-  pub refused_load : {f : Fault} {l : List ℕ} {at number : ℕ} {t : Answered} {s' : List Float} {l' : List ℕ} → r.says.verdict ≡ CardVerdict.Refused f
+  pub refused_load : {f : Fault} {l : List ℕ} {at number : ℕ} {t : Answered} {s' : List Float} {l' : List ℕ} → r.says.verdict ≡ Err f
       → t.desk ≡ d → number ≡ fault_number f → s' ≡ after ++ drop store_length store → Put l at (fault_text number r.says.at) l' t.next → t.next ≤ at + 49
       → Spoken 41999 (loading_by (at_end s)) d store l at t s' l'
   unfolding loaded_turn

@@ -1,12 +1,13 @@
 -- What the calls of a session do, and what is answered: the page's table over document 01's rules.
-use Rattle.std.specs.Prelude.{◌≡◌, Bool, true, false, List, [], ◌∷◌, ◌++◌, ℕ, ◌+◌, ◌*◌, ◌≤◌, ◌<◌, length, take, drop, set, replicate, Float}
+use Rattle.card.specs.declared.Fault.{Fault}
+use Rattle.rules.specs.declared.Refusal.{Refusal}
+use Rattle.std.specs.Prelude.{◌≡◌, Bool, true, false, List, [], ◌∷◌, ◌++◌, ℕ, ◌+◌, ◌*◌, ◌≤◌, ◌<◌, length, take, drop, set, replicate, Float, Result, Ok, Err}
 use Rattle.std.proofs.Math.Option.{Option, none, some}
 use Rattle.std.specs.Float.{binary32}
 use Rattle.std.specs.Float.Ieee.{of_bits}
 use Rattle.rules.specs.declared.Bounds.{Bounds}
 use Rattle.rules.specs.declared.AutomationRate.{AutomationRate}
 use Rattle.rules.specs.declared.Event.{Event}
-use Rattle.rules.specs.declared.Verdict.{Verdict}
 use Rattle.rules.specs.Numbers.{plus_zero, store_length}
 use Rattle.rules.specs.Queue.{attached, length_of, lengths_of}
 use Rattle.rules.specs.Refusals.{lowest, making_rows}
@@ -24,7 +25,6 @@ use Rattle.param.specs.declared.AudioParam.{AudioParam}
 use Rattle.param.specs.declared.Outcome.{Outcome}
 use Rattle.param.specs.declared.Processed.{Processed}
 use Rattle.param.specs.Param.{param_of, struct_of, nothing_made, SoundParam}
-use Rattle.card.specs.declared.CardVerdict.{CardVerdict}
 use Rattle.card.specs.declared.Judged.{Judged}
 use Rattle.card.specs.Card.{fault_number, Reader, begun, fed, read, Loaded, loaded, file_of, judged}
 use Rattle.card_reader.specs.declared.CardReader.{CardReader}
@@ -87,7 +87,7 @@ unfoldable pub lending : ℕ → Table → Turn
 lending n t =
     record {
       table = record { param = t.param; lent = n; store = t.store; totals = t.totals };
-      text = verdict_text Verdict.Answered;
+      text = verdict_text (Ok tt);
     }
 
 -- "put V at place I of that array"
@@ -95,16 +95,16 @@ unfoldable pub poking : ℕ → Float → Table → Turn
 poking i v t =
     record {
       table = record { param = t.param; lent = t.lent; store = set t.store i v; totals = t.totals };
-      text = verdict_text Verdict.Answered;
+      text = verdict_text (Ok tt);
     }
 
 -- ---- the block
 
 -- `block STEPS CURRENT ONE S1 .. SCOUNT REST`; or `refused NUMBER REST`, "REST being over the whole output"
-unfoldable pub block_line : Verdict → ℕ → ℕ → Float → Bool → List Float → List ℕ
-block_line Verdict.Answered count steps current one output =
+unfoldable pub block_line : Result Unit Refusal → ℕ → ℕ → Float → Bool → List Float → List ℕ
+block_line (Ok _) count steps current one output =
     block_text steps current one ++ (list_text 32 32 (take count output) ++ rest_text (are_marks (drop count output)))
-block_line (Verdict.Refused why) count steps current one output = verdict_text (Verdict.Refused why) ++ rest_text (are_marks output)
+block_line (Err why) count steps current one output = verdict_text (Err why) ++ rest_text (are_marks output)
 
 -- a block with this output lent, by either renderer; the numbers of the store behind those that are lent stay
 unfoldable pub playing : Float → Float → ℕ → List Float → List Float → Table → Turn
@@ -148,9 +148,9 @@ stating t = unchanged (state_line t.param t.store) t
 -- ---- a schedule file (02, C-11)
 
 -- "`saved HEX`, or `refused 24 PLACE`"
-unfoldable pub file_line : CardVerdict → ℕ → List ℕ → List ℕ
-file_line CardVerdict.Answered place file = saved_text file
-file_line (CardVerdict.Refused f) place file = fault_text (fault_number f) place
+unfoldable pub file_line : Result Unit Fault → ℕ → List ℕ → List ℕ
+file_line (Ok _) place file = saved_text file
+file_line (Err f) place file = fault_text (fault_number f) place
 
 abbrev pub saved_line : Judged → List ℕ → List ℕ
 saved_line j file = file_line j.verdict j.at file
@@ -166,8 +166,8 @@ abbrev pub events_stored : ℕ → Totals
 events_stored n = record { steps = 0; blocks = 0; stored = n; finished = 0; cancelled = 0; turned = 0 }
 
 -- "Answered, it is as a `make` (all 8,192 numbers cleared, 4,096 lent) and the events. Refused, nothing changes."
-unfoldable pub loaded_turn : CardVerdict → Loaded → Table → Turn
-loaded_turn CardVerdict.Answered l t =
+unfoldable pub loaded_turn : Result Unit Fault → Loaded → Table → Turn
+loaded_turn (Ok _) l t =
     record {
       table =
           record {
@@ -176,9 +176,9 @@ loaded_turn CardVerdict.Answered l t =
             store = l.store ++ replicate store_length plus_zero;
             totals = kept (events_stored (waiting_in l.param));
           };
-      text = verdict_text Verdict.Answered;
+      text = verdict_text (Ok tt);
     }
-loaded_turn (CardVerdict.Refused f) l t = unchanged (fault_text (fault_number f) l.says.at) t
+loaded_turn (Err f) l t = unchanged (fault_text (fault_number f) l.says.at) t
 
 -- by a reader at the file's end
 unfoldable pub loading_by : Reader → Table → Turn

@@ -1,6 +1,5 @@
 // `save` and `load`: the parameter written as a schedule file, and read from one (02, C-11).
 ghost use Rattle.std.specs.Prelude.{◌≡◌, ℕ, ◌+◌, ◌≤◌, length, take};
-ghost use Rattle.card.specs.declared.CardVerdict.TheVariants as CardVerdict;
 ghost use Rattle.card.specs.Card.{begun, fed, at_end};
 ghost use Rattle.card_reader.specs.Reader.{SoundReader, SoundWindow, reading_of, window_length};
 ghost use Rattle.text.specs.Put.{Put};
@@ -8,7 +7,7 @@ ghost use Rattle.desk.specs.Desk.{SoundDesk, Spoken, saving, saved_line, loading
 
 use crate::{Answered, Desk, clear};
 use answers::{put_fault, put_saved};
-use card::{CardVerdict, Judged, number_of};
+use card::{Judged, number_of};
 use card_reader::CardReader;
 use card_writer::write;
 use rules::AutomationRate;
@@ -17,15 +16,15 @@ use text::write::put_word;
 
 // What writing said, and the file where it is answered.
 fn put_written(said: Judged, file: &[u8], out: &mut [u8], at: usize) -> usize
-    requires { (said.verdict ≡ CardVerdict.Answered → (said.at ≤ length file.now) × (said.at ≤ 17867)) × (at + 42000 ≤ length out.old) }
+    requires { (said.verdict ≡ Ok tt → (said.at ≤ length file.now) × (said.at ≤ 17867)) × (at + 42000 ≤ length out.old) }
     ensures put { Put out.old at (saved_line said (take said.at file.now)) out.new result }
     ensures upper_bound { result ≤ at + 41999 }
 {
     let verdict = said.verdict;
     let len = said.at;
     match verdict {
-        CardVerdict::Answered => put_saved(out, at, &file[..len]),
-        CardVerdict::Refused(fault) => put_fault(out, at, number_of(fault) as u64, len as u64),
+        Ok(()) => put_saved(out, at, &file[..len]),
+        Err(fault) => put_fault(out, at, number_of(fault) as u64, len as u64),
     }
 }
 
@@ -82,7 +81,7 @@ fn finish(
     let says = loaded.says;
     let verdict = says.verdict;
     match verdict {
-        CardVerdict::Answered => {
+        Ok(()) => {
             clear(&mut store[4096..]);
             let param = loaded.param;
             let totals = after_command(none(), 0, param.len());
@@ -94,7 +93,7 @@ fn finish(
             };
             Answered { desk, next }
         }
-        CardVerdict::Refused(fault) => {
+        Err(fault) => {
             let next = put_fault(out, at, number_of(fault) as u64, says.at as u64);
             Answered { desk, next }
         }

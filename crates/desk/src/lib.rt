@@ -2,7 +2,6 @@
 #![tactic(auto)]
 
 ghost use Rattle.std.specs.Prelude.{◌≡◌, true, List, ℕ, ◌+◌, ◌*◌, ◌≤◌, ◌<◌, length, take, drop, replicate, Float};
-ghost use Rattle.rules.specs.declared.Verdict.TheVariants as Verdict;
 ghost use Rattle.rules.specs.Numbers.{plus_zero};
 ghost use Rattle.rules.specs.Block.{set, step, linear, exponential, target, curve, cancel, hold};
 ghost use Rattle.text.specs.Put.{Put};
@@ -18,7 +17,7 @@ use calls::{Call, Renderer, read_call};
 use costs::Totals;
 use files::{load, save};
 use param::{AudioParam, Outcome, Processed};
-use rules::{AutomationRate, Bounds, Head, Verdict};
+use rules::{AutomationRate, Bounds};
 use tally::{after_block, after_command, none};
 use text::write::{put_byte, put_word};
 use timeline::length_of;
@@ -235,18 +234,18 @@ fn poke(
 
 // What a block says: its samples, and whether the places behind them still have the mark.
 fn put_processed(r: Processed, count: usize, output: &[f32], out: &mut [u8], at: usize) -> usize
-    requires { (r.verdict ≡ Verdict.Answered → (count ≤ 1024) × (count ≤ length output.now)) × (at + 42000 ≤ length out.old) }
+    requires { (r.verdict ≡ Ok tt → (count ≤ 1024) × (count ≤ length output.now)) × (at + 42000 ≤ length out.old) }
     ensures put { Put out.old at (block_line r.verdict count r.steps r.current r.one output.now) out.new result }
     ensures upper_bound { result ≤ at + 9259 }
 {
     let verdict = r.verdict;
     match verdict {
-        Verdict::Answered => {
+        Ok(()) => {
             let next = put_block(out, at, r.steps as u64, r.current, r.one);
             let next = put_list(out, next, b' ', b' ', &output[..count]);
             put_rest(out, next, is_clean(output, count))
         }
-        Verdict::Refused(_) => {
+        Err(_) => {
             let next = put_verdict(out, at, verdict);
             put_rest(out, next, is_clean(output, 0))
         }
@@ -359,7 +358,7 @@ fn put_waiting(p: AudioParam, i: usize, store: &[f32], out: &mut [u8], at: usize
     ensures put { Put out.old at (waiting_at (param_of p).queue i store.now) out.new result }
     ensures upper_bound { result ≤ at + width_at (param_of p).queue i }
 {
-    let Head::Event(e) = p.event_at(i) else {
+    let Some(e) = p.event_at(i) else {
         return at;
     };
     let next = put_event(out, at, e);

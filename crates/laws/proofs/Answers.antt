@@ -1,4 +1,5 @@
 -- What holds of every call's answer: refused, nothing changes; not lent the store, it leaves it; a block's samples lie within the bounds, and its steps are at most 129. Assumes nothing.
+use Rattle.std.proofs.Common.{Result, Ok, Err}
 use mathlib.Core.Path.{◌≡◌, refl, sym, ap, ◌∙◌}
 use mathlib.Core.Bool.{true, false}
 use mathlib.Core.List.{List, [], ◌∷◌, ◌++◌}
@@ -13,7 +14,6 @@ use Rattle.rules.specs.declared.AutomationRate.TheVariants as Rate
 use Rattle.rules.specs.declared.Bounds.{Bounds}
 use Rattle.rules.specs.declared.Event.{Event}
 use Rattle.rules.specs.declared.Refusal.{Refusal}
-use Rattle.rules.specs.declared.Verdict.{Verdict}
 use Rattle.rules.specs.Numbers.{most_events, store_length, ceiling_of, plus_zero}
 use Rattle.rules.specs.Queue.{Waiting, lengths_of, events_of, numbers_of, attached}
 use Rattle.rules.specs.Refusals.{fits_count}
@@ -31,10 +31,10 @@ use Rattle.laws.proofs.Within.{AllWithin, all-within, mixed-length}
 
 -- ---- refused
 
-pub refused_block : (p : Param) (store : List Float) (c : Call) (r : Refusal) → verdict_of p store c ≡ Verdict.Refused r
+pub refused_block : (p : Param) (store : List Float) (c : Call) (r : Refusal) → verdict_of p store c ≡ Err r
     → answered p store c
     ≡ record {
-      verdict = Verdict.Refused r;
+      verdict = Err r;
       param = p;
       store = store;
       output = c.output;
@@ -45,26 +45,26 @@ pub refused_block : (p : Param) (store : List Float) (c : Call) (r : Refusal) �
       turned = 0;
     }
 unfolding answered answered_as
-refused_block p store c r e = ap (λ (v : Verdict). answered_as v p store c) e
+refused_block p store c r e = ap (λ (v : Result Unit Refusal). answered_as v p store c) e
 
-pub refused_called : (v : Verdict) (p : Param) (store : List Float) (ws : List Waiting) (i : Float) (r : Refusal) → v ≡ Verdict.Refused r
-    → called_as v p store ws i ≡ record { verdict = Verdict.Refused r; param = p; store = store }
+pub refused_called : (v : Result Unit Refusal) (p : Param) (store : List Float) (ws : List Waiting) (i : Float) (r : Refusal) → v ≡ Err r
+    → called_as v p store ws i ≡ record { verdict = Err r; param = p; store = store }
 unfolding called_as
 refused_called v p store ws i r e = rw e
 
-pub refused_scheduled : (v : Verdict) (p : Param) (store : List Float) (e : Event) (r : Refusal) → v ≡ Verdict.Refused r
-    → scheduled_as v p store e ≡ record { verdict = Verdict.Refused r; param = p; store = store }
+pub refused_scheduled : (v : Result Unit Refusal) (p : Param) (store : List Float) (e : Event) (r : Refusal) → v ≡ Err r
+    → scheduled_as v p store e ≡ record { verdict = Err r; param = p; store = store }
 unfolding scheduled_as
 refused_scheduled v p store e r h = rw h
 
 -- ---- not lent the store
 
 -- a call that is not lent the store does the same whatever it holds, and leaves it
-pub unlent : (v : Verdict) (p : Param) (store : List Float) (e : Event)
+pub unlent : (v : Result Unit Refusal) (p : Param) (store : List Float) (e : Event)
     → scheduled_as v p store e ≡ record { verdict = (scheduled_as v p [] e).verdict; param = (scheduled_as v p [] e).param; store = store }
 unfolding scheduled_as
-unlent Verdict.Answered p store e = refl
-unlent (Verdict.Refused r) p store e = refl
+unlent (Ok _) p store e = refl
+unlent (Err r) p store e = refl
 
 -- ---- an answered block
 
@@ -74,7 +74,7 @@ inputs-length r count [] h = length-replicate count plus_zero
 inputs-length Rate.A count (x ∷ xs) h = eqb-true (length (x ∷ xs)) count h
 inputs-length Rate.K count (x ∷ xs) h = length-replicate count (first_of (x ∷ xs))
 
-module _ (p : Param) (store : List Float) (c : Call) (fine : verdict_of p store c ≡ Verdict.Answered) where
+module _ (p : Param) (store : List Float) (c : Call) (fine : verdict_of p store c ≡ Ok tt) where
   -- what it was given
   pub given : Played (ceiling_of p.edition) p.last_block store c.time c.period c.count c.input c.output
   unfolding verdict_of
@@ -88,7 +88,7 @@ module _ (p : Param) (store : List Float) (c : Call) (fine : verdict_of p store 
 
   pub answer_is : answered p store c ≡ answer_of p (attached p.queue store) c (rendered (infos_of p.rate c) p.intrinsic p.last (attached p.queue store))
   unfolding answered answered_as
-  answer_is = ap (λ (v : Verdict). answered_as v p store c) fine
+  answer_is = ap (λ (v : Result Unit Refusal). answered_as v p store c) fine
 
   abbrev samples : List Float
   samples = mixed_all p.bounds (inputs p.rate c.count c.input) (spread p.rate c.count done.walk.values)
@@ -159,9 +159,9 @@ pub at_most_129 : (p : Param) (store : List Float) (c : Call) → Sound p → (a
 unfolding answered answered_as
 at_most_129 p store c s = go (verdict_of p store c) refl
   where
-    go : (v : Verdict) → verdict_of p store c ≡ v → (answered p store c).steps ≤ 129
-    go Verdict.Answered e = steps_few p store c e s.waiting.few
-    go (Verdict.Refused r) e = rw e (omega arith)
+    go : (v : Result Unit Refusal) → verdict_of p store c ≡ v → (answered p store c).steps ≤ 129
+    go (Ok _) e = steps_few p store c e s.waiting.few
+    go (Err r) e = rw e (omega arith)
 
 -- ---- a parameter that comes from the calls
 

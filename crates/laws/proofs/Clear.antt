@@ -1,4 +1,5 @@
 -- Tests of every event of a queue, and what a clear event has. Assumes nothing.
+use Rattle.std.proofs.Common.{Option, Some, None}
 use mathlib.Core.Path.{◌≡◌, refl, sym}
 use mathlib.Core.Bool.{Bool, true, false, not, ◌&&◌, and-true, and_assoc}
 use mathlib.Core.List.{List, [], ◌∷◌, ◌++◌}
@@ -7,7 +8,6 @@ use lib.Dec.{leb}
 use lib.ListN.{take, drop}
 use lib.Ieee as Ieee
 use lib.Ieee.{Float, binary64}
-use Rattle.rules.specs.declared.MaybeTime.{MaybeTime}
 use Rattle.rules.specs.declared.Event.{Event}
 use Rattle.rules.specs.Numbers.{is_finite, is_zero}
 use Rattle.rules.specs.Queue.{hold_or, filed_under, put_at}
@@ -68,55 +68,55 @@ all_due (e ∷ q) = all_due q
 -- ---- what a clear event has
 
 -- a ramp's time and hold time
-pub record Span (t : Float) (h : MaybeTime) : Type 0 where
+pub record Span (t : Float) (h : Option Float) : Type 0 where
   pub time : is_taken t ≡ true
   pub hold : is_taken_if_any h ≡ true
   pub before : is_held_by t h ≡ true
 
-pub span_parts : (t : Float) (h : MaybeTime) → is_span t h ≡ true → Span t h
+pub span_parts : (t : Float) (h : Option Float) → is_span t h ≡ true → Span t h
 unfolding is_span
 span_parts t h k =
     let a = both (is_taken t) _ k in
     let b = both (is_taken_if_any h) _ a.1 in
     record { time = a.0; hold = b.0; before = b.1 }
 
-pub span_whole : (t : Float) (h : MaybeTime) → Span t h → is_span t h ≡ true
+pub span_whole : (t : Float) (h : Option Float) → Span t h → is_span t h ≡ true
 unfolding is_span
 span_whole t h s = and s.time (and s.hold s.before)
 
 -- it is filed under a time as the calls take it, at or before its own
-pub span_taken : (t : Float) (h : MaybeTime) → Span t h → is_taken (hold_or h t) ≡ true
+pub span_taken : (t : Float) (h : Option Float) → Span t h → is_taken (hold_or h t) ≡ true
 unfolding is_taken_if_any hold_or
-span_taken t MaybeTime.Missing s = s.time
-span_taken t (MaybeTime.At c) s = s.hold
+span_taken t None s = s.time
+span_taken t (Some c) s = s.hold
 
-pub span_before : (t : Float) (h : MaybeTime) → Span t h → Ieee.le (hold_or h t) t ≡ true
+pub span_before : (t : Float) (h : Option Float) → Span t h → Ieee.le (hold_or h t) t ≡ true
 unfolding is_held_by hold_or
-span_before t MaybeTime.Missing s = number_le t (taken_number t s.time)
-span_before t (MaybeTime.At c) s = s.before
+span_before t None s = number_le t (taken_number t s.time)
+span_before t (Some c) s = s.before
 
 pub step_parts : (v t : Float) → is_clear (Event.Step v t) ≡ true → (is_finite v ≡ true) × (is_from_zero t ≡ true)
 unfolding is_clear
 step_parts v t h = both (is_finite v) (is_from_zero t) h
 
-pub linear_parts : (v t : Float) (h : MaybeTime) → is_clear (Event.Linear v t h) ≡ true → (is_finite v ≡ true) × Span t h
+pub linear_parts : (v t : Float) (h : Option Float) → is_clear (Event.Linear v t h) ≡ true → (is_finite v ≡ true) × Span t h
 unfolding is_clear
 linear_parts v t h k = let a = both (is_finite v) (is_span t h) k in (a.0, span_parts t h a.1)
 
-pub exponential_parts : (v t : Float) (h : MaybeTime) → is_clear (Event.Exponential v t h) ≡ true → (is_finite v ≡ true) × (not (is_zero v) ≡ true) × Span t h
+pub exponential_parts : (v t : Float) (h : Option Float) → is_clear (Event.Exponential v t h) ≡ true → (is_finite v ≡ true) × (not (is_zero v) ≡ true) × Span t h
 unfolding is_clear
 exponential_parts v t h k =
     let a = both (is_finite v) _ k in
     let b = both (not (is_zero v)) (is_span t h) a.1 in
     (a.0, b.0, span_parts t h b.1)
 
-pub record TargetParts (v t c : Float) (h : MaybeTime) : Type 0 where
+pub record TargetParts (v t c : Float) (h : Option Float) : Type 0 where
   pub value : is_finite v ≡ true
   pub time : is_taken t ≡ true
   pub constant : is_period c ≡ true
   pub hold : is_taken_if_any h ≡ true
 
-pub target_parts : (v t c : Float) (h : MaybeTime) → is_clear (Event.Target v t c h) ≡ true → TargetParts v t c h
+pub target_parts : (v t c : Float) (h : Option Float) → is_clear (Event.Target v t c h) ≡ true → TargetParts v t c h
 unfolding is_clear
 target_parts v t c h k =
     let a = both (is_finite v) _ k in
@@ -124,7 +124,7 @@ target_parts v t c h k =
     let d = both (is_period c) _ b.1 in
     record { value = a.0; time = b.0; constant = d.0; hold = d.1 }
 
-pub record CurveParts (s d : Float) (n : ℕ) (h : MaybeTime) : Type 0 where
+pub record CurveParts (s d : Float) (n : ℕ) (h : Option Float) : Type 0 where
   pub start : is_taken s ≡ true
   pub duration : is_period d ≡ true
   pub hold : is_taken_if_any h ≡ true
@@ -132,7 +132,7 @@ pub record CurveParts (s d : Float) (n : ℕ) (h : MaybeTime) : Type 0 where
   pub by : is_held_by (Ieee.add binary64 s d) h ≡ true
   pub enough : leb fewest_numbers n ≡ true
 
-pub curve_parts : (s d : Float) (n : ℕ) (h : MaybeTime) → is_clear (Event.Curve s d n h) ≡ true → CurveParts s d n h
+pub curve_parts : (s d : Float) (n : ℕ) (h : Option Float) → is_clear (Event.Curve s d n h) ≡ true → CurveParts s d n h
 unfolding is_clear is_curve_hold
 curve_parts s d n h k =
     let a = both (is_taken s) _ k in
@@ -142,7 +142,7 @@ curve_parts s d n h k =
     let y = both (is_held_from s h) _ x.1 in
     record { start = a.0; duration = b.0; hold = x.0; from = y.0; by = y.1; enough = c.1 }
 
-pub curve_whole : (s d : Float) (n : ℕ) (h : MaybeTime) → CurveParts s d n h → is_clear (Event.Curve s d n h) ≡ true
+pub curve_whole : (s d : Float) (n : ℕ) (h : Option Float) → CurveParts s d n h → is_clear (Event.Curve s d n h) ≡ true
 unfolding is_clear is_curve_hold
 curve_whole s d n h p = and p.start (and p.duration (and (and p.hold (and p.from p.by)) p.enough))
 

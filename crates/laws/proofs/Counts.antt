@@ -1,4 +1,6 @@
 -- A walk's counts: its steps are the events finished, those turned and one; what is finished no longer waits. So a block is at most 129 steps. Assumes nothing.
+use Rattle.std.proofs.Common.{Option}
+use Rattle.rules.specs.declared.Finished.{Finished}
 use mathlib.Core.Path.{◌≡◌, refl, ap}
 use mathlib.Core.Bool.{Bool, true, false}
 use mathlib.Core.List.{List, [], ◌∷◌}
@@ -6,7 +8,6 @@ use Prim.Native.Nat.{ℕ, suc, ◌+◌, ◌*◌, ◌≤◌}
 use native.Mathlib.Omega.{arith}
 use lib.ListN.{length}
 use lib.Ieee.{Float}
-use Rattle.rules.specs.declared.LastEvent.{LastEvent}
 use Rattle.rules.specs.declared.BlockInfos.{BlockInfos}
 use Rattle.rules.specs.Queue.{Waiting, head_of}
 use Rattle.rules.specs.Walk.{Walk, Walked, Turn, stop, on, turn, next, ended, fill, with_values, with_intrinsic, with_last, with_turned, consumed, walked, counted}
@@ -94,7 +95,7 @@ pub record Counted (n : ℕ) (done : Walked) : Type 0 where
   pub finished : done.walk.finished + length done.queue ≡ n
   pub turned : done.walk.turned ≤ n
 
-rendered_counts_as : (b : Bool) (f : BlockInfos) (v : Float) (l : LastEvent) (ws : List Waiting) → Counted (length ws) (rendered_as b f v l ws)
+rendered_counts_as : (b : Bool) (f : BlockInfos) (v : Float) (l : Option Finished) (ws : List Waiting) → Counted (length ws) (rendered_as b f v l ws)
 unfolding rendered_as
 rendered_counts_as true f v l ws = record { steps = refl; finished = omega arith; turned = omega arith }
 rendered_counts_as false f v l ws =
@@ -102,11 +103,11 @@ rendered_counts_as false f v l ws =
     let s = walk_shrinks f ws w in
     record { steps = walk_steps f ws w refl; finished = omega arith; turned = omega arith }
 
-pub rendered_counts : (f : BlockInfos) (v : Float) (l : LastEvent) (ws : List Waiting) → Counted (length ws) (rendered f v l ws)
+pub rendered_counts : (f : BlockInfos) (v : Float) (l : Option Finished) (ws : List Waiting) → Counted (length ws) (rendered f v l ws)
 unfolding rendered
 rendered_counts f v l ws = rendered_counts_as (rests_for f (head_of ws)) f v l ws
 
-pub rendered_steps : (f : BlockInfos) (v : Float) (l : LastEvent) (ws : List Waiting) → (rendered f v l ws).walk.steps ≤ suc (2 * length ws)
+pub rendered_steps : (f : BlockInfos) (v : Float) (l : Option Finished) (ws : List Waiting) → (rendered f v l ws).walk.steps ≤ suc (2 * length ws)
 rendered_steps f v l ws = let c : Counted (length ws) (rendered f v l ws) = rendered_counts f v l ws in omega arith
 
 -- ---- how much a head that is consumed adds to each count

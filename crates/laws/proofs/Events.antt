@@ -1,4 +1,5 @@
 -- Waiting events and their events: what a list of the first does, the second does too. Assumes nothing.
+use Rattle.std.proofs.Common.{Option, Some, None}
 use mathlib.Core.Path.{◌≡◌, refl, sym, ap, ap₂, ◌∙◌}
 use mathlib.Core.Bool.{Bool, true, false, cond, not, ◌&&◌}
 use mathlib.Core.List.{List, [], ◌∷◌, ◌++◌}
@@ -7,7 +8,6 @@ use native.Mathlib.Omega.{arith}
 use lib.ListN.{length, take, drop, get_or, length-append, take-append-drop}
 use lib.Ieee as Ieee
 use lib.Ieee.{Float}
-use Rattle.rules.specs.declared.MaybeTime.{MaybeTime}
 use Rattle.rules.specs.declared.Event.{Event}
 use Rattle.rules.specs.Queue.{Waiting, alone, hold_or, filed_under, length_of, lengths_of, events_of, attached, put_at, inserted, arrived, those, goes_at, is_before, cancelled, sooner, held_event, held_at, is_ramp, runs_at, held_if_running, last_held, is_later, is_not_later, any_covers, holds_ramp, held_by, held}
 use Rattle.laws.specs.Search.{place_of}
@@ -123,10 +123,10 @@ held_filed c (Event.Exponential v t h) n = never (sym n)
 held_filed c (Event.Target v t k h) n = refl
 held_filed c (Event.Curve s d n h) k = refl
 
-sooner_filed : (c t : Float) (h : MaybeTime) → Ieee.lt c (hold_or h t) ≡ true → hold_or (sooner h c) t ≡ c
+sooner_filed : (c t : Float) (h : Option Float) → Ieee.lt c (hold_or h t) ≡ true → hold_or (sooner h c) t ≡ c
 unfolding hold_or sooner
-sooner_filed c t MaybeTime.Missing l = refl
-sooner_filed c t (MaybeTime.At s) l = rw (le_not_lt c s (lt_le c s l))
+sooner_filed c t None l = refl
+sooner_filed c t (Some s) l = rw (le_not_lt c s (lt_le c s l))
 
 pub held_ramp_filed : (c : Float) (e : Event) → is_ramp e ≡ true → Ieee.lt c (filed_under e) ≡ true → filed_under (held_event c e) ≡ c
 unfolding held_event filed_under is_ramp

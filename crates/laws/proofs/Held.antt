@@ -1,4 +1,6 @@
 -- What a hold leaves is in order, equal times as before (02, C-15); inside a curve it holds that curve (C-14); from the head it takes no ramp (C-12). Assumes nothing.
+use Rattle.std.proofs.Common.{Option, Some, None, Result, Ok, Err}
+use Rattle.rules.specs.declared.Refusal.{Refusal}
 use mathlib.Core.Path.{◌≡◌, refl, ap, ◌∙◌}
 use mathlib.Core.Bool.{Bool, true, false, cond, ◌&&◌, ◌||◌}
 use mathlib.Core.List.{List, [], ◌∷◌, ◌++◌}
@@ -8,9 +10,7 @@ use lib.ListN.{length, take, drop, get_or, length-append}
 use lib.Seq.{take-append_seam, drop-append_seam, get_or-append_seam, take-suc}
 use lib.Ieee as Ieee
 use lib.Ieee.{Float, binary64}
-use Rattle.rules.specs.declared.MaybeTime.{MaybeTime}
 use Rattle.rules.specs.declared.Event.{Event}
-use Rattle.rules.specs.declared.Verdict.{Verdict}
 use Rattle.rules.specs.Numbers.{taken_time}
 use Rattle.rules.specs.Queue.{Waiting, hold_or, filed_under, is_ramp, curve_end, is_inside, covers, any, any_covers, events_of, attached, those, held_event, held_at, runs_at, held_if_running, last_held, is_later, is_not_later, holds_ramp, held_by, held}
 use Rattle.rules.specs.Block.{Param, called_as, hold, called}
@@ -75,9 +75,9 @@ when_a_hold_moves_a_time p store c s = record { ordered = (called_sound p store 
     waits_as_before =
         rw (events_attached p.queue store) at (held_as_before (taken_time c) (attached p.queue store) (rw (events_attached p.queue store) s.waiting.ordered))
 
-    go : (v : Verdict) (i : Float) → AsBefore (taken_time c) p.queue (called_as v p store (held (taken_time c) (attached p.queue store)) i).param.queue
-    go Verdict.Answered i = unfold called_as in waits_as_before
-    go (Verdict.Refused r) i = unfold called_as in all_same (taken_time c) p.queue
+    go : (v : Result Unit Refusal) (i : Float) → AsBefore (taken_time c) p.queue (called_as v p store (held (taken_time c) (attached p.queue store)) i).param.queue
+    go (Ok _) i = unfold called_as in waits_as_before
+    go (Err r) i = unfold called_as in all_same (taken_time c) p.queue
 
 -- ---- inside a curve (02, C-14)
 
@@ -125,9 +125,9 @@ module _ (c : Float) where
   covers_runs (Event.Target v t m n) k h = never h
   covers_runs (Event.Curve s d n m) k h = go m (curve_parts s d n m k).by (both (Ieee.le s c) (Ieee.lt c (hold_or m (Ieee.add binary64 s d))) h).1
     where
-      go : (m : MaybeTime) → is_held_by (Ieee.add binary64 s d) m ≡ true → Ieee.lt c (hold_or m (Ieee.add binary64 s d)) ≡ true → Ieee.lt c (Ieee.add binary64 s d) ≡ true
-      go MaybeTime.Missing b l = unfold hold_or in l
-      go (MaybeTime.At x) b l = unfold hold_or is_held_by in lt_le_lt c x (Ieee.add binary64 s d) l b
+      go : (m : Option Float) → is_held_by (Ieee.add binary64 s d) m ≡ true → Ieee.lt c (hold_or m (Ieee.add binary64 s d)) ≡ true → Ieee.lt c (Ieee.add binary64 s d) ≡ true
+      go None b l = unfold hold_or in l
+      go (Some x) b l = unfold hold_or is_held_by in lt_le_lt c x (Ieee.add binary64 s d) l b
 
   module _ (ws : List Waiting) (before : List Event) (e : Event) (behind : List Event) (is : events_of ws ≡ before ++ (e ∷ behind))
       (o : in_order (events_of ws) ≡ true) (k : is_clear e ≡ true) (h : covers c e ≡ true) where
@@ -154,7 +154,7 @@ module _ (c : Float) where
         rw (held_is c ws o, first_is, held_covered (take (suc n) ws) (drop (suc n) ws) (rw up_to_it (covers_last before e h)), events_last_held c ws n e some, ahead_is, it_is, covers_runs e k h)
 
 -- "A cancel-and-hold at or after a waiting curve's start and before its end holds that curve, as if no ramp followed": what is behind the curve goes.
-pub inside_a_curve_it_is_held : (p : Param) (store : List Float) (c : Float) → Sound p → (called p store (hold c)).verdict ≡ Verdict.Answered
+pub inside_a_curve_it_is_held : (p : Param) (store : List Float) (c : Float) → Sound p → (called p store (hold c)).verdict ≡ Ok tt
     → (before : List Event) (e : Event) (behind : List Event) → p.queue ≡ before ++ (e ∷ behind) → covers (taken_time c) e ≡ true
     → (called p store (hold c)).param.queue ≡ before ++ (held_event (taken_time c) e ∷ [])
 unfolding called
@@ -172,10 +172,10 @@ inside_a_curve_it_is_held p store c s answered before e behind split h = go _ _ 
     stays =
         holds_it (taken_time c) ws before e behind (events_attached p.queue store ∙ split) (rw (events_attached p.queue store) s.waiting.ordered) clear h
 
-    go : (v : Verdict) (i : Float) → (called_as v p store (held (taken_time c) ws) i).verdict ≡ Verdict.Answered
+    go : (v : Result Unit Refusal) (i : Float) → (called_as v p store (held (taken_time c) ws) i).verdict ≡ Ok tt
         → (called_as v p store (held (taken_time c) ws) i).param.queue ≡ before ++ (held_event (taken_time c) e ∷ [])
-    go Verdict.Answered i a = unfold called_as in stays
-    go (Verdict.Refused r) i a = unfold called_as in let z : ◌≡◌ {A = ℕ} 0 1 = cc in absurd (omega arith)
+    go (Ok _) i a = unfold called_as in stays
+    go (Err r) i a = unfold called_as in let z : ◌≡◌ {A = ℕ} 0 1 = cc in absurd (omega arith)
 
 -- ---- from the head a hold takes no ramp: it holds it, and all else goes. So of a head that goes it asks for a curve alone (02, C-12).
 

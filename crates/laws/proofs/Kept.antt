@@ -1,5 +1,6 @@
 -- A parameter's invariant is kept by every call: made, scheduled, cancelled, held, and a block; and by all but the block, that no event lies inside a curve. Assumes
 -- nothing.
+use Rattle.std.proofs.Common.{Some, None, Result, Ok, Err}
 use mathlib.Core.Path.{◌≡◌, refl, sym, ap, subst}
 use mathlib.Core.Bool.{Bool, true, false, cond, not}
 use mathlib.Core.List.{List, ◌∷◌}
@@ -9,14 +10,12 @@ use lib.ListN.{length}
 use borrow.Author.Tests.{le-leb}
 use lib.Ieee as Ieee
 use lib.Ieee.{Float, binary64}
-use Rattle.rules.specs.declared.MaybeTime.{MaybeTime}
 use Rattle.rules.specs.declared.Event.{Event}
 use Rattle.rules.specs.declared.Bounds.{Bounds}
 use Rattle.rules.specs.declared.AutomationRate.{AutomationRate}
 use Rattle.rules.specs.declared.Edition.{Edition}
 use Rattle.rules.specs.declared.BlockInfos.{BlockInfos}
 use Rattle.rules.specs.declared.Refusal.{Refusal}
-use Rattle.rules.specs.declared.Verdict.{Verdict}
 use Rattle.rules.specs.Numbers.{most_events, store_length, ceiling_of, plus_zero, is_finite, is_zero, is_positive, is_negative, taken_time, wide}
 use Rattle.rules.specs.Queue.{Waiting, hold_or, filed_under, covers, is_filed_inside, any_inside, length_of, lengths_of, events_of, attached, inserted, arrived, target_event}
 use Rattle.rules.specs.Refusals.{Row, row, lowest, all_finite, are_bounds, is_period, making_rows}
@@ -46,7 +45,7 @@ module _ (r : AutomationRate) (c : Call) (h : is_finite c.time ≡ true) (z : is
   unfolding infos_of
   next_from_zero p q = fused_from_zero binary64 (wide c.count) c.period (taken_time c.time) (wide_from_zero c.count) p q (time_taken c.time h z)
 
-  next_ends : is_finite c.period ≡ true → is_positive c.period ≡ true → are_block_times (MaybeTime.At (infos_of r c).time) (MaybeTime.At (infos_of r c).next) ≡ true
+  next_ends : is_finite c.period ≡ true → is_positive c.period ≡ true → are_block_times (Some (infos_of r c).time) (Some (infos_of r c).next) ≡ true
   unfolding are_block_times is_end_of
   next_ends p q =
       and
@@ -58,10 +57,10 @@ module _ (r : AutomationRate) (c : Call) (h : is_finite c.time ≡ true) (z : is
 -- ---- making
 
 -- whatever is made is fresh
-made_as-fresh : (v : Verdict) (b : Bounds) (r : AutomationRate) (e : Edition) → let p = made_as v b r e in p ≡ fresh p.bounds p.rate p.edition
+made_as-fresh : (v : Result Unit Refusal) (b : Bounds) (r : AutomationRate) (e : Edition) → let p = made_as v b r e in p ≡ fresh p.bounds p.rate p.edition
 unfolding made_as
-made_as-fresh Verdict.Answered b r e = refl
-made_as-fresh (Verdict.Refused why) b r e = refl
+made_as-fresh (Ok _) b r e = refl
+made_as-fresh (Err why) b r e = refl
 
 pub made-fresh : (b : Bounds) (r : AutomationRate) (n : ℕ) → let p = made b r n in p ≡ fresh p.bounds p.rate p.edition
 unfolding made
@@ -76,9 +75,9 @@ made_as_bounds : (b : Bounds) (r : AutomationRate) (e : Edition) (rows : List Ro
 unfolding lowest made_as
 made_as_bounds b r e rows true h = go (lowest rows)
   where
-    go : (v : Verdict) → are_bounds (made_as v b r e).bounds ≡ true
-    go Verdict.Answered = h
-    go (Verdict.Refused why) = no_range
+    go : (v : Result Unit Refusal) → are_bounds (made_as v b r e).bounds ≡ true
+    go (Ok _) = h
+    go (Err why) = no_range
 made_as_bounds b r e rows false h = no_range
 
 pub made_sound : (b : Bounds) (r : AutomationRate) (n : ℕ) → Sound (made b r n)
@@ -130,19 +129,19 @@ module _ (p : Param) (store : List Float) (s : Sound p) where
         apart = arrived-apart e p.queue g.free;
       }
 
-  scheduled_keeps : (v : Verdict) (e : Event) → (v ≡ Verdict.Answered → Fit e p.queue) → Keeps (scheduled_as v p store e).param
+  scheduled_keeps : (v : Result Unit Refusal) (e : Event) → (v ≡ Ok tt → Fit e p.queue) → Keeps (scheduled_as v p store e).param
   unfolding scheduled_as
-  scheduled_keeps Verdict.Answered e h =
+  scheduled_keeps (Ok _) e h =
       let a = arrived_fit e (h refl) in
       record { sound = record { waiting = a.queue; due = a.due; bounded = s.bounded; last = s.last; block = s.block }; apart = a.apart }
-  scheduled_keeps (Verdict.Refused r) e h = refused_keeps
+  scheduled_keeps (Err r) e h = refused_keeps
 
-  called_as_keeps : (v : Verdict) (ws : List Waiting) (i : Float) → (v ≡ Verdict.Answered → Leaves (events_of ws)) → Keeps (called_as v p store ws i).param
+  called_as_keeps : (v : Result Unit Refusal) (ws : List Waiting) (i : Float) → (v ≡ Ok tt → Leaves (events_of ws)) → Keeps (called_as v p store ws i).param
   unfolding called_as
-  called_as_keeps Verdict.Answered ws i h =
+  called_as_keeps (Ok _) ws i h =
       let a = h refl in
       record { sound = record { waiting = a.queue; due = a.due; bounded = s.bounded; last = s.last; block = s.block }; apart = a.apart }
-  called_as_keeps (Verdict.Refused r) ws i h = refused_keeps
+  called_as_keeps (Err r) ws i h = refused_keeps
 
   abbrev waits : List Waiting
   waits = attached p.queue store
@@ -174,45 +173,45 @@ module _ (p : Param) (store : List Float) (s : Sound p) where
   step_fit v t n g = plain_fit (Event.Step v (taken_time t)) t (and n (taken-parts (taken_time t) (scheduled-taken p.queue t g)).1) refl (λ u. refl) refl g
 
   -- a ramp that is not held
-  span_fit : (t : Float) → Scheduled p.queue t → is_span (taken_time t) MaybeTime.Missing ≡ true
+  span_fit : (t : Float) → Scheduled p.queue t → is_span (taken_time t) None ≡ true
   unfolding is_span is_taken_if_any is_held_by
   span_fit t g = and (scheduled-taken p.queue t g) refl
 
-  linear_fit : (v t : Float) → is_finite v ≡ true → Scheduled p.queue t → Fit (Event.Linear v (taken_time t) MaybeTime.Missing) p.queue
+  linear_fit : (v t : Float) → is_finite v ≡ true → Scheduled p.queue t → Fit (Event.Linear v (taken_time t) None) p.queue
   unfolding length_of is_clear filed_under hold_or covers
-  linear_fit v t n g = plain_fit (Event.Linear v (taken_time t) MaybeTime.Missing) t (and n (span_fit t g)) refl (λ u. refl) refl g
+  linear_fit v t n g = plain_fit (Event.Linear v (taken_time t) None) t (and n (span_fit t g)) refl (λ u. refl) refl g
 
   exponential_fit : (v t : Float) → is_finite v ≡ true → is_zero v ≡ false → Scheduled p.queue t
-      → Fit (Event.Exponential v (taken_time t) MaybeTime.Missing) p.queue
+      → Fit (Event.Exponential v (taken_time t) None) p.queue
   unfolding length_of is_clear filed_under hold_or covers
   exponential_fit v t n z g =
-      plain_fit (Event.Exponential v (taken_time t) MaybeTime.Missing) t (and n (and (ap not z) (span_fit t g))) refl (λ u. refl) refl g
+      plain_fit (Event.Exponential v (taken_time t) None) t (and n (and (ap not z) (span_fit t g))) refl (λ u. refl) refl g
 
   running_fit : (v t c : Float) → is_finite v ≡ true → is_period c ≡ true → Scheduled p.queue t
-      → Fit (Event.Target v (taken_time t) c MaybeTime.Missing) p.queue
+      → Fit (Event.Target v (taken_time t) c None) p.queue
   unfolding length_of is_clear is_taken_if_any filed_under covers
   running_fit v t c n k g =
-      plain_fit (Event.Target v (taken_time t) c MaybeTime.Missing) t (and n (and (scheduled-taken p.queue t g) (and k refl))) refl (λ u. refl) refl g
+      plain_fit (Event.Target v (taken_time t) c None) t (and n (and (scheduled-taken p.queue t g) (and k refl))) refl (λ u. refl) refl g
 
   target_fit : (v t c : Float) → is_finite v ≡ true → is_finite c ≡ true → is_negative c ≡ false → Scheduled p.queue t
       → Fit (target_event v (taken_time t) c) p.queue
   unfolding target_event is_period
   target_fit v t c n k l g = go (is_zero c) refl
     where
-      go : (b : Bool) → is_zero c ≡ b → Fit (cond b (Event.Step v (taken_time t)) (Event.Target v (taken_time t) c MaybeTime.Missing)) p.queue
+      go : (b : Bool) → is_zero c ≡ b → Fit (cond b (Event.Step v (taken_time t)) (Event.Target v (taken_time t) c None)) p.queue
       go true z = step_fit v t n g
       go false z = running_fit v t c n (unfold is_period in and k (above_zero c k l z)) g
 
-  curve_fit : (t d : Float) (xs : List Float) → Curved p.queue store t d xs → Fit (Event.Curve (taken_time t) d (length xs) MaybeTime.Missing) p.queue
+  curve_fit : (t d : Float) (xs : List Float) → Curved p.queue store t d xs → Fit (Event.Curve (taken_time t) d (length xs) None) p.queue
   unfolding is_taken_if_any is_held_from is_held_by is_period filed_under length_of covers any_inside is_filed_inside
   curve_fit t d xs g =
       let n : is_taken (taken_time t) ≡ true = scheduled-taken p.queue t g.scheduled in
-      let c : CurveParts (taken_time t) d (length xs) MaybeTime.Missing =
+      let c : CurveParts (taken_time t) d (length xs) None =
       record { start = n; duration = and g.duration g.positive; hold = refl; from = refl; by = refl; enough = le-leb 2 (length xs) g.enough } in
       record {
-        clear = curve_whole (taken_time t) d (length xs) MaybeTime.Missing c;
+        clear = curve_whole (taken_time t) d (length xs) None c;
         time = (taken-parts (taken_time t) n).0;
-        free = free (Event.Curve (taken_time t) d (length xs) MaybeTime.Missing) p.queue g.scheduled.outside g.crossed;
+        free = free (Event.Curve (taken_time t) d (length xs) None) p.queue g.scheduled.outside g.crossed;
         few = g.scheduled.few;
         room = g.room;
       }
@@ -258,9 +257,9 @@ module _ (p : Param) (store : List Float) (s : Sound p) where
 
   -- ---- a block
 
-  played_as : (v : Verdict) (c : Call) → verdict_of p store c ≡ v → Sound (answered_as v p store c).param
+  played_as : (v : Result Unit Refusal) (c : Call) → verdict_of p store c ≡ v → Sound (answered_as v p store c).param
   unfolding answered_as answer_of verdict_of has_played
-  played_as Verdict.Answered c e =
+  played_as (Ok _) c e =
       let g = block_answered (ceiling_of p.edition) p.last_block store c.time c.period c.count c.input c.output e in
       let f : BlockInfos = infos_of p.rate c in
       let now : is_taken f.time ≡ true = block_taken p.rate c g.time g.from_zero in
@@ -272,7 +271,7 @@ module _ (p : Param) (store : List Float) (s : Sound p) where
         last = rendered_last f (taken_number f.time now) p.intrinsic p.last waits waits_sound.clear s.last;
         block = next_ends p.rate c g.time g.from_zero g.period_finite g.period_positive;
       }
-  played_as (Verdict.Refused r) c e = s
+  played_as (Err r) c e = s
 
   pub answered_sound : (c : Call) → Sound (answered p store c).param
   unfolding answered

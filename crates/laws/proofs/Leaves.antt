@@ -1,4 +1,6 @@
 -- What a walk leaves is sound: its queue, and the last event's time. Assumes nothing.
+use Rattle.std.proofs.Common.{Option, Some, None}
+use Rattle.rules.specs.declared.Finished.{Finished}
 use mathlib.Core.Path.{◌≡◌, refl}
 use mathlib.Core.Bool.{Bool, true, false, cond}
 use mathlib.Core.List.{List, [], ◌∷◌}
@@ -7,9 +9,7 @@ use native.Mathlib.Omega.{arith}
 use lib.ListN.{length}
 use lib.Ieee as Ieee
 use lib.Ieee.{Float, binary64}
-use Rattle.rules.specs.declared.MaybeTime.{MaybeTime}
 use Rattle.rules.specs.declared.Event.{Event}
-use Rattle.rules.specs.declared.LastEvent.{LastEvent}
 use Rattle.rules.specs.declared.BlockInfos.{BlockInfos}
 use Rattle.rules.specs.Numbers.{most_events, store_length, is_finite, later_of}
 use Rattle.rules.specs.Queue.{Waiting, hold_or, filed_under, is_ramp, curve_end, length_of, lengths_of, head_of, events_of}
@@ -40,18 +40,18 @@ step_sound e q v t n z g s =
       room = omega arith;
     }
 
-no_end_by_hold : (f : BlockInfos) (h e : MaybeTime) → end_by_hold f h e ≡ MaybeTime.Missing → e ≡ MaybeTime.Missing
+no_end_by_hold : (f : BlockInfos) (h e : Option Float) → end_by_hold f h e ≡ None → e ≡ None
 unfolding end_by_hold
-no_end_by_hold f MaybeTime.Missing e k = k
-no_end_by_hold f (MaybeTime.At c) e k = go (Ieee.lt c f.next) k
+no_end_by_hold f None e k = k
+no_end_by_hold f (Some c) e k = go (Ieee.lt c f.next) k
   where
-    go : (b : Bool) → cond b (MaybeTime.At c) e ≡ MaybeTime.Missing → e ≡ MaybeTime.Missing
+    go : (b : Bool) → cond b (Some c) e ≡ None → e ≡ None
     go true k = cc
     go false k = k
 
 -- a target that has no end is before the next event, and so is the step that it becomes
 no_end_by_next : (f : BlockInfos) (t : Float) (xs : List Waiting) → is_number f.next ≡ true → are_clear (events_of xs) ≡ true
-    → end_by_next f t (head_of xs) ≡ MaybeTime.Missing → goes_before f.next (events_of xs) ≡ true
+    → end_by_next f t (head_of xs) ≡ None → goes_before f.next (events_of xs) ≡ true
 unfolding end_by_next head_of events_of goes_before
 no_end_by_next f t [] n c k = refl
 no_end_by_next f t (x ∷ xs) n c k = go (is_ramp x.event) (Ieee.lt (filed_under x.event) f.next) refl k
@@ -60,14 +60,14 @@ no_end_by_next f t (x ∷ xs) n c k = go (is_ramp x.event) (Ieee.lt (filed_under
     number = clear_number x.event (all-parts is_clear x.event (events_of xs) c).0
 
     go : (r b : Bool) → Ieee.lt (filed_under x.event) f.next ≡ b
-        → cond r (MaybeTime.At (later_of f.time t)) (cond b (MaybeTime.At (filed_under x.event)) MaybeTime.Missing) ≡ MaybeTime.Missing
+        → cond r (Some (later_of f.time t)) (cond b (Some (filed_under x.event)) None) ≡ None
         → Ieee.le f.next (filed_under x.event) ≡ true
     go true b e k = let z : ◌≡◌ {A = ℕ} 0 1 = cc in absurd (omega arith)
     go false true e k = let z : ◌≡◌ {A = ℕ} 0 1 = cc in absurd (omega arith)
     go false false e k = not_lt (filed_under x.event) f.next number n e
 
 -- an exponential that becomes a step does so at the time that it is filed under
-turned_sound : (v t : Float) (h : MaybeTime) (q : List Event) → SoundQueue (Event.Exponential v t h ∷ q) → SoundQueue (Event.Step v (hold_or h t) ∷ q)
+turned_sound : (v t : Float) (h : Option Float) (q : List Event) → SoundQueue (Event.Exponential v t h ∷ q) → SoundQueue (Event.Step v (hold_or h t) ∷ q)
 unfolding reach_of filed_under
 turned_sound v t h q s =
     let a = exponential_parts v t h (all-parts is_clear (Event.Exponential v t h) q s.clear).0 in
@@ -82,8 +82,8 @@ turned_sound v t h q s =
     s
 
 -- a target that snaps becomes a step at the next block time
-snapped_sound : (f : BlockInfos) (v t c : Float) (h : MaybeTime) (xs : List Waiting) → is_from_zero f.next ≡ true
-    → end_by_hold f h (end_by_next f t (head_of xs)) ≡ MaybeTime.Missing → SoundQueue (Event.Target v t c h ∷ events_of xs)
+snapped_sound : (f : BlockInfos) (v t c : Float) (h : Option Float) (xs : List Waiting) → is_from_zero f.next ≡ true
+    → end_by_hold f h (end_by_next f t (head_of xs)) ≡ None → SoundQueue (Event.Target v t c h ∷ events_of xs)
     → SoundQueue (Event.Step v f.next ∷ events_of xs)
 snapped_sound f v t c h xs z free s =
     let a = all-parts is_clear (Event.Target v t c h) (events_of xs) s.clear in
@@ -122,10 +122,10 @@ Number t = is_number t ≡ true
 abbrev LastClear : Walk → Type 0
 LastClear w = is_last_clear w.last ≡ true
 
-any_number : (h : MaybeTime) → is_taken_if_any h ≡ true → IfAny Number h
+any_number : (h : Option Float) → is_taken_if_any h ≡ true → IfAny Number h
 unfolding is_taken_if_any
-any_number MaybeTime.Missing k = tt
-any_number (MaybeTime.At c) k = taken_number c k
+any_number None k = tt
+any_number (Some c) k = taken_number c k
 
 clear_timed : (e : Event) → is_clear e ≡ true → Timed Number e
 clear_timed (Event.Step v t) h = record { filed = clear_number (Event.Step v t) h; ends = tt }
@@ -142,10 +142,10 @@ all-timed [] h = tt
 all-timed (w ∷ ws) h = let a = all-parts is_clear w.event (events_of ws) h in (clear_timed w.event a.0, all-timed ws a.1)
 
 module _ (f : BlockInfos) (now : is_number f.time ≡ true) where
-  start_clear : (v : Float) (l : LastEvent) → is_last_clear l ≡ true → is_number (last_or f v l).time ≡ true
+  start_clear : (v : Float) (l : Option Finished) → is_last_clear l ≡ true → is_number (last_or f v l).time ≡ true
   unfolding last_or is_last_clear
-  start_clear v LastEvent.None h = now
-  start_clear v (LastEvent.Done l) h = h
+  start_clear v None h = now
+  start_clear v (Some l) h = h
 
   last_carry : Carries f Number LastClear LastClear LastClear LastClear
   unfolding counted with_last with_turned fill with_values with_intrinsic consumed start_of is_last_clear
@@ -161,7 +161,7 @@ module _ (f : BlockInfos) (now : is_number f.time ≡ true) where
         consumes = λ t v w m h. m;
       }
 
-  rendered_last_as : (b : Bool) (v : Float) (l : LastEvent) (ws : List Waiting) → are_clear (events_of ws) ≡ true → is_last_clear l ≡ true
+  rendered_last_as : (b : Bool) (v : Float) (l : Option Finished) (ws : List Waiting) → are_clear (events_of ws) ≡ true → is_last_clear l ≡ true
       → is_last_clear (rendered_as b f v l ws).walk.last ≡ true
   unfolding rendered_as fill with_values
   rendered_last_as true v l ws c h = h
@@ -182,7 +182,7 @@ module _ (f : BlockInfos) (now : is_number f.time ≡ true) where
       h
       ).0
 
-  pub rendered_last : (v : Float) (l : LastEvent) (ws : List Waiting) → are_clear (events_of ws) ≡ true → is_last_clear l ≡ true
+  pub rendered_last : (v : Float) (l : Option Finished) (ws : List Waiting) → are_clear (events_of ws) ≡ true → is_last_clear l ≡ true
       → is_last_clear (rendered f v l ws).walk.last ≡ true
   unfolding rendered
   rendered_last v l ws c h = rendered_last_as (rests_for f (head_of ws)) v l ws c h

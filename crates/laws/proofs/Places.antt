@@ -1,4 +1,6 @@
 -- The places of a block: the end place as a search, fills, and that a block has as many samples as places. Assumes nothing.
+use Rattle.std.proofs.Common.{Option}
+use Rattle.rules.specs.declared.Finished.{Finished}
 use mathlib.Core.Path.{◌≡◌, refl, ap, ◌∙◌}
 use mathlib.Core.Bool.{Bool, true, false, cond}
 use mathlib.Core.List.{List, [], ◌∷◌, ◌++◌}
@@ -9,7 +11,6 @@ use lib.Ieee as Ieee
 use lib.Ieee.{Float, binary64}
 use Rattle.rules.specs.declared.AutomationRate.{AutomationRate}
 use Rattle.rules.specs.declared.AutomationRate.TheVariants as Rate
-use Rattle.rules.specs.declared.LastEvent.{LastEvent}
 use Rattle.rules.specs.declared.BlockInfos.{BlockInfos}
 use Rattle.rules.specs.Numbers.{limit, place_from, run, filled_at, filled, time_at, is_zero}
 use Rattle.rules.specs.Queue.{Waiting, head_of}
@@ -139,7 +140,7 @@ module _ (f : BlockInfos) where
   alike Rate.A count v = length-replicate count v
   alike Rate.K count v = length-replicate count (first_of (replicate count v))
 
-  pub samples_count : (v : Float) (l : LastEvent) (ws : List Waiting) → length (spread f.rate f.count (rendered f v l ws).walk.values) ≡ f.count
+  pub samples_count : (v : Float) (l : Option Finished) (ws : List Waiting) → length (spread f.rate f.count (rendered f v l ws).walk.values) ≡ f.count
   unfolding rendered
   samples_count v l ws = go (rests_for f (head_of ws))
     where

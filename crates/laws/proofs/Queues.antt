@@ -1,4 +1,5 @@
 -- The queue's invariant is kept by an arrival, a cancel and a hold. Assumes nothing.
+use Rattle.std.proofs.Common.{Option, Some, None}
 use mathlib.Core.Path.{◌≡◌, refl, sym, ap, ◌∙◌}
 use mathlib.Core.Bool.{Bool, true, false, cond, not}
 use mathlib.Core.List.{List, [], ◌∷◌, ◌++◌}
@@ -9,7 +10,6 @@ use lib.ListN.{length, take, drop, length-take, length-drop, length-append}
 use lib.Seq.{take-append_seam, append_snoc}
 use lib.Ieee as Ieee
 use lib.Ieee.{Float, binary64}
-use Rattle.rules.specs.declared.MaybeTime.{MaybeTime}
 use Rattle.rules.specs.declared.Event.{Event}
 use Rattle.rules.specs.Numbers.{most_events, store_length}
 use Rattle.rules.specs.Queue.{Waiting, hold_or, filed_under, is_ramp, curve_end, any_covers, length_of, lengths_of, events_of, put_at, place_behind, arrived, those, cancelled, sooner, held_event, held_at, runs_at, held_if_running, last_held, is_later, is_not_later, holds_ramp, held_by, held}
@@ -149,25 +149,25 @@ likes_sound p q l s =
     }
 
 module _ (c : Float) (taken : is_taken c ≡ true) where
-  sooner-taken : (h : MaybeTime) → is_taken_if_any h ≡ true → is_taken_if_any (sooner h c) ≡ true
+  sooner-taken : (h : Option Float) → is_taken_if_any h ≡ true → is_taken_if_any (sooner h c) ≡ true
   unfolding sooner is_taken_if_any
-  sooner-taken MaybeTime.Missing k = taken
-  sooner-taken (MaybeTime.At t) k = go (Ieee.lt t c)
+  sooner-taken None k = taken
+  sooner-taken (Some t) k = go (Ieee.lt t c)
     where
-      go : (b : Bool) → is_taken_if_any (cond b (MaybeTime.At t) (MaybeTime.At c)) ≡ true
+      go : (b : Bool) → is_taken_if_any (cond b (Some t) (Some c)) ≡ true
       go true = unfold is_taken_if_any in k
       go false = unfold is_taken_if_any in taken
 
-  sooner-held : (t : Float) (h : MaybeTime) → Ieee.le c t ≡ true → is_held_by t h ≡ true → is_held_by t (sooner h c) ≡ true
+  sooner-held : (t : Float) (h : Option Float) → Ieee.le c t ≡ true → is_held_by t h ≡ true → is_held_by t (sooner h c) ≡ true
   unfolding sooner is_held_by
-  sooner-held t MaybeTime.Missing l k = l
-  sooner-held t (MaybeTime.At s) l k = go (Ieee.lt s c)
+  sooner-held t None l k = l
+  sooner-held t (Some s) l k = go (Ieee.lt s c)
     where
-      go : (b : Bool) → is_held_by t (cond b (MaybeTime.At s) (MaybeTime.At c)) ≡ true
+      go : (b : Bool) → is_held_by t (cond b (Some s) (Some c)) ≡ true
       go true = unfold is_held_by in k
       go false = unfold is_held_by in l
 
-  sooner_span : (t : Float) (h : MaybeTime) → Ieee.le c (hold_or h t) ≡ true → Span t h → is_span t (sooner h c) ≡ true
+  sooner_span : (t : Float) (h : Option Float) → Ieee.le c (hold_or h t) ≡ true → Span t h → is_span t (sooner h c) ≡ true
   sooner_span t h l s =
       let before : Ieee.le c t ≡ true = le_le c (hold_or h t) t l (span_before t h s) in
       span_whole t (sooner h c) record { time = s.time; hold = sooner-taken h s.hold; before = sooner-held t h before s.before }
@@ -182,12 +182,12 @@ module _ (c : Float) (taken : is_taken c ≡ true) where
   ramp_clear (Event.Curve s d n h) r l k = never r
 
   -- a target or curve at or before c is held at its time or later
-  sooner_from : (s : Float) (h : MaybeTime) → Ieee.le s c ≡ true → is_held_from s h ≡ true → is_held_from s (sooner h c) ≡ true
+  sooner_from : (s : Float) (h : Option Float) → Ieee.le s c ≡ true → is_held_from s h ≡ true → is_held_from s (sooner h c) ≡ true
   unfolding sooner is_held_from
-  sooner_from s MaybeTime.Missing l k = l
-  sooner_from s (MaybeTime.At t) l k = go (Ieee.lt t c)
+  sooner_from s None l k = l
+  sooner_from s (Some t) l k = go (Ieee.lt t c)
     where
-      go : (b : Bool) → is_held_from s (cond b (MaybeTime.At t) (MaybeTime.At c)) ≡ true
+      go : (b : Bool) → is_held_from s (cond b (Some t) (Some c)) ≡ true
       go true = unfold is_held_from in k
       go false = unfold is_held_from in l
 
@@ -212,13 +212,13 @@ module _ (c : Float) (taken : is_taken c ≡ true) where
       }
 
   -- and ends no later
-  sooner_end : (s d : Float) (h : MaybeTime) (t : Float) → Ieee.lt c (Ieee.add binary64 s d) ≡ true → is_taken_if_any h ≡ true → Ieee.le (curve_end s d h) t ≡ true
+  sooner_end : (s d : Float) (h : Option Float) (t : Float) → Ieee.lt c (Ieee.add binary64 s d) ≡ true → is_taken_if_any h ≡ true → Ieee.le (curve_end s d h) t ≡ true
       → Ieee.le (curve_end s d (sooner h c)) t ≡ true
   unfolding curve_end sooner hold_or is_taken_if_any
-  sooner_end s d MaybeTime.Missing t r k l = le_le c (Ieee.add binary64 s d) t (lt_le c (Ieee.add binary64 s d) r) l
-  sooner_end s d (MaybeTime.At x) t r k l = go (Ieee.lt x c) refl
+  sooner_end s d None t r k l = le_le c (Ieee.add binary64 s d) t (lt_le c (Ieee.add binary64 s d) r) l
+  sooner_end s d (Some x) t r k l = go (Ieee.lt x c) refl
     where
-      go : (b : Bool) → Ieee.lt x c ≡ b → Ieee.le (hold_or (cond b (MaybeTime.At x) (MaybeTime.At c)) (Ieee.add binary64 s d)) t ≡ true
+      go : (b : Bool) → Ieee.lt x c ≡ b → Ieee.le (hold_or (cond b (Some x) (Some c)) (Ieee.add binary64 s d)) t ≡ true
       go true m = unfold hold_or in l
       go false m = unfold hold_or in le_le c x t (not_lt x c (taken_number x k) (taken_number c taken) m) l
 

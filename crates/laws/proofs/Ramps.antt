@@ -1,4 +1,5 @@
 -- Ramps of no length (02, C-18): such a ramp is at its end value at every time, and a block that leaves it waiting leaves that value, not a NaN. Assumes nothing.
+use Rattle.std.proofs.Common.{Option, Some, None, Ok}
 use mathlib.Core.Path.{◌≡◌, refl, ap}
 use mathlib.Core.Bool.{Bool, true, false, not, cond}
 use mathlib.Core.List.{List, [], ◌∷◌}
@@ -10,13 +11,9 @@ use borrow.Author.Tests.{le-ltb}
 use lib.Ieee as Ieee
 use lib.Ieee.{Float, nan, inf, fin, Format, binary32, binary64, round, up, down}
 use lib.Ieee.Order.{round_mono}
-use Rattle.rules.specs.declared.MaybeTime.{MaybeTime}
 use Rattle.rules.specs.declared.Event.{Event}
 use Rattle.rules.specs.declared.Finished.{Finished}
-use Rattle.rules.specs.declared.LastEvent.{LastEvent}
-use Rattle.rules.specs.declared.Head.{Head}
 use Rattle.rules.specs.declared.BlockInfos.{BlockInfos}
-use Rattle.rules.specs.declared.Verdict.TheVariants as Verdict
 use Rattle.rules.specs.Numbers.{plus_zero, is_finite, is_zero}
 use Rattle.rules.specs.Samples.{has_no_length, ramp_sample, linear_sample, exponential_sample, is_ratio, ratio_of}
 use Rattle.rules.specs.Queue.{Waiting, attached, events_of, head_of, hold_or, filed_under, is_ramp}
@@ -82,11 +79,11 @@ same_time f (fin s m e) h = go s
 
 -- a ramp to v at t, not held; an exponential one that has a ratio from where the event l ended, else it is a step
 pub data Ramp (l : Finished) (v t : Float) : Event → Type 0 where
-  linear : Ramp l v t (Event.Linear v t MaybeTime.Missing)
-  exponential : is_ratio (ratio_of l v) ≡ true → Ramp l v t (Event.Exponential v t MaybeTime.Missing)
+  linear : Ramp l v t (Event.Linear v t None)
+  exponential : is_ratio (ratio_of l v) ≡ true → Ramp l v t (Event.Exponential v t None)
 
 -- The walk w comes to the ramp x with the event l finished, whatever was before, at either rate; the ramp does not end before the block.
-module _ (f : BlockInfos) (w : Walk) (x : Waiting) (xs : List Waiting) {l : Finished} (last : w.last ≡ LastEvent.Done l) {v t : Float}
+module _ (f : BlockInfos) (w : Walk) (x : Waiting) (xs : List Waiting) {l : Finished} (last : w.last ≡ Some l) {v t : Float}
     (none : has_no_length (Ieee.sub binary64 t l.time) ≡ true) (over : Ieee.le f.next t ≡ true) where
   turn_leaves_end : (e : Event) → Ramp l v t e → (next f xs (λ u. walked f u xs) (turn_of f (counted w) x (head_of xs) e)).walk.intrinsic ≡ v
   unfolding turn_of linear_turn exponential_turn span_turn start_of last_or counted hold_or next ended fill with_values with_intrinsic
@@ -100,7 +97,7 @@ module _ (f : BlockInfos) (w : Walk) (x : Waiting) (xs : List Waiting) {l : Fini
 -- ---- what a block leaves: 02's complaint, "A ramp filed at the very time of the event before it .. where that time is a block's end"
 
 -- a step to u at t, the ramp x behind it, and t the block's end
-rendered_leaves_end : (f : BlockInfos) (i : Float) (l : LastEvent) (u v t : Float) (ns : List Float) (x : Waiting) (xs : List Waiting) → is_finite t ≡ true
+rendered_leaves_end : (f : BlockInfos) (i : Float) (l : Option Finished) (u v t : Float) (ns : List Float) (x : Waiting) (xs : List Waiting) → is_finite t ≡ true
     → is_zero t ≡ false → f.next ≡ t → Ramp (record { time = t; value = u }) v t x.event
     → (rendered f i l (record { event = Event.Step u t; numbers = ns } ∷ x ∷ xs)).walk.intrinsic ≡ v
 unfolding rendered rendered_as rests_for head_of is_ramp filed_under walked next turn turn_of step_turn step_from step_time consumed
@@ -118,11 +115,11 @@ module _ (p : Param) (sound : Sound p) (u v t : Float) (e : Event) (rest : List 
       (all-parts is_clear e rest (all-parts is_clear (Event.Step u t) (e ∷ rest) all).1).0
 
   parts : (e : Event) → Ramp (record { time = t; value = u }) v t e → is_clear e ≡ true → (is_finite v ≡ true) × (is_finite t ≡ true)
-  parts e linear h = let a = linear_parts v t MaybeTime.Missing h in (a.0, (taken-parts t a.1.time).0)
-  parts e (exponential r) h = let a = exponential_parts v t MaybeTime.Missing h in (a.0, (taken-parts t a.2.time).0)
+  parts e linear h = let a = linear_parts v t None h in (a.0, (taken-parts t a.1.time).0)
+  parts e (exponential r) h = let a = exponential_parts v t None h in (a.0, (taken-parts t a.2.time).0)
 
   -- the intrinsic value is the ramp's end value, which is a number
-  pub ramp_of_no_length : (store : List Float) (c : Call) → verdict_of p store c ≡ Verdict.Answered → (infos_of p.rate c).next ≡ t
+  pub ramp_of_no_length : (store : List Float) (c : Call) → verdict_of p store c ≡ Ok tt → (infos_of p.rate c).next ≡ t
       → ((answered p store c).param.intrinsic ≡ v) × (is_finite v ≡ true)
   unfolding answer_of attached
   ramp_of_no_length store c fine is =
@@ -134,47 +131,47 @@ module _ (p : Param) (sound : Sound p) (u v t : Float) (e : Event) (rest : List 
 -- ---- after every block, whatever the events before were: where a ramp of no length waits first, the intrinsic value is its end value
 
 -- of a ramp to v at t, the last event and the intrinsic value
-abbrev pub EndsThere : Float → Float → LastEvent → Float → Type 0
-EndsThere v t last i = (l : Finished) → last ≡ LastEvent.Done l → has_no_length (Ieee.sub binary64 t l.time) ≡ true → i ≡ v
+abbrev pub EndsThere : Float → Float → Option Finished → Float → Type 0
+EndsThere v t last i = (l : Finished) → last ≡ Some l → has_no_length (Ieee.sub binary64 t l.time) ≡ true → i ≡ v
 
 -- of a head
-abbrev pub AtItsEnd : Event → LastEvent → Float → Type 0
+abbrev pub AtItsEnd : Event → Option Finished → Float → Type 0
 AtItsEnd (Event.Step v t) last i = Unit {0}
 AtItsEnd (Event.Linear v t h) last i = EndsThere v t last i
 AtItsEnd (Event.Exponential v t h) last i = EndsThere v t last i
 AtItsEnd (Event.Target v t c h) last i = Unit {0}
 AtItsEnd (Event.Curve s d n h) last i = Unit {0}
 
-abbrev pub HeadAtItsEnd : List Event → LastEvent → Float → Type 0
+abbrev pub HeadAtItsEnd : List Event → Option Finished → Float → Type 0
 HeadAtItsEnd [] last i = Unit {0}
 HeadAtItsEnd (e ∷ es) last i = AtItsEnd e last i
 
 abbrev StopsAtEnd : Walk → Waiting → Type 0
 StopsAtEnd w x = AtItsEnd x.event w.last w.intrinsic
 
-same_last : {k l : Finished} → LastEvent.Done k ≡ LastEvent.Done l → k ≡ l
+same_last : {k l : Finished} → Some k ≡ Some l → k ≡ l
 same_last e = cc
 
-module _ (f : BlockInfos) (x : Waiting) (n : Head) where
+module _ (f : BlockInfos) (x : Waiting) (n : Option Event) where
   step_at_end : (w : Walk) (v t : Float) → Turns StopsAtEnd Whatever (step_turn f w v t)
   unfolding step_turn step_from
   step_at_end w v t = by_cond (Ieee.lt f.next (step_time f t)) (stops tt) (goes tt)
 
-  span_at_end : (w : Walk) (t v : Float) (h : MaybeTime) (sample : Float → Float) → AtItsEnd x.event w.last (sample f.next)
+  span_at_end : (w : Walk) (t v : Float) (h : Option Float) (sample : Float → Float) → AtItsEnd x.event w.last (sample f.next)
       → Turns StopsAtEnd Whatever (span_turn f w x t v h sample)
   unfolding span_turn fill with_values with_intrinsic
   span_at_end w t v h sample g = by_cond (Ieee.le f.next (hold_or h t)) (stops g) (goes tt)
 
   -- the head's own event is no ramp
-  module _ (no-ramp : (last : LastEvent) (i : Float) → AtItsEnd x.event last i) where
-    run-at_end : (w : Walk) (target : Float) (sample : Float → Float) (e : MaybeTime) → Turns StopsAtEnd Whatever (target_run f w x target sample e)
+  module _ (no-ramp : (last : Option Finished) (i : Float) → AtItsEnd x.event last i) where
+    run-at_end : (w : Walk) (target : Float) (sample : Float → Float) (e : Option Float) → Turns StopsAtEnd Whatever (target_run f w x target sample e)
     unfolding target_run target_left
-    run-at_end w target sample MaybeTime.Missing = by_cond (snaps target (sample f.next)) (stops tt) (stops (no-ramp _ _))
-    run-at_end w target sample (MaybeTime.At end) = goes tt
+    run-at_end w target sample None = by_cond (snaps target (sample f.next)) (stops tt) (stops (no-ramp _ _))
+    run-at_end w target sample (Some end) = goes tt
 
   -- from the event l on, which is the last one: either ramp's sample
   ends_there : (sample : Finished → Float → Float → Float → Float) → ((l : Finished) (v d : Float) → has_no_length d ≡ true → sample l v d ≡ (λ s. v))
-      → (l : Finished) (v t : Float) → EndsThere v t (LastEvent.Done l) (sample l v (Ieee.sub binary64 t l.time) f.next)
+      → (l : Finished) (v t : Float) → EndsThere v t (Some l) (sample l v (Ieee.sub binary64 t l.time) f.next)
   ends_there sample ended l v t k e none = ap (λ (s : Float → Float). s f.next) (ended l v (Ieee.sub binary64 t l.time) (rw (same_last e) none))
 
   turn-at_end : (w : Walk) (e : Event) → x.event ≡ e → Turns StopsAtEnd Whatever (turn_of f w x n e)
@@ -206,7 +203,7 @@ module _ (f : BlockInfos) where
       next-at_end xs (λ u. walked f u xs) (walk_at_end xs) (turn f w x (head_of xs)) (turn-at_end f x (head_of xs) (counted w) x.event refl)
 
   -- a block that rests has no ramp as its head
-  rest_at_end : (e : Event) → rests_for f (Head.Event e) ≡ true → (last : LastEvent) (i : Float) → AtItsEnd e last i
+  rest_at_end : (e : Event) → rests_for f (Some e) ≡ true → (last : Option Finished) (i : Float) → AtItsEnd e last i
   unfolding rests_for is_ramp
   rest_at_end (Event.Step v t) r last i = tt
   rest_at_end (Event.Linear v t h) r last i = never r
@@ -214,7 +211,7 @@ module _ (f : BlockInfos) where
   rest_at_end (Event.Target v t c h) r last i = tt
   rest_at_end (Event.Curve s d n h) r last i = tt
 
-  module _ (i : Float) (l : LastEvent) where
+  module _ (i : Float) (l : Option Finished) where
     still_at_end : (ws : List Waiting) → rests_for f (head_of ws) ≡ true → HeadAtItsEnd (events_of ws) l i
     unfolding head_of events_of
     still_at_end [] r = tt
@@ -229,7 +226,7 @@ module _ (f : BlockInfos) where
     unfolding rendered
     rendered-at_end ws = rendered_as-at_end (rests_for f (head_of ws)) ws refl
 
-pub waits_at_its_end : (p : Param) (store : List Float) (c : Call) → verdict_of p store c ≡ Verdict.Answered
+pub waits_at_its_end : (p : Param) (store : List Float) (c : Call) → verdict_of p store c ≡ Ok tt
     → HeadAtItsEnd (answered p store c).param.queue (answered p store c).param.last (answered p store c).param.intrinsic
 unfolding answer_of
 waits_at_its_end p store c fine = rw (answer_is p store c fine) (rendered-at_end (infos_of p.rate c) p.intrinsic p.last (attached p.queue store))

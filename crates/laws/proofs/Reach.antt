@@ -1,4 +1,5 @@
 -- How far events reach: what lies inside a curve is at or after its filed time and before its reach, so that one law serves every event. Assumes nothing.
+use Rattle.std.proofs.Common.{Option, Some, None}
 use mathlib.Core.Path.{◌≡◌, refl, sym, ◌∙◌}
 use mathlib.Core.Bool.{Bool, true, false, not, ◌&&◌}
 use mathlib.Core.List.{List, [], ◌∷◌}
@@ -6,7 +7,6 @@ use Prim.Native.Nat.{ℕ}
 use borrow.Author.Tests.{not-true}
 use lib.Ieee as Ieee
 use lib.Ieee.{Float, binary64}
-use Rattle.rules.specs.declared.MaybeTime.{MaybeTime}
 use Rattle.rules.specs.declared.Event.{Event}
 use Rattle.rules.specs.Numbers.{is_finite, is_positive, later_of}
 use Rattle.rules.specs.Queue.{hold_or, filed_under, is_ramp, curve_end, is_inside, covers, any, any_covers, lasts_to}
@@ -21,10 +21,10 @@ use Rattle.laws.proofs.Clear.{all_more, CurveParts, curve_parts, clear_number}
 -- ---- a reach is in the order, at or behind the filed time
 
 -- start + duration, or the hold time
-pub end_number : (s d : Float) (n : ℕ) (h : MaybeTime) → CurveParts s d n h → is_number (curve_end s d h) ≡ true
+pub end_number : (s d : Float) (n : ℕ) (h : Option Float) → CurveParts s d n h → is_number (curve_end s d h) ≡ true
 unfolding curve_end hold_or is_period is_taken_if_any
-end_number s d n MaybeTime.Missing p = add_number binary64 s d (taken-parts s p.start).0 (both (is_finite d) (is_positive d) p.duration).0
-end_number s d n (MaybeTime.At c) p = taken_number c p.hold
+end_number s d n None p = add_number binary64 s d (taken-parts s p.start).0 (both (is_finite d) (is_positive d) p.duration).0
+end_number s d n (Some c) p = taken_number c p.hold
 
 pub reach_number : (e : Event) → is_clear e ≡ true → is_number (reach_of e) ≡ true
 unfolding reach_of

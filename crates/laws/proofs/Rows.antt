@@ -1,4 +1,5 @@
 -- Refusals: each call's rows ascend in their ranks, so the first that applies is the lowest. Assumes nothing.
+use Rattle.std.proofs.Common.{Option, None, Ok, Err}
 use mathlib.Core.Path.{◌≡◌, refl, sym, ap, ◌∙◌}
 use mathlib.Core.Bool.{Bool, true, false, not, ◌&&◌, ◌||◌}
 use mathlib.Core.List.{List, [], ◌∷◌}
@@ -11,9 +12,7 @@ use lib.Ieee.{Float}
 use Rattle.rules.specs.declared.Bounds.{Bounds}
 use Rattle.rules.specs.declared.Event.{Event}
 use Rattle.rules.specs.declared.Edition.{Edition}
-use Rattle.rules.specs.declared.MaybeTime.{MaybeTime}
 use Rattle.rules.specs.declared.Refusal.{Refusal}
-use Rattle.rules.specs.declared.Verdict.{Verdict}
 use Rattle.rules.specs.Numbers.{most_events, store_length, ceiling_of, is_finite, is_zero, is_positive, is_negative, taken_time}
 use Rattle.rules.specs.Queue.{lengths_of, curve_end, any_covers, any_inside}
 use Rattle.rules.specs.Refusals.{Row, row, number_of, rank_of, lowest, all_finite, is_time, is_period, is_count, fits_count, is_block, is_earlier, is_crossed, making_rows, value_rows, exponential_rows, target_rows, curve_rows, cancel_rows, block_rows}
@@ -53,7 +52,7 @@ pub cancel_ascends : (store : List Float) (c : Float) → ascends (cancel_rows s
 unfolding ascends starts_above cancel_rows rank_of
 cancel_ascends store c = refl
 
-pub block_ascends : (most : ℕ) (last : MaybeTime) (store : List Float) (t period : Float) (count : ℕ) (input output : List Float)
+pub block_ascends : (most : ℕ) (last : Option Float) (store : List Float) (t period : Float) (count : ℕ) (input output : List Float)
     → ascends (block_rows most last store t period count input output) ≡ true
 unfolding ascends starts_above block_rows rank_of
 block_ascends most last store t period count input output = refl
@@ -66,7 +65,7 @@ applies n [] = false
 applies n (row r b ∷ rows) = (b && eqb (rank_of r) n) || applies n rows
 
 -- a refusal that is given applies
-pub given_applies : (rows : List Row) (r : Refusal) → lowest rows ≡ Verdict.Refused r → applies (rank_of r) rows ≡ true
+pub given_applies : (rows : List Row) (r : Refusal) → lowest rows ≡ Err r → applies (rank_of r) rows ≡ true
 unfolding lowest applies
 given_applies [] r h = let z : ◌≡◌ {A = ℕ} 0 1 = cc in absurd (omega arith)
 given_applies (row q true ∷ rows) r h = let e : q ≡ r = cc in rw (e, eq-eqb (rank_of r) (rank_of r) refl)
@@ -86,7 +85,7 @@ none_below (row r b ∷ rows) n m h a l =
     go false = refl
 
 -- and no row of a smaller rank does: of a smaller number, but for 11's place
-pub given_lowest : (rows : List Row) (r : Refusal) → ascends rows ≡ true → lowest rows ≡ Verdict.Refused r → (n : ℕ) → n < rank_of r → applies n rows ≡ false
+pub given_lowest : (rows : List Row) (r : Refusal) → ascends rows ≡ true → lowest rows ≡ Err r → (n : ℕ) → n < rank_of r → applies n rows ≡ false
 unfolding lowest applies ascends
 given_lowest [] r a h n l = refl
 given_lowest (row q true ∷ rows) r a h n l =
@@ -146,10 +145,10 @@ rank_settles q r e = number_settles q r (sym (ranked q) ∙ ap (λ (n : ℕ). ge
 
 -- the lowest that applies is given
 pub lowest_given : (rows : List Row) (r : Refusal) → ascends rows ≡ true → applies (rank_of r) rows ≡ true → ((n : ℕ) → n < rank_of r → applies n rows ≡ false)
-    → lowest rows ≡ Verdict.Refused r
+    → lowest rows ≡ Err r
 unfolding lowest applies ascends
 lowest_given [] r a h least = never h
-lowest_given (row q true ∷ rows) r a h least = ap Verdict.Refused (rank_settles q r (go (ltb (rank_of q) (rank_of r)) refl))
+lowest_given (row q true ∷ rows) r a h least = ap Err (rank_settles q r (go (ltb (rank_of q) (rank_of r)) refl))
   where
     or_false : (b : Bool) → (b || false) ≡ true → b ≡ true
     or_false true h = refl
@@ -164,20 +163,20 @@ lowest_given (row q true ∷ rows) r a h least = ap Verdict.Refused (rank_settle
 lowest_given (row q false ∷ rows) r a h least = lowest_given rows r (both (starts_above (rank_of q) rows) (ascends rows) a).1 h least
 
 -- a call is answered where no row applies, and only there
-pub answered_none : (rows : List Row) → lowest rows ≡ Verdict.Answered → (n : ℕ) → applies n rows ≡ false
+pub answered_none : (rows : List Row) → lowest rows ≡ Ok tt → (n : ℕ) → applies n rows ≡ false
 unfolding lowest applies
 answered_none [] h n = refl
 answered_none (row q true ∷ rows) h n = let z : ◌≡◌ {A = ℕ} 0 1 = cc in absurd (omega arith)
 answered_none (row q false ∷ rows) h n = answered_none rows h n
 
-pub none_answered : (rows : List Row) → ((n : ℕ) → applies n rows ≡ false) → lowest rows ≡ Verdict.Answered
+pub none_answered : (rows : List Row) → ((n : ℕ) → applies n rows ≡ false) → lowest rows ≡ Ok tt
 unfolding lowest applies
 none_answered [] h = refl
 none_answered (row q true ∷ rows) h = never (sym (h (rank_of q)) ∙ rw (eq-eqb (rank_of q) (rank_of q) refl))
 none_answered (row q false ∷ rows) h = none_answered rows h
 
 -- the first row of an answered call does not apply, nor do the others
-pub passes : (r : Refusal) (b : Bool) (rows : List Row) → lowest (row r b ∷ rows) ≡ Verdict.Answered → (b ≡ false) × (lowest rows ≡ Verdict.Answered)
+pub passes : (r : Refusal) (b : Bool) (rows : List Row) → lowest (row r b ∷ rows) ≡ Ok tt → (b ≡ false) × (lowest rows ≡ Ok tt)
 unfolding lowest
 passes r true rows h = let z : ◌≡◌ {A = ℕ} 0 1 = cc in absurd (omega arith)
 passes r false rows h = (refl, h)
@@ -197,7 +196,7 @@ pub record Curved (q : List Event) (store : List Float) (t d : Float) (xs : List
   pub positive : is_positive d ≡ true
   pub numbers : all_finite xs ≡ true
   pub enough : 2 ≤ length xs
-  pub crossed : any_inside (taken_time t) (curve_end (taken_time t) d MaybeTime.Missing) q ≡ false
+  pub crossed : any_inside (taken_time t) (curve_end (taken_time t) d None) q ≡ false
   pub room : lengths_of q + length xs ≤ store_length
   pub lent : length store ≡ store_length
 
@@ -206,7 +205,7 @@ pub record Cancelled (store : List Float) (c : Float) : Type 0 where
   pub from_zero : is_negative c ≡ false
   pub lent : length store ≡ store_length
 
-pub record Played (most : ℕ) (last : MaybeTime) (store : List Float) (t period : Float) (count : ℕ) (input output : List Float) : Type 0 where
+pub record Played (most : ℕ) (last : Option Float) (store : List Float) (t period : Float) (count : ℕ) (input output : List Float) : Type 0 where
   pub time : is_finite t ≡ true
   pub from_zero : is_negative t ≡ false
   pub period_finite : is_finite period ≡ true
@@ -232,7 +231,7 @@ module _ (q : List Event) where
   full_false : leb most_events (length q) ≡ false → length q < most_events
   full_false h = leb-false most_events (length q) h
 
-  pub value_answered : (v t : Float) → lowest (value_rows q v t) ≡ Verdict.Answered → (is_finite v ≡ true) × Scheduled q t
+  pub value_answered : (v t : Float) → lowest (value_rows q v t) ≡ Ok tt → (is_finite v ≡ true) × Scheduled q t
   unfolding value_rows
   value_answered v t h =
       let r2 = passes _ _ _ h in
@@ -243,7 +242,7 @@ module _ (q : List Event) where
       let ft = finite_parts t [] fv.1 in
       (fv.0, record { time = ft.0; from_zero = r3.0; outside = r11.0; few = full_false r7.0 })
 
-  pub exponential_answered : (v t : Float) → lowest (exponential_rows q v t) ≡ Verdict.Answered → (is_finite v ≡ true) × (is_zero v ≡ false) × Scheduled q t
+  pub exponential_answered : (v t : Float) → lowest (exponential_rows q v t) ≡ Ok tt → (is_finite v ≡ true) × (is_zero v ≡ false) × Scheduled q t
   unfolding exponential_rows
   exponential_answered v t h =
       let r2 = passes _ _ _ h in
@@ -255,7 +254,7 @@ module _ (q : List Event) where
       let ft = finite_parts t [] fv.1 in
       (fv.0, r5.0, record { time = ft.0; from_zero = r3.0; outside = r11.0; few = full_false r7.0 })
 
-  pub target_answered : (v t c : Float) → lowest (target_rows q v t c) ≡ Verdict.Answered
+  pub target_answered : (v t c : Float) → lowest (target_rows q v t c) ≡ Ok tt
       → (is_finite v ≡ true) × (is_finite c ≡ true) × (is_negative c ≡ false) × Scheduled q t
   unfolding target_rows
   target_answered v t c h =
@@ -269,11 +268,11 @@ module _ (q : List Event) where
       let fc = finite_parts c [] ft.1 in
       (fv.0, fc.0, r4.0, record { time = ft.0; from_zero = r3.0; outside = r11.0; few = full_false r7.0 })
 
-  not_crossed : (s d : Float) → is_crossed q s d ≡ false → (any_covers s q ≡ false) × (any_inside s (curve_end s d MaybeTime.Missing) q ≡ false)
+  not_crossed : (s d : Float) → is_crossed q s d ≡ false → (any_covers s q ≡ false) × (any_inside s (curve_end s d None) q ≡ false)
   unfolding is_crossed
   not_crossed s d h = neither (any_covers s q) _ h
 
-  pub curve_answered : (store : List Float) (t d : Float) (xs : List Float) → lowest (curve_rows q store t d xs) ≡ Verdict.Answered → Curved q store t d xs
+  pub curve_answered : (store : List Float) (t d : Float) (xs : List Float) → lowest (curve_rows q store t d xs) ≡ Ok tt → Curved q store t d xs
   unfolding curve_rows
   curve_answered store t d xs h =
       let r2 = passes _ _ _ h in
@@ -298,7 +297,7 @@ module _ (q : List Event) where
         lent = eqb-true (length store) store_length (not-false _ r14.0);
       }
 
-pub cancel_answered : (store : List Float) (c : Float) → lowest (cancel_rows store c) ≡ Verdict.Answered → Cancelled store c
+pub cancel_answered : (store : List Float) (c : Float) → lowest (cancel_rows store c) ≡ Ok tt → Cancelled store c
 unfolding cancel_rows
 cancel_answered store c h =
     let r2 = passes _ _ _ h in
@@ -310,8 +309,8 @@ cancel_answered store c h =
       lent = eqb-true (length store) store_length (not-false _ r14.0);
     }
 
-pub block_answered : (most : ℕ) (last : MaybeTime) (store : List Float) (t period : Float) (count : ℕ) (input output : List Float)
-    → lowest (block_rows most last store t period count input output) ≡ Verdict.Answered → Played most last store t period count input output
+pub block_answered : (most : ℕ) (last : Option Float) (store : List Float) (t period : Float) (count : ℕ) (input output : List Float)
+    → lowest (block_rows most last store t period count input output) ≡ Ok tt → Played most last store t period count input output
 unfolding block_rows is_block is_time is_period is_count
 block_answered most last store t period count input output h =
     let r9 = passes _ _ _ h in

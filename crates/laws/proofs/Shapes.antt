@@ -1,9 +1,9 @@
 -- The walk as a loop over heads takes it: one head, and the rest. Assumes nothing.
+use Rattle.std.proofs.Common.{Option}
 use mathlib.Core.Path.{◌≡◌, refl}
 use mathlib.Core.Bool.{false}
 use mathlib.Core.List.{List, [], ◌∷◌}
 use lib.Ieee.{Float}
-use Rattle.rules.specs.declared.MaybeTime.{MaybeTime}
 use Rattle.rules.specs.declared.Event.{Event}
 use Rattle.rules.specs.declared.BlockInfos.{BlockInfos}
 use Rattle.rules.specs.Samples.{is_ratio, ratio_of}
@@ -25,7 +25,7 @@ module _ (f : BlockInfos) (w : Walk) where
     walk_goes_on v e = rw e
 
   -- an exponential whose ratio is none: the head is replaced by the step, and walked again
-  pub exponential_turns : (numbers : List Float) (v t : Float) (h : MaybeTime) (xs : List Waiting) → is_ratio (ratio_of (start_of f (counted w)) v) ≡ false
+  pub exponential_turns : (numbers : List Float) (v t : Float) (h : Option Float) (xs : List Waiting) → is_ratio (ratio_of (start_of f (counted w)) v) ≡ false
       → walked f w (record { event = Event.Exponential v t h; numbers = numbers } ∷ xs)
       ≡ walked f (with_turned (with_last (start_of f (counted w)) (counted w))) (alone (Event.Step v (hold_or h t)) ∷ xs)
   unfolding walked turn turn_of exponential_turn

@@ -1,4 +1,6 @@
 -- The curve store: what is packed is read back, and what is read of a part of the queue. Assumes nothing.
+use Rattle.std.proofs.Common.{Option}
+use Rattle.rules.specs.declared.Finished.{Finished}
 use mathlib.Core.Path.{◌≡◌, refl, sym, ap, ◌∙◌}
 use mathlib.Core.Bool.{Bool, true, false, cond}
 use mathlib.Core.List.{List, [], ◌∷◌, ◌++◌, append_assoc, append-nil}
@@ -9,8 +11,6 @@ use lib.ListN.{length, take, drop, replicate, length-append, length-replicate, l
 use lib.Seq.{take_at, drop_at, take-add, drop-drop, length-take-le}
 use lib.Ieee.{Float}
 use Rattle.rules.specs.declared.Event.{Event}
-use Rattle.rules.specs.declared.Head.{Head}
-use Rattle.rules.specs.declared.LastEvent.{LastEvent}
 use Rattle.rules.specs.declared.BlockInfos.{BlockInfos}
 use Rattle.rules.specs.Numbers.{store_length, plus_zero}
 use Rattle.rules.specs.Queue.{Waiting, alone, filed_under, is_ramp, length_of, lengths_of, events_of, numbers_of, packed, attached, head_of, place_behind, put_at, arrived, inserted, those, is_before, cancelled, held_at, runs_at, held_if_running, last_held, is_later, is_not_later, holds_ramp, held_by, held}
@@ -251,14 +251,14 @@ numbers-put n w ws = numbers-append (take n ws) (w ∷ drop n ws) ∙ ap (λ (l 
 
 -- ---- and what a walk leaves: a head that stays is as it was, or has become a step
 
-left_fits : (f : BlockInfos) (x y : Waiting) (n : Head) → Left f x n y → Fits x → Fits y
+left_fits : (f : BlockInfos) (x y : Waiting) (n : Option Event) → Left f x n y → Fits x → Fits y
 unfolding length_of
 left_fits f x y n same h = h
 left_fits f x y n (stepped is) h = refl
 left_fits f x y n (turned is) h = refl
 left_fits f x y n (snapped is free) h = refl
 
-pub left-numbers : (f : BlockInfos) (x y : Waiting) (n : Head) → Left f x n y → Fits x → y.numbers ≡ x.numbers
+pub left-numbers : (f : BlockInfos) (x y : Waiting) (n : Option Event) → Left f x n y → Fits x → y.numbers ≡ x.numbers
 unfolding length_of
 left-numbers f x y n same h = refl
 left-numbers f x y n (stepped is) h = sym (no_numbers x.numbers (h ∙ ap length_of is))
@@ -280,5 +280,5 @@ rest_fits f ws ys none h = h
 rest_fits f ws ys (here {x = x} {y = y} {xs = xs} l) h = (left_fits f x y (head_of xs) l h.0, h.1)
 rest_fits f ws ys (later {xs = xs} {ys = zs} r) h = rest_fits f xs zs r h.1
 
-pub rendered_fits : (f : BlockInfos) (v : Float) (l : LastEvent) (ws : List Waiting) → AllFit ws → AllFit (rendered f v l ws).queue
+pub rendered_fits : (f : BlockInfos) (v : Float) (l : Option Finished) (ws : List Waiting) → AllFit ws → AllFit (rendered f v l ws).queue
 rendered_fits f v l ws h = rest_fits f ws (rendered f v l ws).queue (rendered_leaves f v l ws) h

@@ -1,4 +1,6 @@
 -- What a walk keeps, and what it leaves of the queue: one law for every fact that the bodies keep. Assumes nothing.
+use Rattle.std.proofs.Common.{Option, Some, None}
+use Rattle.rules.specs.declared.Finished.{Finished}
 use mathlib.Core.Path.{◌≡◌, refl}
 use mathlib.Core.Bool.{Bool, true, false, cond}
 use mathlib.Core.List.{List, [], ◌∷◌}
@@ -7,10 +9,7 @@ use native.Mathlib.Omega.{arith}
 use lib.ListN.{length, drop}
 use lib.Ieee as Ieee
 use lib.Ieee.{Float, binary64}
-use Rattle.rules.specs.declared.MaybeTime.{MaybeTime}
 use Rattle.rules.specs.declared.Event.{Event}
-use Rattle.rules.specs.declared.Head.{Head}
-use Rattle.rules.specs.declared.LastEvent.{LastEvent}
 use Rattle.rules.specs.declared.BlockInfos.{BlockInfos}
 use Rattle.rules.specs.Numbers.{is_zero, later_of, place_from, periods_to, limit, end_place}
 use Rattle.rules.specs.Samples.{is_ratio, ratio_of}
@@ -35,11 +34,11 @@ end_most f t = omega (arith, place_most (periods_to f t) f.count 0)
 
 -- ---- what a head that stays has become, with n behind it: itself, or a step
 
-pub data Left (f : BlockInfos) (x : Waiting) (n : Head) : Waiting → Type 0 where
+pub data Left (f : BlockInfos) (x : Waiting) (n : Option Event) : Waiting → Type 0 where
   same : Left f x n x
   stepped : {v t : Float} → x.event ≡ Event.Step v t → Left f x n (alone (Event.Step v t))
-  turned : {v t : Float} {h : MaybeTime} → x.event ≡ Event.Exponential v t h → Left f x n (alone (Event.Step v (hold_or h t)))
-  snapped : {v t c : Float} {h : MaybeTime} → x.event ≡ Event.Target v t c h → end_by_hold f h (end_by_next f t n) ≡ MaybeTime.Missing
+  turned : {v t : Float} {h : Option Float} → x.event ≡ Event.Exponential v t h → Left f x n (alone (Event.Step v (hold_or h t)))
+  snapped : {v t c : Float} {h : Option Float} → x.event ≡ Event.Target v t c h → end_by_hold f h (end_by_next f t n) ≡ None
       → Left f x n (alone (Event.Step v f.next))
 
 -- ---- a body's answer: S of what it stops with, G of what it goes on with
@@ -54,9 +53,9 @@ by_cond false g h = h
 
 -- ---- T of every time that an event can end with: the one that it is filed under, and those beside
 
-abbrev pub IfAny : (Float → Type 0) → MaybeTime → Type 0
-IfAny T MaybeTime.Missing = Unit {0}
-IfAny T (MaybeTime.At t) = T t
+abbrev pub IfAny : (Float → Type 0) → Option Float → Type 0
+IfAny T None = Unit {0}
+IfAny T (Some t) = T t
 
 abbrev pub EndsAt : (Float → Type 0) → Event → Type 0
 EndsAt T (Event.Step v t) = Unit {0}
@@ -73,9 +72,9 @@ abbrev pub AllTimed : (Float → Type 0) → List Waiting → Type 0
 AllTimed T [] = Unit {0}
 AllTimed T (w ∷ ws) = Timed T w.event × AllTimed T ws
 
-abbrev pub HeadTimed : (Float → Type 0) → Head → Type 0
-HeadTimed T Head.Empty = Unit {0}
-HeadTimed T (Head.Event e) = T (filed_under e)
+abbrev pub HeadTimed : (Float → Type 0) → Option Event → Type 0
+HeadTimed T None = Unit {0}
+HeadTimed T (Some e) = T (filed_under e)
 
 -- ---- what the bodies do: P before a head, D with it taken, E where it may have become a step, G with it consumed
 
@@ -90,7 +89,7 @@ pub record Carries (f : BlockInfos) (T : Float → Type 0) (P D E G : Walk → T
   pub consumes : (t v : Float) (w : Walk) → T t → E w → G (consumed t v w)
 
 -- what holds where the head x stops, with n behind it
-abbrev pub Stops : BlockInfos → (Walk → Type 0) → Waiting → Head → Walk → Waiting → Type 0
+abbrev pub Stops : BlockInfos → (Walk → Type 0) → Waiting → Option Event → Walk → Waiting → Type 0
 Stops f E x n w y = E w × Left f x n y
 
 module _ (f : BlockInfos) (T : Float → Type 0) (P D E G : Walk → Type 0) (now : T f.time) (k : Carries f T P D E G) where
@@ -98,7 +97,7 @@ module _ (f : BlockInfos) (T : Float → Type 0) (P D E G : Walk → Type 0) (no
   filled_carries t sample w h = k.fills (end_place f t) sample w (end_most f t) h
 
   -- the head x, with n behind it
-  module _ (x : Waiting) (n : Head) where
+  module _ (x : Waiting) (n : Option Event) where
     step_time_lem : (t : Float) → T t → T (step_time f t)
     unfolding step_time
     step_time_lem t h = go (is_zero t)
@@ -113,7 +112,7 @@ module _ (f : BlockInfos) (T : Float → Type 0) (P D E G : Walk → Type 0) (no
         let g : E (fill f (end_place f (step_time f t)) (λ s. w.intrinsic) w) = filled_carries (step_time f t) (λ s. w.intrinsic) w h in
         by_cond (Ieee.lt f.next (step_time f t)) (stops (g, l)) (goes (k.consumes _ _ _ (step_time_lem t m) g))
 
-    span_carries : (w : Walk) (t v : Float) (e : MaybeTime) (sample : Float → Float) → T (hold_or e t) → E w → Turns (Stops f E x n) G (span_turn f w x t v e sample)
+    span_carries : (w : Walk) (t v : Float) (e : Option Float) (sample : Float → Float) → T (hold_or e t) → E w → Turns (Stops f E x n) G (span_turn f w x t v e sample)
     unfolding span_turn
     span_carries w t v e sample m h =
         let g : E (fill f (end_place f (hold_or e t)) sample w) = filled_carries (hold_or e t) sample w h in
@@ -124,11 +123,11 @@ module _ (f : BlockInfos) (T : Float → Type 0) (P D E G : Walk → Type 0) (no
     left_carries w target v l h =
         by_cond (snaps target v) (stops (k.intrinsic target _ (k.flushes target w h), l)) (stops (k.intrinsic v w h, same))
 
-    run_carries : (w : Walk) (target : Float) (sample : Float → Float) (e : MaybeTime) → IfAny T e
-        → (e ≡ MaybeTime.Missing → Left f x n (alone (Event.Step target f.next))) → E w → Turns (Stops f E x n) G (target_run f w x target sample e)
+    run_carries : (w : Walk) (target : Float) (sample : Float → Float) (e : Option Float) → IfAny T e
+        → (e ≡ None → Left f x n (alone (Event.Step target f.next))) → E w → Turns (Stops f E x n) G (target_run f w x target sample e)
     unfolding target_run
-    run_carries w target sample MaybeTime.Missing m l h = left_carries _ target _ (l refl) (filled_carries f.next sample w h)
-    run_carries w target sample (MaybeTime.At end) m l h = goes (k.consumes end _ _ m (filled_carries end sample w h))
+    run_carries w target sample None m l h = left_carries _ target _ (l refl) (filled_carries f.next sample w h)
+    run_carries w target sample (Some end) m l h = goes (k.consumes end _ _ m (filled_carries end sample w h))
 
     later_time : (t : Float) → T t → T (later_of f.time t)
     unfolding later_of
@@ -138,22 +137,22 @@ module _ (f : BlockInfos) (T : Float → Type 0) (P D E G : Walk → Type 0) (no
         go true = h
         go false = now
 
-    next_time : (t : Float) (m : Head) → T t → HeadTimed T m → IfAny T (end_by_next f t m)
+    next_time : (t : Float) (m : Option Event) → T t → HeadTimed T m → IfAny T (end_by_next f t m)
     unfolding end_by_next
-    next_time t Head.Empty h g = tt
-    next_time t (Head.Event e) h g = go (is_ramp e) (Ieee.lt (filed_under e) f.next)
+    next_time t None h g = tt
+    next_time t (Some e) h g = go (is_ramp e) (Ieee.lt (filed_under e) f.next)
       where
-        go : (b d : Bool) → IfAny T (cond b (MaybeTime.At (later_of f.time t)) (cond d (MaybeTime.At (filed_under e)) MaybeTime.Missing))
+        go : (b d : Bool) → IfAny T (cond b (Some (later_of f.time t)) (cond d (Some (filed_under e)) None))
         go true d = later_time t h
         go false true = g
         go false false = tt
 
-    hold_time : (h e : MaybeTime) → IfAny T h → IfAny T e → IfAny T (end_by_hold f h e)
+    hold_time : (h e : Option Float) → IfAny T h → IfAny T e → IfAny T (end_by_hold f h e)
     unfolding end_by_hold
-    hold_time MaybeTime.Missing e g m = m
-    hold_time (MaybeTime.At c) e g m = go (Ieee.lt c f.next)
+    hold_time None e g m = m
+    hold_time (Some c) e g m = go (Ieee.lt c f.next)
       where
-        go : (b : Bool) → IfAny T (cond b (MaybeTime.At c) e)
+        go : (b : Bool) → IfAny T (cond b (Some c) e)
         go true = g
         go false = m
 
@@ -216,9 +215,9 @@ module _ (f : BlockInfos) (T : Float → Type 0) (P D E Q : Walk → Type 0) (no
 abbrev pub Any : Float → Type 0
 Any t = Unit {0}
 
-any : (e : MaybeTime) → IfAny Any e
-any MaybeTime.Missing = tt
-any (MaybeTime.At t) = tt
+any : (e : Option Float) → IfAny Any e
+any None = tt
+any (Some t) = tt
 
 pub any-timed : (e : Event) → Timed Any e
 any-timed (Event.Step v t) = record { filed = tt; ends = tt }
@@ -291,23 +290,23 @@ whatever f =
 stopped_of : {S : Walk → Waiting → Type 0} {G : Walk → Type 0} {w : Walk} {y : Waiting} → Turns S G (stop w y) → S w y
 stopped_of (stops s) = s
 
-any_head : (n : Head) → HeadTimed Any n
-any_head Head.Empty = tt
-any_head (Head.Event e) = tt
+any_head : (n : Option Event) → HeadTimed Any n
+any_head None = tt
+any_head (Some e) = tt
 
-pub stop_leaves : (f : BlockInfos) (w v : Walk) (x y : Waiting) (n : Head) → turn f w x n ≡ stop v y → Left f x n y
+pub stop_leaves : (f : BlockInfos) (w v : Walk) (x y : Waiting) (n : Option Event) → turn f w x n ≡ stop v y → Left f x n y
 stop_leaves f w v x y n e =
     (stopped_of (rw e at (turn_carries f Any Whatever Whatever Whatever Whatever tt (whatever f) x n w (any-timed x.event) (any_head n) tt))).1
 
 pub walk_leaves : (f : BlockInfos) (ws : List Waiting) (w : Walk) → Rest f ws (walked f w ws).queue
 walk_leaves f ws w = (walk_carries f Any Whatever Whatever Whatever Whatever tt (whatever f) (λ w h. tt) ws (all_any ws) w tt).1
 
-rendered_leaves_as : (b : Bool) (f : BlockInfos) (v : Float) (l : LastEvent) (ws : List Waiting) → Rest f ws (rendered_as b f v l ws).queue
+rendered_leaves_as : (b : Bool) (f : BlockInfos) (v : Float) (l : Option Finished) (ws : List Waiting) → Rest f ws (rendered_as b f v l ws).queue
 unfolding rendered_as
 rendered_leaves_as true f v l ws = rest_all f ws
 rendered_leaves_as false f v l ws = walk_leaves f ws (walk_from v l (values_before f.rate v) 0)
 
-pub rendered_leaves : (f : BlockInfos) (v : Float) (l : LastEvent) (ws : List Waiting) → Rest f ws (rendered f v l ws).queue
+pub rendered_leaves : (f : BlockInfos) (v : Float) (l : Option Finished) (ws : List Waiting) → Rest f ws (rendered f v l ws).queue
 unfolding rendered
 rendered_leaves f v l ws = rendered_leaves_as (rests_for f (head_of ws)) f v l ws
 
@@ -320,7 +319,7 @@ rest_length f ws ys (later {xs = xs} {ys = zs} r) = omega (arith, rest_length f 
 pub walk_length : (f : BlockInfos) (ws : List Waiting) (w : Walk) → length (walked f w ws).queue ≤ length ws
 walk_length f ws w = rest_length f ws (walked f w ws).queue (walk_leaves f ws w)
 
-pub rendered-length : (f : BlockInfos) (v : Float) (l : LastEvent) (ws : List Waiting) → length (rendered f v l ws).queue ≤ length ws
+pub rendered-length : (f : BlockInfos) (v : Float) (l : Option Finished) (ws : List Waiting) → length (rendered f v l ws).queue ≤ length ws
 rendered-length f v l ws = rest_length f ws (rendered f v l ws).queue (rendered_leaves f v l ws)
 
 -- behind the head that stayed all wait as before

@@ -1,10 +1,9 @@
 -- A parameter's invariant: what holds of each one that comes from the calls. Every part is a test, so that code can make it.
-use Rattle.std.specs.Prelude.{◌≡◌, Bool, true, false, not, ◌&&◌, ◌||◌, List, [], ◌∷◌, ℕ, ◌≤◌, leb, length, Float}
+use Rattle.rules.specs.declared.Finished.{Finished}
+use Rattle.std.specs.Prelude.{◌≡◌, Bool, true, false, not, ◌&&◌, ◌||◌, List, [], ◌∷◌, ℕ, ◌≤◌, leb, length, Float, Option, Some, None}
 use Rattle.std.specs.Float.Ieee as Ieee
 use Rattle.std.specs.Float.{nan, inf, fin, binary64}
-use Rattle.rules.specs.declared.MaybeTime.{MaybeTime}
 use Rattle.rules.specs.declared.Event.{Event}
-use Rattle.rules.specs.declared.LastEvent.{LastEvent}
 use Rattle.rules.specs.Numbers.{most_events, store_length, plus_zero, is_finite, is_zero, later_of}
 use Rattle.rules.specs.Queue.{filed_under, curve_end, lengths_of}
 use Rattle.rules.specs.Refusals.{are_bounds, is_period}
@@ -26,19 +25,19 @@ is_from_zero (fin s m e) = not s
 unfoldable pub is_taken : Float → Bool
 is_taken t = is_finite t && is_from_zero t
 
-unfoldable pub is_taken_if_any : MaybeTime → Bool
-is_taken_if_any MaybeTime.Missing = true
-is_taken_if_any (MaybeTime.At t) = is_taken t
+unfoldable pub is_taken_if_any : Option Float → Bool
+is_taken_if_any None = true
+is_taken_if_any (Some t) = is_taken t
 
 -- A ramp is held at or before its own time: a hold at c finds it where it is filed under a later one. So is a curve at or before start + duration.
-unfoldable pub is_held_by : Float → MaybeTime → Bool
-is_held_by t MaybeTime.Missing = true
-is_held_by t (MaybeTime.At c) = Ieee.le c t
+unfoldable pub is_held_by : Float → Option Float → Bool
+is_held_by t None = true
+is_held_by t (Some c) = Ieee.le c t
 
 -- A curve is held at its start or later: a hold at c finds it where it starts at or before c.
-unfoldable pub is_held_from : Float → MaybeTime → Bool
-is_held_from s MaybeTime.Missing = true
-is_held_from s (MaybeTime.At c) = Ieee.le s c
+unfoldable pub is_held_from : Float → Option Float → Bool
+is_held_from s None = true
+is_held_from s (Some c) = Ieee.le s c
 
 -- ---- a waiting event
 
@@ -47,11 +46,11 @@ abbrev pub fewest_numbers : ℕ
 fewest_numbers = 2
 
 -- a ramp's time, and its hold time where it has one
-unfoldable pub is_span : Float → MaybeTime → Bool
+unfoldable pub is_span : Float → Option Float → Bool
 is_span t h = is_taken t && (is_taken_if_any h && is_held_by t h)
 
 -- a curve's hold time, where it has one
-unfoldable pub is_curve_hold : Float → Float → MaybeTime → Bool
+unfoldable pub is_curve_hold : Float → Float → Option Float → Bool
 is_curve_hold s d h = is_taken_if_any h && (is_held_from s h && is_held_by (Ieee.add binary64 s d) h)
 
 -- Its numbers are as the calls let them in: values finite, an exponential's not 0, times taken, a time constant and a duration finite and above 0 (as a period is), 2
@@ -112,14 +111,14 @@ is_sound_queue q = leb (length q) most_events && (in_order q && (are_clear q && 
 -- ---- the parameter
 
 -- the last event's time, from which a ramp counts, is a number; its value may be NaN
-unfoldable pub is_last_clear : LastEvent → Bool
-is_last_clear LastEvent.None = true
-is_last_clear (LastEvent.Done l) = is_number l.time
+unfoldable pub is_last_clear : Option Finished → Bool
+is_last_clear None = true
+is_last_clear (Some l) = is_number l.time
 
 -- whether a block was answered
-unfoldable pub has_played : MaybeTime → Bool
-has_played MaybeTime.Missing = false
-has_played (MaybeTime.At t) = true
+unfoldable pub has_played : Option Float → Bool
+has_played None = false
+has_played (Some t) = true
 
 -- Whether a block at t can have this end: at or above t, +infinity too, never -0. (Of a 64-bit float 0 + t is t itself. Here floats can be of any length, so the nearest
 -- one of 64 bits is compared.)
@@ -127,11 +126,11 @@ unfoldable pub is_end_of : Float → Float → Bool
 is_end_of t end = is_from_zero end && not (Ieee.lt end (Ieee.add binary64 plus_zero t))
 
 -- The last block's time and its end: both, or neither. The time is as a block's is taken, so a block that is answered is at it or later.
-unfoldable pub are_block_times : MaybeTime → MaybeTime → Bool
-are_block_times MaybeTime.Missing MaybeTime.Missing = true
-are_block_times MaybeTime.Missing (MaybeTime.At end) = false
-are_block_times (MaybeTime.At t) MaybeTime.Missing = false
-are_block_times (MaybeTime.At t) (MaybeTime.At end) = is_taken t && is_end_of t end
+unfoldable pub are_block_times : Option Float → Option Float → Bool
+are_block_times None None = true
+are_block_times None (Some end) = false
+are_block_times (Some t) None = false
+are_block_times (Some t) (Some end) = is_taken t && is_end_of t end
 
 -- The intrinsic value may be NaN (DECISIONS, reading 13).
 pub record Sound (p : Param) : Type 0 where

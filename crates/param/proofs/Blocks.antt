@@ -1,5 +1,6 @@
 -- What the contract of the block settles: its samples lie within the range, its steps are those of the rules' walk, a ramp of no length leaves its end value, refused
 -- nothing changes, and two results that it allows are the same. Assumes nothing.
+use Rattle.std.proofs.Common.{Result, Ok, Err}
 use mathlib.Core.Path.{◌≡◌, refl, sym, ap, subst, ◌∙◌}
 use mathlib.Core.Bool.{true, false}
 use mathlib.Core.List.{List, ◌∷◌}
@@ -8,7 +9,6 @@ use lib.ListN.{length, take, drop}
 use lib.Ieee.{Float}
 use Rattle.rules.specs.declared.Event.{Event}
 use Rattle.rules.specs.declared.Refusal.{Refusal}
-use Rattle.rules.specs.declared.Verdict.{Verdict}
 use Rattle.rules.specs.Numbers.{plus_zero, is_finite, is_zero}
 use Rattle.rules.specs.Queue.{attached}
 use Rattle.rules.specs.Block.{Param, Call, Answer, infos_of, rendered, answer_of, answered_as, verdict_of, answered}
@@ -40,14 +40,14 @@ module _ {p : AudioParam} {store after : List Float} {c : Call} {r : Processed} 
   unfolding answered
   verdict_is = a.verdict ∙ go (verdict_of (param_of p) store c)
     where
-      go : (v : Verdict) → (answered_as v (param_of p) store c).verdict ≡ v
-      go Verdict.Answered = unfold answered_as answer_of in refl
-      go (Verdict.Refused why) = unfold answered_as in refl
+      go : (v : Result Unit Refusal) → (answered_as v (param_of p) store c).verdict ≡ v
+      go (Ok _) = unfold answered_as answer_of in refl
+      go (Err why) = unfold answered_as in refl
 
   -- ---- refused
 
-  pub refused_keeps : {why : Refusal} → SoundParam p → r.verdict ≡ Verdict.Refused why
-      → (r ≡ record { verdict = Verdict.Refused why; param = p; steps = 0; current = plus_zero; one = false }) × (output ≡ c.output) × (after ≡ store)
+  pub refused_keeps : {why : Refusal} → SoundParam p → r.verdict ≡ Err why
+      → (r ≡ record { verdict = Err why; param = p; steps = 0; current = plus_zero; one = false }) × (output ≡ c.output) × (after ≡ store)
   refused_keeps {why} s h =
       let is = refused_block (param_of p) store c why (sym verdict_is ∙ h) in (
         same h (a.param ∙ ap (λ (x : Answer). struct_of x.param) is ∙ sym (whole p s)) (a.steps ∙ ap (λ (x : Answer). x.steps) is) (a.current ∙ ap (λ (x : Answer). x.current) is) (a.one ∙ ap (λ (x : Answer). x.one_valued) is),
@@ -57,8 +57,8 @@ module _ {p : AudioParam} {store after : List Float} {c : Call} {r : Processed} 
 
   -- ---- answered
 
-  module _ (h : r.verdict ≡ Verdict.Answered) where
-    fine : verdict_of (param_of p) store c ≡ Verdict.Answered
+  module _ (h : r.verdict ≡ Ok tt) where
+    fine : verdict_of (param_of p) store c ≡ Ok tt
     fine = sym verdict_is ∙ h
 
     -- each of the count samples lies within minimum and maximum

@@ -1,4 +1,5 @@
 -- What the calls have in common. Assumes nothing.
+use Rattle.std.proofs.Common.{Result, Ok, Err}
 use mathlib.Core.Path.{◌≡◌, refl, sym, ap, ◌∙◌}
 use mathlib.Core.List.{List, []}
 use mathlib.Core.Bool.{Bool, true, false}
@@ -13,7 +14,6 @@ use Rattle.rules.specs.declared.Bounds.{Bounds}
 use Rattle.rules.specs.declared.AutomationRate.{AutomationRate}
 use Rattle.rules.specs.declared.Event.{Event}
 use Rattle.rules.specs.declared.Refusal.{Refusal}
-use Rattle.rules.specs.declared.Verdict.{Verdict}
 use Rattle.rules.specs.Numbers.{store_length, plus_zero, is_zero, taken_time}
 use Rattle.rules.specs.Queue.{Waiting, lengths_of, packed}
 use Rattle.rules.specs.Refusals.{lowest, making_rows}
@@ -59,12 +59,12 @@ answers {p} {store} {after} {c} {r} s e f =
     }
 
 -- a call that is not lent the store
-store_kept : (v : Verdict) (p : Param) (store : List Float) (e : Event) → store ≡ (scheduled_as v p store e).store
+store_kept : (v : Result Unit Refusal) (p : Param) (store : List Float) (e : Event) → store ≡ (scheduled_as v p store e).store
 unfolding scheduled_as
-store_kept Verdict.Answered p store e = refl
-store_kept (Verdict.Refused r) p store e = refl
+store_kept (Ok _) p store e = refl
+store_kept (Err r) p store e = refl
 
-pub schedules : {p : AudioParam} {c : Command} {r : Outcome} (v : Verdict) (e : Event) → SoundParam p
+pub schedules : {p : AudioParam} {c : Command} {r : Outcome} (v : Result Unit Refusal) (e : Event) → SoundParam p
     → called (param_of p) [] c ≡ scheduled_as v (param_of p) [] e → r ≡ outcome_of (scheduled_as v (param_of p) [] e) → Answers p [] c r []
 schedules {p} {c} {r} v e s is got =
     answers s (got ∙ ap outcome_of (sym is)) (store_kept v (param_of p) [] e ∙ ap (λ (x : Called). x.store) (sym is))
@@ -93,16 +93,16 @@ crowded q xs {used} h e =
 module _ {p : AudioParam} {store : List Float} {c : Command} (s : SoundParam p) where
   -- answered: these events wait, and this is the intrinsic value
   pub leaves : (ws : List Waiting) (v : Float) {after : List Float} {q : AudioParamEventTimeline} {r : Outcome}
-      → called (param_of p) store c ≡ called_as Verdict.Answered (param_of p) store ws v → length store ≡ store_length → Leaves q store after ws
+      → called (param_of p) store c ≡ called_as (Ok tt) (param_of p) store ws v → length store ≡ store_length → Leaves q store after ws
       → r ≡ answered_with p q v → Answers p store c r after
   unfolding called_as packed_in packed
   leaves ws v is lent l got = answers s (got ∙ rw l.queue (ap outcome_of (sym is))) (l.part ∙ rw lent (ap (λ (x : Called). x.store) (sym is)))
 
   -- refused: nothing changes
-  pub keeps : {r : Outcome} {why : Refusal} → called (param_of p) store c ≡ record { verdict = Verdict.Refused why; param = param_of p; store = store }
-      → r ≡ record { verdict = Verdict.Refused why; param = p } → Answers p store c r store
+  pub keeps : {r : Outcome} {why : Refusal} → called (param_of p) store c ≡ record { verdict = Err why; param = param_of p; store = store }
+      → r ≡ record { verdict = Err why; param = p } → Answers p store c r store
   keeps {r} {why} is got =
       answers
       s
-      (got ∙ ap (λ (x : AudioParam). record { verdict = Verdict.Refused why; param = x }) (whole p s) ∙ ap outcome_of (sym is))
+      (got ∙ ap (λ (x : AudioParam). record { verdict = Err why; param = x }) (whole p s) ∙ ap outcome_of (sym is))
       (ap (λ (x : Called). x.store) (sym is))

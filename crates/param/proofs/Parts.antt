@@ -1,4 +1,5 @@
 -- A parameter of its parts: events taken one by one, and when all of it is sound. Assumes nothing.
+use Rattle.std.proofs.Common.{Ok}
 use mathlib.Core.Path.{◌≡◌, refl, sym, ap, ◌∙◌}
 use mathlib.Core.Bool.{Bool, true, false, ◌&&◌, ◌||◌, and-false, and_assoc}
 use mathlib.Core.List.{List, [], ◌∷◌, ◌++◌}
@@ -13,7 +14,6 @@ use lib.Ieee.{Float, inf}
 use borrow.Author.Tests.{le-leb, lt-leb}
 use Rattle.rules.specs.declared.Event.{Event}
 use Rattle.rules.specs.declared.AutomationRate.TheVariants as Rate
-use Rattle.rules.specs.declared.Verdict.TheVariants as Verdict
 use Rattle.rules.specs.Numbers.{most_events, store_length, plus_zero, is_finite}
 use Rattle.rules.specs.Queue.{filed_under, length_of, lengths_of}
 use Rattle.rules.specs.Refusals.{lowest, all_finite, are_bounds, is_edition, making_rows}
@@ -44,7 +44,7 @@ unfolding made made_as making_rows lowest are_bounds is_edition edition_of all_f
 nothing_sound = made_sound (record { min = plus_zero; default = plus_zero; max = plus_zero }) Rate.A 1
 
 pub restores_whole : {parts : AudioParam} {r : Outcome} → is_whole parts ≡ true
-    → r ≡ record { verdict = Verdict.Answered; param = struct_of (param_of parts) } → Restores parts r
+    → r ≡ record { verdict = (Ok tt); param = struct_of (param_of parts) } → Restores parts r
 unfolding is_whole
 restores_whole {parts} h e =
     let s : Sound (param_of parts) = tested (param_of parts) (both (leb parts.timeline.len most_events) (is_sound (param_of parts)) h).1 in
@@ -192,7 +192,7 @@ module _ (parts : AudioParam) (few : parts.timeline.len ≤ most_events) {t : Ta
       (and_assoc (is_sound_queue (waiting parts.timeline)) _ _)
 
   pub restores_all : {r : Outcome} → (t.sound && (bounds && (last && block))) ≡ true
-      → r ≡ record { verdict = Verdict.Answered; param = parts_of parts.bounds parts.rate parts.edition parts.intrinsic t.queue parts.block parts.end parts.last } → Restores parts r
+      → r ≡ record { verdict = (Ok tt); param = parts_of parts.bounds parts.rate parts.edition parts.intrinsic t.queue parts.block parts.end parts.last } → Restores parts r
   restores_all h e = restores_whole (sym whole_is ∙ h) (e ∙ rw (k.queue (both t.sound _ h).0))
 
   pub restores_none : {r : Outcome} → (t.sound && (bounds && (last && block))) ≡ false → r ≡ unmade → Restores parts r

@@ -1,4 +1,5 @@
 -- What a block's events leave, and what the whole block answers by that. Assumes nothing.
+use Rattle.std.proofs.Common.{Option, Some, None, Result, Ok, Err}
 use mathlib.Core.Path.{◌≡◌, refl, sym, ap, ◌∙◌}
 use mathlib.Core.Bool.{Bool, true, false}
 use mathlib.Core.List.{List, [], ◌∷◌, ◌++◌}
@@ -13,9 +14,7 @@ use Rattle.rules.specs.declared.AutomationRate.{AutomationRate}
 use Rattle.rules.specs.declared.AutomationRate.TheVariants as Rate
 use Rattle.rules.specs.declared.BlockInfos.{BlockInfos}
 use Rattle.rules.specs.declared.Event.{Event}
-use Rattle.rules.specs.declared.Head.{Head}
 use Rattle.rules.specs.declared.Refusal.{Refusal}
-use Rattle.rules.specs.declared.Verdict.{Verdict}
 use Rattle.rules.specs.Numbers.{ceiling_of, most_events, store_length}
 use Rattle.rules.specs.Queue.{Waiting, head_of, events_of, lengths_of, attached}
 use Rattle.rules.specs.Walk as Rules
@@ -62,12 +61,12 @@ left_neat q r n {part} h l =
     neat_of r (drop n (waiting q)) (l.queue ∙ ap made e) d
 
 -- its head is what it has become
-pub leaves_head : (h : Head) (q r : AudioParamEventTimeline) (ws : List Waiting) {before after : List Float} → Leaves q before after ws
+pub leaves_head : (h : Option Event) (q r : AudioParamEventTimeline) (ws : List Waiting) {before after : List Float} → Leaves q before after ws
     → r ≡ made (head_as h (waiting q)) → Leaves r before after (with_head h ws)
 unfolding with_head head_as events_of
-leaves_head Head.Empty q r ws l f = record { queue = f ∙ ap made (waits_of q (events_of ws) l.queue); part = l.part }
-leaves_head (Head.Event e) q r [] l f = record { queue = f ∙ ap (λ (es : List Event). made (set es 0 e)) (waits_of q [] l.queue); part = l.part }
-leaves_head (Head.Event e) q r (w ∷ ws) {before} {after} l f = leaves_replaced q r before after w (waiting_as e w.numbers) ws l refl f
+leaves_head None q r ws l f = record { queue = f ∙ ap made (waits_of q (events_of ws) l.queue); part = l.part }
+leaves_head (Some e) q r [] l f = record { queue = f ∙ ap (λ (es : List Event). made (set es 0 e)) (waits_of q [] l.queue); part = l.part }
+leaves_head (Some e) q r (w ∷ ws) {before} {after} l f = leaves_replaced q r before after w (waiting_as e w.numbers) ws l refl f
 
 -- what is given back by that queue
 pub gives : (p : AudioParam) (f : BlockInfos) (l : Played) (q t : AudioParamEventTimeline) {r : Processed} {part after : List Float} → Leaves q part after (drop l.at (attached (param_of p).queue part))
@@ -86,7 +85,7 @@ before_few count Rate.K v = refl
 module _ (p : AudioParam) (f : BlockInfos) (input output part : List Float) {one : Bool} {out : List Float} where
   -- none of them reaches into it
   pub rests : out ≡ written p.bounds f input (replicate f.count p.intrinsic) output → one ≡ says_one p.rate true input
-      → Plays p f true input output part (record { intrinsic = p.intrinsic; last = p.last; at = 0; head = Head.Empty; steps = 1; one = one }) out
+      → Plays p f true input output part (record { intrinsic = p.intrinsic; last = p.last; at = 0; head = None; steps = 1; one = one }) out
   unfolding rendered_as with_head
   rests o e = record { queue = refl; intrinsic = refl; last = refl; steps = refl; one = e; samples = o }
 
@@ -138,15 +137,15 @@ module _ (p : AudioParam) (store : List Float) (c : Call) (s : SoundParam p) whe
         sound = rw (q ∙ ap (λ (x : Answer). struct_of x.param) (sym is)) (struct_sound (answered (param_of p) store c).param (answered_sound (param_of p) store s.sound c));
       }
 
-  pub refuses : {v : Verdict} {why : Refusal} → v ≡ verdict_of (param_of p) store c → v ≡ Verdict.Refused why
+  pub refuses : {v : Result Unit Refusal} {why : Refusal} → v ≡ verdict_of (param_of p) store c → v ≡ Err why
       → {r : Processed} → r ≡ unplayed p v → Processes p store c r c.output store
   refuses {v} {why} e h is = rw is (processes _ (refused_block (param_of p) store c why (sym e ∙ h)) h (whole p s) refl refl refl refl refl)
 
-  module _ {v : Verdict} (e : v ≡ verdict_of (param_of p) store c) (h : v ≡ Verdict.Answered) where
+  module _ {v : Result Unit Refusal} (e : v ≡ verdict_of (param_of p) store c) (h : v ≡ Ok tt) where
     abbrev infos : BlockInfos
     infos = infos_of p.rate c
 
-    fine : verdict_of (param_of p) store c ≡ Verdict.Answered
+    fine : verdict_of (param_of p) store c ≡ Ok tt
     fine = sym e ∙ h
 
     asked_for : Given (ceiling_of p.edition) p.block store c.time c.period c.count c.input c.output

@@ -1,14 +1,12 @@
 -- The parameter as code holds it, and what each call ensures: one relation for a kind of call, by document 01's rules.
-use Rattle.std.specs.Prelude.{◌≡◌, Bool, cond, ◌&&◌, List, ℕ, ◌<◌, leb, length, Float}
+use Rattle.rules.specs.declared.Finished.{Finished}
+use Rattle.std.specs.Prelude.{◌≡◌, Bool, cond, ◌&&◌, List, ℕ, ◌<◌, leb, length, Float, Option, Result, Ok, Err}
 use Rattle.rules.specs.declared.Bounds.{Bounds}
 use Rattle.rules.specs.declared.AutomationRate.{AutomationRate}
 use Rattle.rules.specs.declared.AutomationRate.TheVariants as Rate
 use Rattle.rules.specs.declared.Edition.{Edition}
-use Rattle.rules.specs.declared.MaybeTime.{MaybeTime}
-use Rattle.rules.specs.declared.LastEvent.{LastEvent}
 use Rattle.rules.specs.declared.Refusal.{Refusal}
 use Rattle.rules.specs.declared.Event.{Event}
-use Rattle.rules.specs.declared.Verdict.{Verdict}
 use Rattle.rules.specs.Numbers.{plus_zero, most_events}
 use Rattle.rules.specs.Refusals.{lowest, making_rows}
 use Rattle.rules.specs.Block.{Param, fresh, made, Command, Called, called}
@@ -70,7 +68,7 @@ pub record Answers (p : AudioParam) (store : List Float) (c : Command) (r : Outc
 
 -- ---- a parameter of its parts
 
-abbrev pub parts_of : Bounds → AutomationRate → Edition → Float → AudioParamEventTimeline → MaybeTime → MaybeTime → LastEvent → AudioParam
+abbrev pub parts_of : Bounds → AutomationRate → Edition → Float → AudioParamEventTimeline → Option Float → Option Float → Option Finished → AudioParam
 parts_of b rate edition v q t e l =
     record { bounds = b; rate = rate; edition = edition; intrinsic = v; timeline = q; block = t; end = e; last = l }
 
@@ -83,14 +81,14 @@ abbrev pub nothing_made : Param
 nothing_made = fresh (record { min = plus_zero; default = plus_zero; max = plus_zero }) Rate.A Edition.First
 
 abbrev pub unmade_by : Refusal → Outcome
-unmade_by why = record { verdict = Verdict.Refused why; param = struct_of nothing_made }
+unmade_by why = record { verdict = Err why; param = struct_of nothing_made }
 
 abbrev pub unmade : Outcome
 unmade = unmade_by Refusal.Bounds
 
 -- Parts that make a parameter give it, their other slots blank. All others are refused as bad bounds are, by refusal 1 and with what it returns (ours).
 pub record Restores (parts : AudioParam) (r : Outcome) : Type 0 where
-  pub gives : r ≡ cond (is_whole parts) (record { verdict = Verdict.Answered; param = struct_of (param_of parts) }) unmade
+  pub gives : r ≡ cond (is_whole parts) (record { verdict = (Ok tt); param = struct_of (param_of parts) }) unmade
   pub sound : SoundParam r.param
 
 -- ---- what private functions give back
@@ -101,8 +99,8 @@ outcome_of c = record { verdict = c.verdict; param = struct_of c.param }
 
 -- an answered call: another queue, another intrinsic value, and else the same parameter
 abbrev pub answered_with : AudioParam → AudioParamEventTimeline → Float → Outcome
-answered_with p q v = record { verdict = Verdict.Answered; param = parts_of p.bounds p.rate p.edition v q p.block p.end p.last }
+answered_with p q v = record { verdict = Ok tt; param = parts_of p.bounds p.rate p.edition v q p.block p.end p.last }
 
 -- one more event can wait where a call is answered
-abbrev pub HasRoom : Verdict → List Event → Type 0
-HasRoom v q = v ≡ Verdict.Answered → length q < most_events
+abbrev pub HasRoom : Result Unit Refusal → List Event → Type 0
+HasRoom v q = v ≡ Ok tt → length q < most_events

@@ -1,9 +1,8 @@
 -- What a block ensures, by document 01's rules.
-use Rattle.std.specs.Prelude.{◌≡◌, Bool, false, List, ℕ, ◌≤◌, length, drop, Float}
+use Rattle.rules.specs.declared.Event.{Event}
+use Rattle.rules.specs.declared.Refusal.{Refusal}
+use Rattle.std.specs.Prelude.{◌≡◌, Bool, false, List, ℕ, ◌≤◌, length, drop, Float, Option, Some, None, Result, Ok}
 use Rattle.rules.specs.declared.BlockInfos.{BlockInfos}
-use Rattle.rules.specs.declared.Head.{Head}
-use Rattle.rules.specs.declared.MaybeTime.TheVariants as MaybeTime
-use Rattle.rules.specs.declared.Verdict.{Verdict}
 use Rattle.rules.specs.Numbers.{plus_zero, ceiling_of}
 use Rattle.rules.specs.Queue.{length_of, lengths_of, attached}
 use Rattle.rules.specs.Mix.{mixed}
@@ -19,22 +18,22 @@ use Rattle.param.specs.declared.process.Played.{Played}
 use Rattle.param.specs.Param.{param_of, struct_of, parts_of, SoundParam}
 
 -- how many numbers of the store are the head's
-unfoldable pub length_of_head : Head → ℕ
-length_of_head Head.Empty = 0
-length_of_head (Head.Event e) = length_of e
+unfoldable pub length_of_head : Option Event → ℕ
+length_of_head None = 0
+length_of_head (Some e) = length_of e
 
 -- ---- what a block gives back
 
 -- one that is refused: the parameter as it was
-abbrev pub unplayed : AudioParam → Verdict → Processed
+abbrev pub unplayed : AudioParam → Result Unit Refusal → Processed
 unplayed p v = record { verdict = v; param = p; steps = 0; current = plus_zero; one = false }
 
 -- one that is answered, by the queue and by what else its events leave
 abbrev pub afterwards : AudioParam → BlockInfos → AudioParamEventTimeline → Played → Processed
 afterwards p f q l =
     record {
-      verdict = Verdict.Answered;
-      param = parts_of p.bounds p.rate p.edition l.intrinsic q (MaybeTime.At f.time) (MaybeTime.At f.next) l.last;
+      verdict = Ok tt;
+      param = parts_of p.bounds p.rate p.edition l.intrinsic q (Some f.time) (Some f.next) l.last;
       steps = l.steps;
       current = mixed p.bounds plus_zero p.intrinsic;
       one = l.one;

@@ -11,7 +11,7 @@ ghost use Rattle.param.specs.Param.{param_of, struct_of, outcome_of, SoundParam,
 
 use floats::{is_zero64, taken_time};
 use refusals::sound::{are_block_times, has_played, is_last_clear};
-use rules::{AutomationRate, Bounds, Edition, Event, Head, LastEvent, MaybeTime, Refusal, Verdict};
+use rules::{AutomationRate, Bounds, Edition, Event, Finished, Refusal};
 use timeline::{AudioParamEventTimeline, curve_end, filed_under, goes_at, is_ramp};
 
 mod taking; // taking.rt: events that can wait, from outside
@@ -25,23 +25,23 @@ pub struct AudioParam {
     intrinsic: f32,
     timeline: AudioParamEventTimeline,
     // the time of the last answered block, and its end
-    block: MaybeTime,
-    end: MaybeTime,
+    block: Option<f64>,
+    end: Option<f64>,
     // the last finished event
-    last: LastEvent,
+    last: Option<Finished>,
 }
 
 // What a call says, and the parameter after it.
 #[derive(Clone, Copy)]
 pub struct Outcome {
-    pub verdict: Verdict,
+    pub verdict: Result<(), Refusal>,
     pub param: AudioParam,
 }
 
 // What a block says, and the parameter after it. `one` says that all its samples are one value.
 #[derive(Clone, Copy)]
 pub struct Processed {
-    pub verdict: Verdict,
+    pub verdict: Result<(), Refusal>,
     pub param: AudioParam,
     pub steps: usize,
     pub current: f32,
@@ -80,23 +80,23 @@ fn target_event(value: f32, time: f64, constant: f64) -> Event
             value,
             time,
             constant,
-            hold: MaybeTime::Missing,
+            hold: None,
         }
     }
 }
 
 // Whether a time is at or before the last answered block's end.
-fn is_by(end: MaybeTime, time: f64) -> bool
+fn is_by(end: Option<f64>, time: f64) -> bool
     ensures { result ≡ is_by end time }
 {
     match end {
-        MaybeTime::Missing => false,
-        MaybeTime::At(end) => time <= end,
+        None => false,
+        Some(end) => time <= end,
     }
 }
 
 // Whether the event is a curve that had started by the last answered block's end.
-fn has_started(end: MaybeTime, e: Event) -> bool
+fn has_started(end: Option<f64>, e: Event) -> bool
     ensures { result ≡ has_started end e }
 {
     match e {
@@ -109,33 +109,33 @@ fn has_started(end: MaybeTime, e: Event) -> bool
 }
 
 // Whether a cancel at c takes the head, and that is a ramp, or a curve that had started.
-fn loses_head(c: f64, end: MaybeTime, head: Head) -> bool
+fn loses_head(c: f64, end: Option<f64>, head: Option<Event>) -> bool
     ensures { result ≡ loses_head c end head }
 {
     match head {
-        Head::Empty => false,
-        Head::Event(e) => goes_at(e, c) & (is_ramp(e) | has_started(end, e)),
+        None => false,
+        Some(e) => goes_at(e, c) & (is_ramp(e) | has_started(end, e)),
     }
 }
 
 // Whether a hold at c takes the head, and that is a curve that had started.
-fn loses_curve(c: f64, end: MaybeTime, head: Head) -> bool
+fn loses_curve(c: f64, end: Option<f64>, head: Option<Event>) -> bool
     ensures { result ≡ loses_curve c end head }
 {
     match head {
-        Head::Empty => false,
-        Head::Event(e) => (c < filed_under(e)) & has_started(end, e),
+        None => false,
+        Some(e) => (c < filed_under(e)) & has_started(end, e),
     }
 }
 
 // The intrinsic value, or the last event's where such a head is lost and there is one.
-fn value_after(lost: bool, last: LastEvent, value: f32) -> f32
+fn value_after(lost: bool, last: Option<Finished>, value: f32) -> f32
     ensures { result ≡ cond lost (returned last value) value }
 {
     if lost {
         match last {
-            LastEvent::None => value,
-            LastEvent::Done(l) => l.value,
+            None => value,
+            Some(l) => l.value,
         }
     } else {
         value
@@ -162,9 +162,9 @@ impl AudioParam {
             edition,
             intrinsic: bounds.default,
             timeline: AudioParamEventTimeline::new(),
-            block: MaybeTime::Missing,
-            end: MaybeTime::Missing,
-            last: LastEvent::None,
+            block: None,
+            end: None,
+            last: None,
         }
     }
 
@@ -181,11 +181,11 @@ impl AudioParam {
     {
         let verdict = refusals::making(bounds, edition);
         match verdict {
-            Verdict::Answered => {
+            Ok(()) => {
                 let param = AudioParam::fresh(bounds, rate, edition_of(edition));
                 Outcome { verdict, param }
             }
-            Verdict::Refused(why) => AudioParam::refused(why),
+            Err(why) => AudioParam::refused(why),
         }
     }
 
@@ -200,7 +200,7 @@ impl AudioParam {
         };
         let param = AudioParam::fresh(zero, AutomationRate::A, Edition::First);
         Outcome {
-            verdict: Verdict::Refused(why),
+            verdict: Err(why),
             param,
         }
     }
@@ -230,21 +230,21 @@ impl AudioParam {
     }
 
     // The last finished event.
-    pub fn last_event(self) -> LastEvent
+    pub fn last_event(self) -> Option<Finished>
         ensures { result ≡ (param_of self).last }
     {
         self.last
     }
 
     // The time of the last answered block.
-    pub fn last_block_time(self) -> MaybeTime
+    pub fn last_block_time(self) -> Option<f64>
         ensures { result ≡ (param_of self).last_block }
     {
         self.block
     }
 
     // The end of the last answered block: its next block time.
-    pub fn last_block_end(self) -> MaybeTime
+    pub fn last_block_end(self) -> Option<f64>
         ensures { result ≡ (param_of self).last_end }
     {
         self.end
@@ -267,7 +267,7 @@ impl AudioParam {
     }
 
     // The event at a place of the queue, or that none waits there.
-    pub fn event_at(self, i: usize) -> Head
+    pub fn event_at(self, i: usize) -> Option<Event>
         requires { SoundParam self }
         ensures { result ≡ first_of (drop i (param_of self).queue) }
     {
@@ -307,7 +307,7 @@ impl AudioParam {
         ensures { result ≡ is_crossed (param_of self).queue start duration }
     {
         let q = self.timeline;
-        let end = curve_end(start, duration, MaybeTime::Missing);
+        let end = curve_end(start, duration, None);
         q.any_covers(start) | q.any_inside(start, end)
     }
 
@@ -319,22 +319,22 @@ impl AudioParam {
         p.timeline = timeline;
         p.intrinsic = intrinsic;
         Outcome {
-            verdict: Verdict::Answered,
+            verdict: Ok(()),
             param: p,
         }
     }
 
     // Where the verdict is that the call is answered, the event waits; else nothing changes.
-    fn schedule(self, verdict: Verdict, e: Event) -> Outcome
+    fn schedule(self, verdict: Result<(), Refusal>, e: Event) -> Outcome
         requires { SoundParam self × HasRoom verdict (param_of self).queue }
         ensures { result ≡ outcome_of (scheduled_as verdict (param_of self) [] e) }
     {
         match verdict {
-            Verdict::Answered => {
+            Ok(()) => {
                 let q = self.timeline;
                 self.answered(q.push(e), self.intrinsic)
             }
-            Verdict::Refused(_) => Outcome {
+            Err(_) => Outcome {
                 verdict,
                 param: self,
             },
@@ -366,7 +366,7 @@ impl AudioParam {
         let time = taken_time(end_time);
         let inside = self.is_inside(time);
         let verdict = refusals::value(inside, self.is_full(), value, end_time);
-        let hold = MaybeTime::Missing;
+        let hold = None;
         self.schedule(verdict, Event::Linear { value, time, hold })
     }
 
@@ -377,7 +377,7 @@ impl AudioParam {
         let time = taken_time(end_time);
         let inside = self.is_inside(time);
         let verdict = refusals::exponential(inside, self.is_full(), value, end_time);
-        let hold = MaybeTime::Missing;
+        let hold = None;
         self.schedule(verdict, Event::Exponential { value, time, hold })
     }
 
@@ -410,11 +410,11 @@ impl AudioParam {
         let lent = store.len() == AudioParam::STORE;
         let verdict = refusals::curve(values, start_time, duration, crossed, full, crowded, lent);
         match verdict {
-            Verdict::Answered => {
+            Ok(()) => {
                 let q = curves::insert(q, start, duration, values, store);
                 self.answered(q, self.intrinsic)
             }
-            Verdict::Refused(_) => {
+            Err(_) => {
                 // Nothing is written: the store stays as it was lent.
                 Outcome {
                     verdict,
@@ -430,7 +430,7 @@ impl AudioParam {
     {
         let verdict = refusals::cancel(cancel_time, store.len() == AudioParam::STORE);
         match verdict {
-            Verdict::Answered => {
+            Ok(()) => {
                 let c = taken_time(cancel_time);
                 let q = self.timeline;
                 let end = self.end;
@@ -439,7 +439,7 @@ impl AudioParam {
                 let q = curves::cancel(q, c, store);
                 self.answered(q, value)
             }
-            Verdict::Refused(_) => Outcome {
+            Err(_) => Outcome {
                 verdict,
                 param: self,
             },
@@ -452,7 +452,7 @@ impl AudioParam {
     {
         let verdict = refusals::cancel(cancel_time, store.len() == AudioParam::STORE);
         match verdict {
-            Verdict::Answered => {
+            Ok(()) => {
                 let c = taken_time(cancel_time);
                 let q = self.timeline;
                 let end = self.end;
@@ -461,7 +461,7 @@ impl AudioParam {
                 let q = curves::hold(q, c, store);
                 self.answered(q, value)
             }
-            Verdict::Refused(_) => Outcome {
+            Err(_) => Outcome {
                 verdict,
                 param: self,
             },
@@ -475,9 +475,9 @@ impl AudioParam {
         edition: Edition,
         intrinsic: f32,
         timeline: AudioParamEventTimeline,
-        block: MaybeTime,
-        end: MaybeTime,
-        last: LastEvent,
+        block: Option<f64>,
+        end: Option<f64>,
+        last: Option<Finished>,
     ) -> Outcome
         ensures { Restores (parts_of bounds rate edition intrinsic timeline block end last) result }
     {
@@ -500,7 +500,7 @@ impl AudioParam {
                 last,
             };
             Outcome {
-                verdict: Verdict::Answered,
+                verdict: Ok(()),
                 param,
             }
         } else {

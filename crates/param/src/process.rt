@@ -8,28 +8,28 @@ ghost use Rattle.param.specs.Param.{param_of, SoundParam};
 ghost use Rattle.param.specs.Processed.{length_of_head, unplayed, afterwards, Playable, Plays, Gives, Processes};
 
 use crate::{AudioParam, Processed, ceiling_of};
-use rules::{BlockInfos, Head, LastEvent, MaybeTime, Verdict};
+use rules::{BlockInfos, Event, Finished, Refusal};
 use timeline::AudioParamEventTimeline;
 
 // What the events of a block leave, and what the block says of them.
 #[derive(Clone, Copy)]
 pub struct Played {
     pub intrinsic: f32,
-    pub last: LastEvent,
+    pub last: Option<Finished>,
     // how many are finished, and what the one behind them has become
     pub at: usize,
-    pub head: Head,
+    pub head: Option<Event>,
     pub steps: usize,
     pub one: bool,
 }
 
 // How many numbers of the store are the head's.
-fn length_of_head(head: Head) -> usize
+fn length_of_head(head: Option<Event>) -> usize
     ensures { result ≡ length_of_head head }
 {
     match head {
-        Head::Empty => 0,
-        Head::Event(e) => timeline::length_of(e),
+        None => 0,
+        Some(e) => timeline::length_of(e),
     }
 }
 
@@ -47,7 +47,7 @@ fn numbers_waiting(q: AudioParamEventTimeline) -> usize
 
 impl AudioParam {
     // A refused block: nothing changes.
-    pub fn refused_block(self, verdict: Verdict) -> Processed
+    pub fn refused_block(self, verdict: Result<(), Refusal>) -> Processed
         ensures { result ≡ unplayed self verdict }
     {
         Processed {
@@ -78,12 +78,12 @@ impl AudioParam {
             edition,
             intrinsic: played.intrinsic,
             timeline,
-            block: MaybeTime::At(infos.time),
-            end: MaybeTime::At(infos.next),
+            block: Some(infos.time),
+            end: Some(infos.next),
             last,
         };
         Processed {
-            verdict: Verdict::Answered,
+            verdict: Ok(()),
             param,
             steps: played.steps,
             current: mix::mixed_value(bounds, 0.0, self.intrinsic),
@@ -127,7 +127,7 @@ impl AudioParam {
             intrinsic: self.intrinsic,
             last,
             at: 0,
-            head: Head::Empty,
+            head: None,
             steps: 1,
             one: block::says_one(rate, true, input.len()),
         }
@@ -195,7 +195,7 @@ impl AudioParam {
             output.len(),
             store.len() == AudioParam::STORE,
         );
-        let Verdict::Answered = verdict else {
+        let Ok(()) = verdict else {
             return self.refused_block(verdict);
         };
         let rate = self.rate;

@@ -1,4 +1,6 @@
 -- A block by looks: what a look at a parameter finds, the sample at a place, and what the block says and leaves. Assumes nothing.
+use Rattle.std.proofs.Common.{Option, None, Ok}
+use Rattle.rules.specs.declared.Finished.{Finished}
 use mathlib.Core.Path.{◌≡◌, refl, sym, ap, subst, ◌∙◌}
 use mathlib.Core.Bool.{Bool, true, false, cond}
 use mathlib.Core.List.{List, [], ◌∷◌}
@@ -12,9 +14,6 @@ use lib.Ieee.{Float, nan}
 use Rattle.rules.specs.declared.AutomationRate.{AutomationRate}
 use Rattle.rules.specs.declared.AutomationRate.TheVariants as Rate
 use Rattle.rules.specs.declared.BlockInfos.{BlockInfos}
-use Rattle.rules.specs.declared.Head.TheVariants as Head
-use Rattle.rules.specs.declared.LastEvent.{LastEvent}
-use Rattle.rules.specs.declared.Verdict.TheVariants as Verdict
 use Rattle.rules.specs.Numbers.{plus_zero}
 use Rattle.rules.specs.Queue.{Waiting, head_of, attached}
 use Rattle.rules.specs.Refusals.{fits_count}
@@ -54,7 +53,7 @@ place_inside f place h = go f.rate
     go Rate.K = omega arith
 
 -- before the first head, by the rate
-module _ (f : BlockInfos) (place : ℕ) (v : Float) (l : LastEvent) where
+module _ (f : BlockInfos) (place : ℕ) (v : Float) (l : Option Finished) where
   unfoldable by_rate : AutomationRate → Look
   by_rate r =
       record {
@@ -80,7 +79,7 @@ module _ (f : BlockInfos) (place : ℕ) (v : Float) (l : LastEvent) where
   begun_k r = sym (ap by_rate r)
 
 -- one that no head was taken of has not walked
-pub not_walked : (f : BlockInfos) (n : ℕ) (v : Float) (l : LastEvent) {look : Look} → look ≡ seen f n (walk_from v l (values_before f.rate v) 0)
+pub not_walked : (f : BlockInfos) (n : ℕ) (v : Float) (l : Option Finished) {look : Look} → look ≡ seen f n (walk_from v l (values_before f.rate v) 0)
     → look ≡ seen look.infos look.place (unwalked look)
 unfolding seen
 not_walked f n v l e = rw e
@@ -92,7 +91,7 @@ module _ (p : AudioParam) (f : BlockInfos) (store : List Float) (place : ℕ) wh
   abbrev v : Float
   v = (param_of p).intrinsic
 
-  abbrev l : LastEvent
+  abbrev l : Option Finished
   l = (param_of p).last
 
   abbrev ws : List Waiting
@@ -113,7 +112,7 @@ module _ (p : AudioParam) (f : BlockInfos) (store : List Float) (place : ℕ) wh
       go true = refl
       go false = refl
 
-  pub rests : {look : Look} → look ≡ seen f n first → rests_for f (first_of (param_of p).queue) ≡ true → place < f.count → Looks p f store place (ended_as (counted_as look) 0 Head.Empty)
+  pub rests : {look : Look} → look ≡ seen f n first → rests_for f (first_of (param_of p).queue) ≡ true → place < f.count → Looks p f store place (ended_as (counted_as look) 0 None)
   unfolding rendered rendered_as with_head seen
   rests e h few =
       let r : rests_for f (head_of ws) ≡ true = ap (rests_for f) (head_attached (param_of p).queue store) ∙ h in
@@ -184,7 +183,7 @@ module _ (p : AudioParam) (f : BlockInfos) (input store : List Float) (fits : fi
 -- ---- what the block says and leaves
 
 pub carries : (p : AudioParam) (f : BlockInfos) (store : List Float) → Lookable p f store → {looked : Looked} → Looks p f store 0 looked → (c : Call) → f ≡ infos_of (param_of p).rate c
-    → verdict_of (param_of p) store c ≡ Verdict.Answered → {one : Bool} → one ≡ says_one (param_of p).rate (rests_for f (first_of (param_of p).queue)) c.input → (out : List Float)
+    → verdict_of (param_of p) store c ≡ Ok tt → {one : Bool} → one ≡ says_one (param_of p).rate (rests_for f (first_of (param_of p).queue)) c.input → (out : List Float)
     → out ≡ written (param_of p).bounds f c.input (block_of p f store).walk.values c.output → {r : Processed} {after : List Float}
     → Gives p f (record { intrinsic = looked.look.intrinsic; last = looked.look.last; at = looked.at; head = looked.head; steps = looked.look.steps; one = one }) store r after
     → Processes p store c r out after

@@ -1,4 +1,5 @@
 -- The walk of a look as a loop over heads: what holds before each, and what each does of the rules' walk. Assumes nothing.
+use Rattle.std.proofs.Common.{Option, Some, None}
 use mathlib.Core.Path.{◌≡◌, refl, sym, ap, subst, ◌∙◌}
 use mathlib.Core.Bool.{Bool, true, false, cond}
 use mathlib.Core.List.{List, [], ◌∷◌}
@@ -10,7 +11,6 @@ use lib.Ieee.{Float}
 use borrow.Author.Tests.{leb-true, leb-false}
 use Rattle.rules.specs.declared.BlockInfos.{BlockInfos}
 use Rattle.rules.specs.declared.Event.{Event}
-use Rattle.rules.specs.declared.Head.{Head}
 use Rattle.rules.specs.Numbers.{plus_zero}
 use Rattle.rules.specs.Queue.{Waiting, head_of, length_of, lengths_of, attached}
 use Rattle.rules.specs.Walk as rule
@@ -74,7 +74,7 @@ module _ (f : BlockInfos) (n : ℕ) (w : rule.Walk) (few : n < f.count) where
       go false true h g = unfold seen in value (fill_passed f f.count (λ t. w.intrinsic) w n (omega arith) (leb-true f.count k g))
       go false false h g = value (fill_other f f.count (λ t. w.intrinsic) w n (omega arith) (leb-false f.count k g) (rw h))
 
-  pub finds : {s : Look} → s ≡ seen f n w → (at : ℕ) (head : Head) (ws left : List Waiting) → with_head head (drop at ws) ≡ left → Finds n (ended f w left) ws (ended_as s at head)
+  pub finds : {s : Look} → s ≡ seen f n w → (at : ℕ) (head : Option Event) (ws left : List Waiting) → with_head head (drop at ws) ≡ left → Finds n (ended f w left) ws (ended_as s at head)
   unfolding seen ended fill with_values
   finds {s} e at head ws left q =
       record {
@@ -113,15 +113,15 @@ module _ (f : BlockInfos) (es : List Event) (store : List Float) (n : ℕ) (w₀
     same_infos = ap (λ (l : Look). l.infos) g.is
 
     -- the queue is empty
-    pub none_left : n < f.count → first_of (drop at es) ≡ Head.Empty → Finds n (walked f w₀ ws) ws (ended_as (counted_as look) at Head.Empty)
+    pub none_left : n < f.count → first_of (drop at es) ≡ None → Finds n (walked f w₀ ws) ws (ended_as (counted_as look) at None)
     unfolding with_head
     none_left few h =
         let y : drop at ws ≡ [] = none_waits es store at h in
         let all : walked f w₀ ws ≡ ended f (counted g.walk) [] = sym g.goes_on ∙ ap (walked f g.walk) y ∙ walk_empty f g.walk in
-        rw all (finds f n (counted g.walk) few (counted_is f n g.walk g.is) at Head.Empty ws [] y)
+        rw all (finds f n (counted g.walk) few (counted_is f n g.walk g.is) at None ws [] y)
 
     -- the head e, with its numbers
-    module _ {e : Event} (is : first_of (drop at es) ≡ Head.Event e) {offset : ℕ} (from : offset ≡ lengths_of (take at es)) where
+    module _ {e : Event} (is : first_of (drop at es) ≡ Some e) {offset : ℕ} (from : offset ≡ lengths_of (take at es)) where
       abbrev head : Waiting
       head = waiting_as e (numbers_at store offset e)
 
@@ -132,14 +132,14 @@ module _ (f : BlockInfos) (es : List Event) (store : List Float) (n : ℕ) (w₀
       here = waits_here es store at from is
 
       -- taken, with m numbers from the offset on
-      module _ {m : ℕ} (size : m ≡ length_of e) {next : Head} (behind : next ≡ first_of (drop (at + 1) es)) {t : Turn}
+      module _ {m : ℕ} (size : m ≡ length_of e) {next : Option Event} (behind : next ≡ first_of (drop (at + 1) es)) {t : Turn}
           (answer : t ≡ seen_turn f n (turn_of f (counted g.walk) (waiting_as e (lent store offset m)) next e)) where
         turned : t ≡ seen_turn f n (turn f g.walk head (head_of rest))
         unfolding turn
         turned = rw (lent_is store offset e size, behind_is es store at behind) at answer
 
         pub head_stops : n < f.count → SoundQueue es → lengths_of es ≤ length store → {s : Look} {left : Event} → t ≡ Turn.Stop s left
-            → Finds n (walked f w₀ ws) ws (ended_as s at (Head.Event left))
+            → Finds n (walked f w₀ ws) ws (ended_as s at (Some left))
         unfolding with_head
         head_stops few sound room {s} {left} stops =
             let d = stopped f n _ s left (sym stops ∙ turned) in
@@ -149,8 +149,8 @@ module _ (f : BlockInfos) (es : List Event) (store : List Float) (n : ℕ) (w₀
             ap (λ (y : Event). waiting_as y (numbers_at store offset e)) d.head_is ∙ ap (waiting_as d.left.event) (sym numbers) in
             let all : walked f w₀ ws ≡ ended f d.walk (d.left ∷ rest) =
             sym g.goes_on ∙ ap (walked f g.walk) here ∙ walk_stops f g.walk head rest d.walk d.left d.is in
-            let queue : with_head (Head.Event left) (drop at ws) ≡ d.left ∷ rest = ap (with_head (Head.Event left)) here ∙ ap (λ (y : Waiting). y ∷ rest) became in
-            subst (λ (x : rule.Walked). Finds n x ws (ended_as s at (Head.Event left))) (sym all) (finds f n d.walk few d.look_is at (Head.Event left) ws (d.left ∷ rest) queue)
+            let queue : with_head (Some left) (drop at ws) ≡ d.left ∷ rest = ap (with_head (Some left)) here ∙ ap (λ (y : Waiting). y ∷ rest) became in
+            subst (λ (x : rule.Walked). Finds n x ws (ended_as s at (Some left))) (sym all) (finds f n d.walk few d.look_is at (Some left) ws (d.left ∷ rest) queue)
 
         pub head_goes : {s : Look} → t ≡ Turn.On s → Going f es store n w₀ s (at + 1)
         head_goes {s} goes =

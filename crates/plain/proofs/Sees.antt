@@ -1,4 +1,5 @@
 -- What a look sees of each thing that a body of the rules does to a walk. Assumes nothing.
+use Rattle.std.proofs.Common.{Option, Some, None}
 use mathlib.Core.Path.{◌≡◌, refl, sym, ap, ◌∙◌}
 use mathlib.Core.Bool.{Bool, true, false, cond, ◌&&◌}
 use mathlib.Core.List.{List, [], ◌∷◌, ◌++◌}
@@ -15,9 +16,6 @@ use Rattle.rules.specs.declared.AutomationRate.{AutomationRate}
 use Rattle.rules.specs.declared.AutomationRate.TheVariants as Rate
 use Rattle.rules.specs.declared.BlockInfos.{BlockInfos}
 use Rattle.rules.specs.declared.Event.{Event}
-use Rattle.rules.specs.declared.Head.{Head}
-use Rattle.rules.specs.declared.LastEvent.{LastEvent}
-use Rattle.rules.specs.declared.MaybeTime.{MaybeTime}
 use Rattle.rules.specs.Numbers.{plus_zero, is_zero, is_subnormal, end_place, run, time_at, filled}
 use Rattle.rules.specs.Samples.{is_ratio, ratio_of, last_number}
 use Rattle.rules.specs.Queue.{Waiting, hold_or, filed_under}
@@ -212,7 +210,7 @@ consumed_as t v l =
       found = l.found;
       filled = l.filled;
       intrinsic = v;
-      last = LastEvent.Done (record { time = t; value = v });
+      last = Some (record { time = t; value = v });
       steps = l.steps;
     }
 
@@ -238,7 +236,7 @@ module _ (f : BlockInfos) (n : ℕ) (w : Walk) (xs : List Float) where
       go true rest e = unfold seen_turn seen with_intrinsic in rw (← e)
       go false rest e = refl
 
-  module _ (v t : Float) (h : MaybeTime) where
+  module _ (v t : Float) (h : Option Float) where
     abbrev begun : Walk
     begun = with_last (start_of f w) w
 
@@ -256,13 +254,13 @@ module _ (f : BlockInfos) (n : ℕ) (w : Walk) (xs : List Float) where
     unfolding exponential_turn
     exponential_turns r = rw r
 
-    pub target_is : (c : Float) (m : Head)
+    pub target_is : (c : Float) (m : Option Event)
         → let x = waiting_as (Event.Target v t c h) xs in
         begun_turn f begun x v (end_by_hold f h (end_by_next f t m)) (sample_of (Event.Target v t c h) xs f begun) ≡ target_turn f w x v t c h m
     unfolding begun_turn target_turn sample_from filed_under start_of last_or with_last
     target_is c m = refl
 
-  module _ (s d : Float) (k : ℕ) (h : MaybeTime) where
+  module _ (s d : Float) (k : ℕ) (h : Option Float) where
     abbrev head : Waiting
     head = waiting_as (Event.Curve s d k h) xs
 
@@ -276,21 +274,21 @@ module _ (f : BlockInfos) (n : ℕ) (w : Walk) (xs : List Float) where
 
 -- a target that has its last event
 module _ (f : BlockInfos) (n : ℕ) (w : Walk) (x : Waiting) (target : Float) (sample : Float → Float) where
-  pub target_waits : (end : MaybeTime) → Ieee.lt f.next (filed_under x.event) ≡ true → {r : Look} → r ≡ seen f n w
+  pub target_waits : (end : Option Float) → Ieee.lt f.next (filed_under x.event) ≡ true → {r : Look} → r ≡ seen f n w
       → Turn.Stop r x.event ≡ seen_turn f n (begun_turn f w x target end sample)
   unfolding begun_turn seen_turn
   target_waits end g e = rw (g, e)
 
   module _ (g : Ieee.lt f.next (filed_under x.event) ≡ false) where
-    pub target_ends : {m : MaybeTime} {end : Float} → m ≡ MaybeTime.At end → ran f w x end false (sample end) sample ≡ begun_turn f w x target m sample
+    pub target_ends : {m : Option Float} {end : Float} → m ≡ Some end → ran f w x end false (sample end) sample ≡ begun_turn f w x target m sample
     unfolding begun_turn target_run ran
     target_ends is = rw (g, is)
 
-    pub target_stays : {m : MaybeTime} → m ≡ MaybeTime.Missing → snaps target (sample f.next) ≡ false → (v : Float) → ran f w x f.next true v sample ≡ begun_turn f w x target m sample
+    pub target_stays : {m : Option Float} → m ≡ None → snaps target (sample f.next) ≡ false → (v : Float) → ran f w x f.next true v sample ≡ begun_turn f w x target m sample
     unfolding begun_turn target_run target_left ran
     target_stays is s v = rw (g, is, s)
 
-    pub target_snaps : {m : MaybeTime} → m ≡ MaybeTime.Missing → snaps target (sample f.next) ≡ true → {r : Look}
+    pub target_snaps : {m : Option Float} → m ≡ None → snaps target (sample f.next) ≡ true → {r : Look}
         → r ≡ seen f n (with_values (flushed_for target (fill f (end_place f f.next) sample w).values) (fill f (end_place f f.next) sample w))
         → Turn.Stop (with_intrinsic_as target r) (Event.Step target f.next) ≡ seen_turn f n (begun_turn f w x target m sample)
     unfolding begun_turn target_run target_left seen_turn seen with_intrinsic

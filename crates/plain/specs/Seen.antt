@@ -1,5 +1,5 @@
 -- What a look sees of the rules' walk: of all its values one, that of its place. No body of the rules looks at the values, so that each of their turns is seen as one.
-use Rattle.std.specs.Prelude.{◌≡◌, Bool, cond, List, ℕ, zero, suc, ◌+◌, ◌≤◌, leb, length, drop, get_or, Float}
+use Rattle.std.specs.Prelude.{◌≡◌, Bool, cond, List, ℕ, zero, suc, ◌+◌, ◌≤◌, leb, length, drop, get_or, Float, Option, Some, Ok}
 use Rattle.std.specs.Float.Ieee as Ieee
 use Rattle.std.specs.Float.{binary64}
 use Rattle.rules.specs.declared.AutomationRate.{AutomationRate}
@@ -7,10 +7,6 @@ use Rattle.rules.specs.declared.AutomationRate.TheVariants as Rate
 use Rattle.rules.specs.declared.BlockInfos.{BlockInfos}
 use Rattle.rules.specs.declared.Event.{Event}
 use Rattle.rules.specs.declared.Finished.{Finished}
-use Rattle.rules.specs.declared.Head.{Head}
-use Rattle.rules.specs.declared.LastEvent.TheVariants as LastEvent
-use Rattle.rules.specs.declared.MaybeTime.{MaybeTime}
-use Rattle.rules.specs.declared.Verdict.TheVariants as Verdict
 use Rattle.rules.specs.Numbers.{plus_zero, store_length, end_place}
 use Rattle.rules.specs.Samples.{linear_sample, exponential_sample, target_sample, curve_sample}
 use Rattle.rules.specs.Queue.{Waiting, filed_under, lengths_of, attached}
@@ -91,7 +87,7 @@ ran f w x end stops value sample =
     cond stops (rule.stop (rule.with_intrinsic (sample f.next) rest) x) (rule.on (rule.consumed end value rest))
 
 -- the rules' turn of a target that has its last event, and ends at `end` if it does in the block
-unfoldable pub begun_turn : BlockInfos → rule.Walk → Waiting → Float → MaybeTime → (Float → Float) → rule.Turn
+unfoldable pub begun_turn : BlockInfos → rule.Walk → Waiting → Float → Option Float → (Float → Float) → rule.Turn
 begun_turn f w x target end sample = cond (Ieee.lt f.next (filed_under x.event)) (rule.stop w x) (target_run f w x target sample end)
 
 -- ---- a look
@@ -114,12 +110,12 @@ started_as l =
       found = l.found;
       filled = l.filled;
       intrinsic = l.intrinsic;
-      last = LastEvent.Done (last_or l.infos l.intrinsic l.last);
+      last = Some (last_or l.infos l.intrinsic l.last);
       steps = l.steps;
     }
 
 -- "Places left when a walk stops take the intrinsic value"
-abbrev pub ended_as : Look → ℕ → Head → Looked
+abbrev pub ended_as : Look → ℕ → Option Event → Looked
 ended_as l at head =
     record {
       look =
@@ -176,5 +172,5 @@ Looks p f store place r = Finds (place_for f.rate place) (block_of p f store) (a
 -- of every answered block with these infos, and an input of n numbers: with its samples written, all else is as the rules have it
 abbrev pub Carries : AudioParam → BlockInfos → ℕ → List Float → Processed → List Float → Type 0
 Carries p f n store r after =
-    (c : Call) → f ≡ infos_of (param_of p).rate c → verdict_of (param_of p) store c ≡ Verdict.Answered → length c.input ≡ n → (out : List Float)
+    (c : Call) → f ≡ infos_of (param_of p).rate c → verdict_of (param_of p) store c ≡ Ok tt → length c.input ≡ n → (out : List Float)
     → out ≡ written (param_of p).bounds f c.input (block_of p f store).walk.values c.output → Processes p store c r out after

@@ -14,7 +14,7 @@ ghost use Rattle.param.specs.Processed.{Processes, Playable};
 ghost use Rattle.plain.specs.Seen.{seen, seen_turn, sample_of, sample_seen, ran, begun_turn, Follows, time_after, unwalked, counted_as, started_as, ended_as, block_of, Lookable, Walks, Looks, Carries};
 
 use param::{AudioParam, Processed};
-use rules::{AutomationRate, BlockInfos, Event, Finished, Head, LastEvent, MaybeTime, Verdict};
+use rules::{AutomationRate, BlockInfos, Event, Finished};
 use samples::end_place_of;
 use timeline::{filed_under, hold_or, is_ramp};
 
@@ -43,7 +43,7 @@ pub fn process(
         output.len(),
         store.len() == AudioParam::STORE,
     );
-    let Verdict::Answered = verdict else {
+    let Ok(()) = verdict else {
         return param.refused_block(verdict);
     };
     let infos = block::infos_of(param.automation_rate(), block_time, period, count);
@@ -104,7 +104,7 @@ pub struct Look {
     pub filled: usize,
     // the intrinsic value, and the last finished event
     pub intrinsic: f32,
-    pub last: LastEvent,
+    pub last: Option<Finished>,
     // how many heads were taken
     pub steps: usize,
 }
@@ -114,7 +114,7 @@ pub struct Look {
 pub struct Looked {
     pub look: Look,
     pub at: usize,
-    pub head: Head,
+    pub head: Option<Event>,
 }
 
 // At K-rate the block's one value is the intrinsic value before the walk, and the walk writes no samples: for the look all places are filled. A block that no event
@@ -142,13 +142,13 @@ fn look_at(param: AudioParam, infos: BlockInfos, store: &[f32], place: usize) ->
         look.filled = 0;
     }
     if block::rests_for(infos, param.event_at(0)) {
-        return ended(counted(look), 0, Head::Empty);
+        return ended(counted(look), 0, None);
     }
     walk(look, param, store)
 }
 
 // Places left when a walk stops take the intrinsic value.
-fn ended(stopped: Look, at: usize, head: Head) -> Looked
+fn ended(stopped: Look, at: usize, head: Option<Event>) -> Looked
     ensures { result ≡ ended_as stopped at head }
 {
     let mut look = stopped;
@@ -166,15 +166,15 @@ fn walk(begun: Look, param: AudioParam, store: &[f32]) -> Looked
     let mut look = begun;
     let mut at = 0usize;
     loop {
-        let Head::Event(event) = param.event_at(at) else {
-            return ended(counted(look), at, Head::Empty);
+        let Some(event) = param.event_at(at) else {
+            return ended(counted(look), at, None);
         };
         let from = param.offset_of(at);
         let to = from + timeline::length_of(event);
         let next = param.event_at(at + 1);
         let turn = take_head(counted(look), event, &store[from..to], next);
         match turn {
-            Turn::Stop(stopped, left) => return ended(stopped, at, Head::Event(left)),
+            Turn::Stop(stopped, left) => return ended(stopped, at, Some(left)),
             Turn::On(gone) => look = gone,
         }
         at += 1;
@@ -201,7 +201,7 @@ pub enum Turn {
 
 // The head's own rule, with `next` behind it. An exponential ramp whose ratio, end value / start value, is not finite and above 0 becomes a step to its end value at
 // its end. A curve whose start is after the next block time stops; else its end is its start plus its duration, with its last number.
-fn take_head(look: Look, event: Event, numbers: &[f32], next: Head) -> Turn
+fn take_head(look: Look, event: Event, numbers: &[f32], next: Option<Event>) -> Turn
     requires { (look.infos.count ≤ 1024) × (look.steps < 2 ^ 32) × Numbered event numbers.now }
     ensures { (f : BlockInfos) (n : ℕ) (w : rule.Walk) → look ≡ seen f n w → result ≡ seen_turn f n (rule.turn_of f w (waiting_as event numbers.now) next event) }
 {
@@ -239,7 +239,7 @@ fn take_head(look: Look, event: Event, numbers: &[f32], next: Head) -> Turn
 fn started(look: Look) -> Look
     ensures { result ≡ started_as look }
 {
-    let last = LastEvent::Done(start_of(look));
+    let last = Some(start_of(look));
     Look { last, ..look }
 }
 
@@ -247,7 +247,7 @@ fn start_of(look: Look) -> Finished
     ensures { result ≡ rule.last_or look.infos look.intrinsic look.last }
 {
     let last = look.last;
-    let LastEvent::Done(from) = last else {
+    let Some(from) = last else {
         let time = look.infos.time;
         let value = look.intrinsic;
         return Finished { time, value };
@@ -266,14 +266,14 @@ fn step(look: Look, numbers: &[f32], value: f32, time: f64) -> Turn
 }
 
 // Ramps and curves: the end is the hold time, else `time`; held, they end with the value there, else with `value`. An end at or behind the next block time: stop.
-fn span(look: Look, event: Event, numbers: &[f32], time: f64, value: f32, hold: MaybeTime) -> Turn
+fn span(look: Look, event: Event, numbers: &[f32], time: f64, value: f32, hold: Option<f64>) -> Turn
     requires { (look.infos.count ≤ 1024) × Follows event numbers.now }
     ensures { (f : BlockInfos) (n : ℕ) (w : rule.Walk) → look ≡ seen f n w → result ≡ seen_turn f n (rule.span_turn f w (waiting_as event numbers.now) time value hold (sample_of event numbers.now f w)) }
 {
     let end = hold_or(hold, time);
     let at_end = match hold {
-        MaybeTime::Missing => value,
-        MaybeTime::At(c) => value_at(look, event, numbers, c),
+        None => value,
+        Some(c) => value_at(look, event, numbers, c),
     };
     run(look, event, numbers, end, end >= look.infos.next, at_end)
 }
@@ -290,13 +290,13 @@ fn run(look: Look, event: Event, numbers: &[f32], end: f64, stops: bool, value: 
         return Turn::Stop(filled, event);
     }
     filled.intrinsic = value;
-    let last = LastEvent::Done(Finished { time: end, value });
+    let last = Some(Finished { time: end, value });
     Turn::On(Look { last, ..filled })
 }
 
 // Target: if its start is after the next block time, stop. Ended in the block: consume it, with its end and the value there. Not ended: it stops, and with a value at
 // the next block time that is within 1e-10 of the target it snaps: it becomes a step to the target then, and subnormal samples become 0 where the target is 0.
-fn target(look: Look, event: Event, numbers: &[f32], value: f32, end: MaybeTime) -> Turn
+fn target(look: Look, event: Event, numbers: &[f32], value: f32, end: Option<f64>) -> Turn
     requires { (look.infos.count ≤ 1024) × Follows event numbers.now }
     ensures { (f : BlockInfos) (n : ℕ) (w : rule.Walk) → look ≡ seen f n w → result ≡ seen_turn f n (begun_turn f w (waiting_as event numbers.now) value end (sample_of event numbers.now f w)) }
 {
@@ -304,7 +304,7 @@ fn target(look: Look, event: Event, numbers: &[f32], value: f32, end: MaybeTime)
     if filed_under(event) > next {
         return Turn::Stop(look, event);
     }
-    if let MaybeTime::At(end) = end {
+    if let Some(end) = end {
         let at_end = value_at(look, event, numbers, end);
         return run(look, event, numbers, end, false, at_end);
     }
@@ -323,22 +323,22 @@ fn target(look: Look, event: Event, numbers: &[f32], value: f32, end: MaybeTime)
 
 // Where a target ends, if it does in the block: at a hold time below the next block time; else, if a ramp is next, at the later of block time and its start; else at
 // the next event's time, if that is below the next block time.
-fn target_end(infos: BlockInfos, start: f64, hold: MaybeTime, next: Head) -> MaybeTime
+fn target_end(infos: BlockInfos, start: f64, hold: Option<f64>, next: Option<Event>) -> Option<f64>
     ensures { result ≡ rule.end_by_hold infos hold (rule.end_by_next infos start next) }
 {
     if hold_or(hold, infos.next) < infos.next {
         return hold;
     }
-    let Head::Event(event) = next else {
-        return MaybeTime::Missing;
+    let Some(event) = next else {
+        return None;
     };
     if is_ramp(event) {
-        return MaybeTime::At(floats::later_of(infos.time, start));
+        return Some(floats::later_of(infos.time, start));
     }
     if filed_under(event) < infos.next {
-        return MaybeTime::At(filed_under(event));
+        return Some(filed_under(event));
     }
-    MaybeTime::Missing
+    None
 }
 
 // ---- how the value of a head goes with time

@@ -1,4 +1,5 @@
 -- Two states that differ only in what waits behind the shared events: one block, then all blocks while two of the shared still wait. Assumes nothing.
+use Rattle.std.proofs.Common.{Ok, Err}
 use mathlib.Core.Path.{◌≡◌, refl, sym, ap, ap₂, ◌∙◌}
 use mathlib.Core.Bool.{Bool, true, false, cond}
 use mathlib.Core.List.{List, [], ◌∷◌, ◌++◌, map}
@@ -7,7 +8,6 @@ use native.Mathlib.Omega.{arith}
 use lib.ListN.{length, length-append}
 use borrow.Author.Tests.{leb-true, leb-false}
 use Rattle.rules.specs.declared.Refusal.{Refusal}
-use Rattle.rules.specs.declared.Verdict.{Verdict}
 use Rattle.rules.specs.Queue.{Waiting, head_of}
 use Rattle.rules.specs.Refusals.{block_rows}
 use Rattle.rules.specs.Walk.{Walked}
@@ -57,9 +57,9 @@ unfolding apart after
 bare-same s t c e = ap (λ (x : Answer). x.param) e
 
 module _ (a b shared : List Waiting) (s t : State) (h : Beside a b shared s t) (c : Call) where
-  answered_agree : verdict_of s.param s.store c ≡ Verdict.Answered → length a + enough ≤ length (after s c).param.queue → Agree a b s t c
+  answered_agree : verdict_of s.param s.store c ≡ Ok tt → length a + enough ≤ length (after s c).param.queue → Agree a b s t c
   answered_agree e two =
-      let d : verdict_of t.param t.store c ≡ Verdict.Answered = same_verdict h c ∙ e in
+      let d : verdict_of t.param t.store c ≡ Ok _ = same_verdict h c ∙ e in
       let p : Param = bare s in
       let l : Walked = walk_over p (shared ++ a) c in
       let r : Walked = walk_over p (shared ++ b) c in
@@ -86,14 +86,14 @@ module _ (a b shared : List Waiting) (s t : State) (h : Beside a b shared s t) (
         heard = said;
       }
 
-  refused_agree : (why : Refusal) → verdict_of s.param s.store c ≡ Verdict.Refused why → Agree a b s t c
+  refused_agree : (why : Refusal) → verdict_of s.param s.store c ≡ Err why → Agree a b s t c
   unfolding answer_to answered answered_as apart
   refused_agree why e =
-      let d : verdict_of t.param t.store c ≡ Verdict.Refused why = same_verdict h c ∙ e in
+      let d : verdict_of t.param t.store c ≡ Err why = same_verdict h c ∙ e in
       record {
         shared = shared;
         left = rw (refused_leaves s c why e, refused_leaves t c why d) h;
-        heard = rw (e, d) (ap (λ (p : Param). apart (answered_as (Verdict.Refused why) p [] c)) h.same);
+        heard = rw (e, d) (ap (λ (p : Param). apart (answered_as (Err why) p [] c)) h.same);
       }
 
   one_block : length a + enough ≤ length (after s c).param.queue → Agree a b s t c

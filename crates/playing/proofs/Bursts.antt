@@ -1,4 +1,5 @@
 -- Where two cancels are not one: on a queue that 02's C-14 shuts out, and with a hold between the two. The checker plays both.
+use Rattle.std.proofs.Common.{Some, None, Ok, Err}
 use mathlib.Core.Path.{◌≡◌, refl, sym, ap, ◌∙◌}
 use mathlib.Core.Bool.{false}
 use mathlib.Core.List.{List, [], ◌∷◌, ◌++◌}
@@ -7,10 +8,8 @@ use native.Mathlib.Omega.{arith}
 use lib.ListN.{length, replicate}
 use lib.IntN.{pos, negsuc}
 use lib.Ieee.{Float, fin, nan}
-use Rattle.rules.specs.declared.MaybeTime.TheVariants as MaybeTime
 use Rattle.rules.specs.declared.Event.{Event}
 use Rattle.rules.specs.declared.Refusal.TheVariants as Refusal
-use Rattle.rules.specs.declared.Verdict.TheVariants as Verdict
 use Rattle.rules.specs.Queue.{alone}
 use Rattle.rules.specs.Block.{step, linear, target, curve, cancel, hold}
 use Rattle.rules.proofs.Table.{n0, n1, n4, n5, n7, n8, n9, n10}
@@ -27,7 +26,7 @@ abbrev n17 : Float
 n17 = fin false 17 (pos 0)
 
 abbrev ramp : Event
-ramp = Event.Linear n9 (fin false 15 (pos 0)) MaybeTime.Missing
+ramp = Event.Linear n9 (fin false 15 (pos 0)) None
 
 -- a step to 1, and a target to 5 that has played up to 4 and is cancelled; then a curve from 10 to 20
 abbrev before : State
@@ -37,7 +36,7 @@ before =
     (cancel n0 ∷ curve n10 n10 (n0 ∷ n8 ∷ []) ∷ [])
 
 -- the ramp to 9 at 15 is refused by 11
-shut_out : (asked before (linear n9 (fin false 15 (pos 0)))).verdict ≡ Verdict.Refused Refusal.Inside
+shut_out : (asked before (linear n9 (fin false 15 (pos 0)))).verdict ≡ Err Refusal.Inside
 unfolding outputs
 shut_out = refl
 
@@ -52,7 +51,7 @@ parted : ((scheduled around (burst (n17 ∷ n12 ∷ []))).param.intrinsic ≡ n1
 unfolding outputs
 parted = (refl, refl)
 
-both_accepted : ((asked around (cancel n17)).verdict ≡ Verdict.Answered) × ((asked around (cancel n12)).verdict ≡ Verdict.Answered)
+both_accepted : ((asked around (cancel n17)).verdict ≡ Ok tt) × ((asked around (cancel n12)).verdict ≡ Ok tt)
 unfolding outputs
 both_accepted = (refl, refl)
 
@@ -79,7 +78,7 @@ n20 = fin false 5 (pos 2)
 -- cancels at 7 and 20 with a hold at 5 between them leave nothing, as one at 7 does; at 20 and 7 they leave the ramp, held at 5
 turned_about : ((scheduled waits (cancel n7 ∷ hold n5 ∷ cancel n20 ∷ [])).param.queue ≡ [])
     × ((scheduled waits (burst (n7 ∷ []))).param.queue ≡ [])
-    × ((scheduled waits (cancel n20 ∷ hold n5 ∷ cancel n7 ∷ [])).param.queue ≡ Event.Linear n8 n10 (MaybeTime.At n5) ∷ [])
+    × ((scheduled waits (cancel n20 ∷ hold n5 ∷ cancel n7 ∷ [])).param.queue ≡ Event.Linear n8 n10 (Some n5) ∷ [])
 unfolding outputs
 turned_about = (refl, refl, refl)
 

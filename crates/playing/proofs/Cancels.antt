@@ -1,4 +1,7 @@
 -- Two cancels are one, and so is any burst of them (02, C-17). Assumes nothing.
+use Rattle.std.proofs.Common.{Option, Result, Ok, Err}
+use Rattle.rules.specs.declared.Finished.{Finished}
+use Rattle.rules.specs.declared.Refusal.{Refusal}
 use mathlib.Core.Path.{◌≡◌, refl, sym, ap, fun_ext, ◌∙◌}
 use mathlib.Core.Bool.{Bool, true, false, cond, not, ◌&&◌, ◌||◌, or-true}
 use mathlib.Core.List.{List, [], ◌∷◌, ◌++◌, map}
@@ -6,10 +9,7 @@ use lib.ListN.{length}
 use lib.Ieee as Ieee
 use lib.Ieee.{Float}
 use borrow.Author.Tests.{not-true}
-use Rattle.rules.specs.declared.MaybeTime.{MaybeTime}
 use Rattle.rules.specs.declared.Event.{Event}
-use Rattle.rules.specs.declared.LastEvent.{LastEvent}
-use Rattle.rules.specs.declared.Verdict.{Verdict}
 use Rattle.rules.specs.Numbers.{plus_zero, is_negative, is_zero, taken_time}
 use Rattle.rules.specs.Queue.{Waiting, head_of, events_of, those, filed_under, curve_end, lasts_to, goes_at, is_before, cancelled, is_ramp, has_started, loses_head, returned, value_after_cancel}
 use Rattle.rules.specs.Refusals.{lowest, cancel_rows}
@@ -77,7 +77,7 @@ module _ {A : Type 0} (few many : A → Bool) (within : (x : A) → few x ≡ tr
 -- ---- two cancels of waiting events, at c and at a time d that is c or later
 
 -- a cancel takes no head from what it would leave
-keeps_head : (c : Float) (end : MaybeTime) (ws : List Waiting) → AllPass (is_before c) ws → loses_head c end (head_of ws) ≡ false
+keeps_head : (c : Float) (end : Option Float) (ws : List Waiting) → AllPass (is_before c) ws → loses_head c end (head_of ws) ≡ false
 unfolding loses_head head_of is_before
 keeps_head c end [] h = refl
 keeps_head c end (w ∷ ws) h = rw (not-true (goes_at c w.event) h.0)
@@ -100,7 +100,7 @@ module _ (c d : Float) (l : Ieee.le c d ≡ true) where
   unfolding cancelled
   earlier_first ws = those-all (is_before d) (cancelled c ws) (none_goes ws)
 
-  module _ (end : MaybeTime) (last : LastEvent) (v : Float) where
+  module _ (end : Option Float) (last : Option Finished) (v : Float) where
     value_first : (ws : List Waiting) → value_after_cancel d end (cancelled c ws) last v ≡ v
     unfolding value_after_cancel
     value_first ws = rw (keeps_head d end (cancelled c ws) (none_goes ws))
@@ -140,7 +140,7 @@ module _ (s : State) (h : SoundState s) (c d : Float) (l : Ieee.le c d ≡ true)
 -- ---- two calls
 
 abbrev Accepts : State → Float → Type 0
-Accepts s a = (asked s (cancel a)).verdict ≡ Verdict.Answered
+Accepts s a = (asked s (cancel a)).verdict ≡ Ok tt
 
 verdict_is : (s : State) (a : Float) → (asked s (cancel a)).verdict ≡ lowest (cancel_rows s.store a)
 unfolding asked
@@ -218,9 +218,9 @@ accepts_at s t = is_answered (asked s (cancel t)).verdict
 accepts : (s : State) (t : Float) → accepts_at s t ≡ true → Accepts s t
 accepts s t h = go (asked s (cancel t)).verdict h
   where
-    go : (v : Verdict) → is_answered v ≡ true → v ≡ Verdict.Answered
-    go Verdict.Answered k = refl
-    go (Verdict.Refused r) k = never (unfold is_answered in k)
+    go : (v : Result Unit Refusal) → is_answered v ≡ true → v ≡ Ok tt
+    go (Ok _) k = refl
+    go (Err r) k = never (unfold is_answered in k)
 
 -- the earliest is one of them
 earliest-accepted : (s : State) (t : Float) (ts : List Float) → AllPass (accepts_at s) (t ∷ ts) → accepts_at s (earliest t ts) ≡ true
@@ -254,13 +254,13 @@ many_are_one [] s sound = refl
 many_are_one (t ∷ ts) s sound =
     go (asked s (cancel t)).verdict refl (many_are_one ts (after_call s (cancel t)) (after_sound s sound (cancel t))) (many_are_one ts s sound)
   where
-    go : (v : Verdict) → (asked s (cancel t)).verdict ≡ v
+    go : (v : Result Unit Refusal) → (asked s (cancel t)).verdict ≡ v
         → scheduled (after_call s (cancel t)) (burst ts) ≡ scheduled (after_call s (cancel t)) (one_cancel (accepted_times (after_call s (cancel t)) ts))
         → scheduled s (burst ts) ≡ scheduled s (one_cancel (accepted_times s ts))
         → scheduled (after_call s (cancel t)) (burst ts) ≡ scheduled s (one_cancel (cond (is_answered v) (t ∷ accepted_times s ts) (accepted_times s ts)))
-    go Verdict.Answered h next same = unfold is_answered in
+    go (Ok _) h next same = unfold is_answered in
         next ∙ rw (times_stay s sound t ts) (one_more s sound t (accepted_times s ts) (ap is_answered h, those_pass (accepts_at s) ts))
-    go (Verdict.Refused r) h next same = unfold is_answered in
+    go (Err r) h next same = unfold is_answered in
         rw (refused_call s (cancel t) r h) same
 
 -- each is answered as it would be if it came first
@@ -269,8 +269,8 @@ unfolding verdicts
 heard_in_turn [] s sound = refl
 heard_in_turn (t ∷ ts) s sound =
     ap
-    (λ (vs : List Verdict). (asked s (cancel t)).verdict ∷ vs)
-    (heard_in_turn ts (after_call s (cancel t)) (after_sound s sound (cancel t)) ∙ ap (λ (say : Float → Verdict). map say ts) (fun_ext (verdict_stays s sound t)))
+    (λ (vs : List (Result Unit Refusal)). (asked s (cancel t)).verdict ∷ vs)
+    (heard_in_turn ts (after_call s (cancel t)) (after_sound s sound (cancel t)) ∙ ap (λ (say : Float → Result Unit Refusal). map say ts) (fun_ext (verdict_stays s sound t)))
 
 -- ---- once more
 

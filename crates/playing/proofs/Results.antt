@@ -1,10 +1,11 @@
 -- Results that meet contracts which settle each answer are what the rules schedule and play; so demand 3 is theirs. Assumes nothing.
+use Rattle.std.proofs.Common.{Result, Ok}
+use Rattle.rules.specs.declared.Refusal.{Refusal}
 use mathlib.Core.Path.{◌≡◌, refl, sym, ap, ap₂, ◌∙◌}
 use mathlib.Core.List.{List, ◌∷◌, ◌++◌, map}
 use Prim.Native.Nat.{ℕ}
 use lib.ListN.{length, take, drop}
 use lib.Ieee.{Float}
-use Rattle.rules.specs.declared.Verdict.{Verdict}
 use Rattle.rules.specs.Block.{Call, Answer, Command, Called}
 use Rattle.playing.specs.Play.{State, waiting, left_by_call, after_call, asked, scheduled, verdicts, left_by, answer_to, after, played, apart, told}
 use Rattle.playing.specs.Demand.{behind, resumed, Holds, with_store, PlayedTheSame}
@@ -35,7 +36,7 @@ module _ {X A : Type 0} (state : X → State) (left : A → X) (Ok : X → Type 
     results_verdicts {x} ok (more {c} {r} m rest) =
         let s : (called r ≡ asked (state x) c) × Ok (left r) = settles x c r ok m in
         let e : state (left r) ≡ after_call (state x) c = leaves r ∙ ap left_by_call s.0 in
-        ap₂ (λ (v : Verdict) (vs : List Verdict). v ∷ vs) (ap (λ (a : Called). a.verdict) s.0) (rw e at (results_verdicts s.1 rest))
+        ap₂ (λ (v : Result Unit Refusal) (vs : List (Result Unit Refusal)). v ∷ vs) (ap (λ (a : Called). a.verdict) s.0) (rw e at (results_verdicts s.1 rest))
 
   -- ---- blocks
 

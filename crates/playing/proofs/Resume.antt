@@ -1,4 +1,5 @@
 -- Two states with the same parameter and the same waiting events, whatever stands in their stores behind the curves' numbers, tell the same. Assumes nothing.
+use Rattle.std.proofs.Common.{Ok, Err}
 use mathlib.Core.Path.{◌≡◌, refl, sym, ap, ap₂, ◌∙◌}
 use mathlib.Core.Bool.{true}
 use mathlib.Core.List.{List, [], ◌∷◌, ◌++◌, map}
@@ -7,7 +8,6 @@ use native.Mathlib.Omega.{arith}
 use lib.ListN.{length, take, drop, take-append-drop}
 use lib.Ieee.{Float}
 use Rattle.rules.specs.declared.Refusal.{Refusal}
-use Rattle.rules.specs.declared.Verdict.{Verdict}
 use Rattle.rules.specs.Numbers.{store_length}
 use Rattle.rules.specs.Queue.{Waiting, events_of, numbers_of, lengths_of, attached}
 use Rattle.rules.specs.Block.{Param, Call, Answer, with_queue, answered, answered_as, verdict_of}
@@ -34,7 +34,7 @@ record Twin (s t : State) (c : Call) : Type 0 where
   tells : told (answer_to s c) ≡ told (answer_to t c)
 
 module _ (ws : List Waiting) (s t : State) (h : Twins ws s t) (c : Call) where
-  answered_twin : verdict_of s.param s.store c ≡ Verdict.Answered → Twin s t c
+  answered_twin : verdict_of s.param s.store c ≡ Ok tt → Twin s t c
   unfolding after
   answered_twin e =
       let d : answer_to t c ≡ answer_to s c =
@@ -49,14 +49,14 @@ module _ (ws : List Waiting) (s t : State) (h : Twins ws s t) (c : Call) where
         tells = ap told (sym d);
       }
 
-  refused_twin : (why : Refusal) → verdict_of s.param s.store c ≡ Verdict.Refused why → Twin s t c
+  refused_twin : (why : Refusal) → verdict_of s.param s.store c ≡ Err why → Twin s t c
   unfolding answer_to answered answered_as told store_told
   refused_twin why e =
-      let d : verdict_of t.param t.store c ≡ Verdict.Refused why = same_verdict h c ∙ e in
+      let d : verdict_of t.param t.store c ≡ Err why = same_verdict h c ∙ e in
       record {
         events = ws;
         left = rw (refused_leaves s c why e, refused_leaves t c why d) h;
-        tells = rw (e, d) (ap (λ (p : Param). told (answered_as (Verdict.Refused why) p [] c)) (param_same h));
+        tells = rw (e, d) (ap (λ (p : Param). told (answered_as (Err why) p [] c)) (param_same h));
       }
 
   twin : Twin s t c

@@ -1,5 +1,7 @@
 -- What any calls before the first block leave of a parameter just made: only its waiting events differ, every curve has its numbers, and none
 -- has an event inside. Assumes nothing.
+use Rattle.std.proofs.Common.{Option, None, Result, Ok, Err}
+use Rattle.rules.specs.declared.Finished.{Finished}
 use mathlib.Core.Path.{◌≡◌, refl, ap, ◌∙◌}
 use mathlib.Core.Bool.{Bool, true, false, cond}
 use mathlib.Core.List.{List, [], ◌∷◌}
@@ -8,11 +10,9 @@ use native.Mathlib.Omega.{arith}
 use lib.ListN.{length}
 use lib.Ieee.{Float}
 use Rattle.rules.specs.declared.Event.{Event}
-use Rattle.rules.specs.declared.LastEvent.{LastEvent}
 use Rattle.rules.specs.declared.Refusal.{Refusal}
 use Rattle.rules.specs.declared.Bounds.{Bounds}
 use Rattle.rules.specs.declared.AutomationRate.{AutomationRate}
-use Rattle.rules.specs.declared.Verdict.{Verdict}
 use Rattle.rules.specs.Numbers.{store_length, taken_time}
 use Rattle.rules.specs.Queue.{Waiting, length_of, head_of, lengths_of, loses_head, returned, value_after_cancel, loses_curve, value_after_hold}
 use Rattle.rules.specs.Block.{Param, Called, Command, set, step, linear, exponential, target, curve, cancel, hold, with_queue, scheduled_as, called_as, called, made}
@@ -27,15 +27,15 @@ use Rattle.playing.proofs.States.{bare, SoundState, waiting_fit}
 -- ---- a call before the first block
 
 -- with no last event a cancel leaves the intrinsic value, and so does a hold
-value_stays : (b : Bool) (l : LastEvent) (v : Float) → l ≡ LastEvent.None → cond b (returned l v) v ≡ v
+value_stays : (b : Bool) (l : Option Finished) (v : Float) → l ≡ None → cond b (returned l v) v ≡ v
 unfolding returned
 value_stays true l v none = rw none
 value_stays false l v none = refl
 
 -- A call is lent the store, or is not. Where it is, the waiting events that it leaves have their numbers.
 data Shape (s : State) : Called → Type 0 where
-  plain : (v : Verdict) (e : Event) → Shape s (scheduled_as v s.param s.store e)
-  lent : (v : Verdict) (ws : List Waiting) (i : Float) → (SoundState s → AllFit ws) → (s.param.last ≡ LastEvent.None → i ≡ s.param.intrinsic)
+  plain : (v : Result Unit Refusal) (e : Event) → Shape s (scheduled_as v s.param s.store e)
+  lent : (v : Result Unit Refusal) (ws : List Waiting) (i : Float) → (SoundState s → AllFit ws) → (s.param.last ≡ None → i ≡ s.param.intrinsic)
       → Shape s (called_as v s.param s.store ws i)
 
 asked_shape : (s : State) (c : Command) → Shape s (asked s c)
@@ -51,31 +51,31 @@ asked_shape s (cancel c) =
 asked_shape s (hold c) =
     lent _ _ _ (λ h. fit_held (taken_time c) (waiting s) (waiting_fit s h)) (value_stays (loses_curve (taken_time c) s.param.last_end (head_of (waiting s))) s.param.last s.param.intrinsic)
 
-never : {A : Type 0} {r : Refusal} → Verdict.Answered ≡ Verdict.Refused r → A
+never : {A : Type 0} {r : Refusal} → ◌≡◌ {A = Result Unit Refusal} (Ok tt) (Err r) → A
 never h = let z : ◌≡◌ {A = ℕ} 0 1 = cc in absurd (omega arith)
 
 module _ (s : State) where
-  call_same : {a : Called} → Shape s a → s.param.last ≡ LastEvent.None → with_queue [] a.param ≡ bare s
+  call_same : {a : Called} → Shape s a → s.param.last ≡ None → with_queue [] a.param ≡ bare s
   unfolding scheduled_as called_as
-  call_same (plain Verdict.Answered e) none = refl
-  call_same (plain (Verdict.Refused r) e) none = refl
-  call_same (lent Verdict.Answered ws i fit stays) none = rw (stays none)
-  call_same (lent (Verdict.Refused r) ws i fit stays) none = refl
+  call_same (plain (Ok _) e) none = refl
+  call_same (plain (Err r) e) none = refl
+  call_same (lent (Ok _) ws i fit stays) none = rw (stays none)
+  call_same (lent (Err r) ws i fit stays) none = refl
 
   call_long : {a : Called} → Shape s a → SoundState s → lengths_of a.param.queue ≤ store_length → length a.store ≡ store_length
   unfolding scheduled_as called_as
-  call_long (plain Verdict.Answered e) h room = h.long
-  call_long (plain (Verdict.Refused r) e) h room = h.long
-  call_long (lent Verdict.Answered ws i fit stays) h room = packed-length ws (omega (arith, numbers-length ws (fit h)))
-  call_long (lent (Verdict.Refused r) ws i fit stays) h room = h.long
+  call_long (plain (Ok _) e) h room = h.long
+  call_long (plain (Err r) e) h room = h.long
+  call_long (lent (Ok _) ws i fit stays) h room = packed-length ws (omega (arith, numbers-length ws (fit h)))
+  call_long (lent (Err r) ws i fit stays) h room = h.long
 
   -- a refused call changes nothing
-  call_refused : {a : Called} → Shape s a → (r : Refusal) → a.verdict ≡ Verdict.Refused r → left_by_call a ≡ s
+  call_refused : {a : Called} → Shape s a → (r : Refusal) → a.verdict ≡ Err r → left_by_call a ≡ s
   unfolding scheduled_as called_as
-  call_refused (plain Verdict.Answered e) r h = never h
-  call_refused (plain (Verdict.Refused q) e) r h = refl
-  call_refused (lent Verdict.Answered ws i fit stays) r h = never h
-  call_refused (lent (Verdict.Refused q) ws i fit stays) r h = refl
+  call_refused (plain (Ok _) e) r h = never h
+  call_refused (plain (Err q) e) r h = refl
+  call_refused (lent (Ok _) ws i fit stays) r h = never h
+  call_refused (lent (Err q) ws i fit stays) r h = refl
 
 -- ---- a call at any time
 
@@ -85,7 +85,7 @@ call_sound s h c =
     let sound : Sound (asked s c).param = called_sound s.param s.store h.sound c in
     record { sound = sound; long = call_long s (asked_shape s c) h sound.waiting.room }
 
-pub refused_call : (s : State) (c : Command) (r : Refusal) → (asked s c).verdict ≡ Verdict.Refused r → after_call s c ≡ s
+pub refused_call : (s : State) (c : Command) (r : Refusal) → (asked s c).verdict ≡ Err r → after_call s c ≡ s
 unfolding after_call
 refused_call s c r h = call_refused s (asked_shape s c) r h
 
@@ -96,12 +96,12 @@ pub record Ready (p : Param) (s : State) : Type 0 where
   pub same : bare s ≡ p
   pub sound : SoundState s
 
-call_ready : (p : Param) (s : State) → p.last ≡ LastEvent.None → Ready p s → (c : Command) → Ready p (after_call s c)
+call_ready : (p : Param) (s : State) → p.last ≡ None → Ready p s → (c : Command) → Ready p (after_call s c)
 unfolding after_call asked
 call_ready p s none r c =
     record { same = call_same s (asked_shape s c) (ap (λ (q : Param). q.last) r.same ∙ none) ∙ r.same; sound = call_sound s r.sound c }
 
-schedule_ready : (p : Param) → p.last ≡ LastEvent.None → (cs : List Command) (s : State) → Ready p s → Ready p (scheduled s cs)
+schedule_ready : (p : Param) → p.last ≡ None → (cs : List Command) (s : State) → Ready p s → Ready p (scheduled s cs)
 unfolding scheduled
 schedule_ready p none [] s r = r
 schedule_ready p none (c ∷ cs) s r = schedule_ready p none cs (after_call s c) (call_ready p s none r c)
@@ -140,10 +140,10 @@ accepted-alone (c ∷ cs) s = go (asked s c).verdict refl (accepted-alone cs (af
     more : List Command
     more = accepted (after_call s c) cs
 
-    go : (v : Verdict) → (asked s c).verdict ≡ v → AllAccepted (after_call s c) more × (scheduled (after_call s c) more ≡ scheduled (after_call s c) cs)
+    go : (v : Result Unit Refusal) → (asked s c).verdict ≡ v → AllAccepted (after_call s c) more × (scheduled (after_call s c) more ≡ scheduled (after_call s c) cs)
         → AllAccepted s (accepted_if v c more) × (scheduled s (accepted_if v c more) ≡ scheduled (after_call s c) cs)
-    go Verdict.Answered e h = unfold accepted_if in ((e, h.0), h.1)
-    go (Verdict.Refused r) e h =
+    go (Ok _) e h = unfold accepted_if in ((e, h.0), h.1)
+    go (Err r) e h =
         unfold accepted_if in
         let same : after_call s c ≡ s = refused_call s c r e in
         rw same (rw same at h)

@@ -1,10 +1,10 @@
 -- What an answer rests on: the parameter without its queue, and the events that wait with their numbers. Assumes nothing.
+use Rattle.std.proofs.Common.{Result, Ok, Err}
 use mathlib.Core.Path.{◌≡◌, refl, sym, ap, ◌∙◌}
 use mathlib.Core.List.{List, []}
 use native.Mathlib.Omega.{arith}
 use lib.ListN.{length}
 use Rattle.rules.specs.declared.Refusal.{Refusal}
-use Rattle.rules.specs.declared.Verdict.{Verdict}
 use Rattle.rules.specs.Numbers.{store_length}
 use Rattle.rules.specs.Queue.{Waiting, events_of}
 use Rattle.rules.specs.Walk.{Walked}
@@ -39,9 +39,9 @@ waiting_fit s h = attached_fits s.param.queue s.store (omega (arith, h.sound.wai
 
 -- ---- a block
 
-pub by_verdict : (v : Verdict) {T : Type 0} → (v ≡ Verdict.Answered → T) → ((why : Refusal) → v ≡ Verdict.Refused why → T) → T
-by_verdict Verdict.Answered f g = f refl
-by_verdict (Verdict.Refused why) f g = g why refl
+pub by_verdict : (v : Result Unit Refusal) {T : Type 0} → (v ≡ Ok tt → T) → ((why : Refusal) → v ≡ Err why → T) → T
+by_verdict (Ok _) f g = f refl
+by_verdict (Err why) f g = g why refl
 
 abbrev pub walk_over : Param → List Waiting → Call → Walked
 walk_over p ws c = rendered (infos_of p.rate c) p.intrinsic p.last ws
@@ -51,7 +51,7 @@ abbrev pub said_over : Param → List Waiting → Call → Answer
 said_over p ws c = answer_of p ws c (walk_over p ws c)
 
 module _ (s : State) (c : Call) where
-  module _ (fine : verdict_of s.param s.store c ≡ Verdict.Answered) where
+  module _ (fine : verdict_of s.param s.store c ≡ Ok tt) where
     pub answered_is : answer_to s c ≡ answer_of (bare s) (waiting s) c (walk_over (bare s) (waiting s) c)
     unfolding answer_to answer_of waiting
     answered_is = answer_is s.param s.store c fine
@@ -66,7 +66,7 @@ module _ (s : State) (c : Call) where
     unfolding tidied after loaded answer_of
     answered_tidy h = ap (loaded (after s c).param) (answered_waits h) ∙ rw answered_is
 
-  pub refused_leaves : (why : Refusal) → verdict_of s.param s.store c ≡ Verdict.Refused why → after s c ≡ s
+  pub refused_leaves : (why : Refusal) → verdict_of s.param s.store c ≡ Err why → after s c ≡ s
   unfolding after answer_to
   refused_leaves why e = rw (refused_block s.param s.store c why e)
 

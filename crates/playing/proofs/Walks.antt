@@ -1,4 +1,6 @@
 -- A walk over s ++ a and over s ++ b: the same, while two of s still wait. Assumes nothing.
+use Rattle.std.proofs.Common.{Option, Some}
+use Rattle.rules.specs.declared.Finished.{Finished}
 use mathlib.Core.Path.{◌≡◌, refl}
 use mathlib.Core.Bool.{Bool, true, false}
 use mathlib.Core.List.{List, [], ◌∷◌, ◌++◌}
@@ -6,8 +8,6 @@ use Prim.Native.Nat.{suc, ◌+◌, ◌≤◌}
 use native.Mathlib.Omega.{arith}
 use lib.ListN.{length}
 use lib.Ieee.{Float}
-use Rattle.rules.specs.declared.Head.TheVariants as Head
-use Rattle.rules.specs.declared.LastEvent.{LastEvent}
 use Rattle.rules.specs.declared.BlockInfos.{BlockInfos}
 use Rattle.rules.specs.Queue.{Waiting, head_of}
 use Rattle.rules.specs.Walk.{Walk, Walked, Turn, stop, on, turn, next, ended, walked}
@@ -41,10 +41,10 @@ module _ (a b : List Waiting) (f : BlockInfos) where
       (λ v. walked f v (y ∷ s ++ a))
       (λ v. walked f v (y ∷ s ++ b))
       (walk_alike (y ∷ s))
-      (turn f w x (Head.Event y.event))
+      (turn f w x (Some y.event))
       two
 
-  module _ (v : Float) (l : LastEvent) where
+  module _ (v : Float) (l : Option Finished) where
     rendered_alike_as : (r : Bool) (s : List Waiting) → length a + enough ≤ length (rendered_as r f v l (s ++ a)).queue
         → Alike a b (rendered_as r f v l (s ++ a)) (rendered_as r f v l (s ++ b))
     unfolding rendered_as
@@ -57,4 +57,4 @@ module _ (a b : List Waiting) (f : BlockInfos) where
     unfolding rendered head_of
     rendered_alike [] two =
         let n : length (rendered f v l a).queue ≤ length a = rendered-length f v l a in absurd (omega arith)
-    rendered_alike (x ∷ s) two = (rendered_alike_as (rests_for f (Head.Event x.event)) (x ∷ s) two, refl)
+    rendered_alike (x ∷ s) two = (rendered_alike_as (rests_for f (Some x.event)) (x ∷ s) two, refl)

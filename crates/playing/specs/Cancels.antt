@@ -1,8 +1,7 @@
 -- 02, C-17: "a cancel at one time followed by a cancel at another leaves the same parameter as one cancel at the earlier time, in whichever order the two come, and ..
 -- repeating a cancel changes nothing more .. no call standing between the two cancels". Here of a burst of any length, refused ones among them.
-use Rattle.std.specs.Prelude.{◌≡◌, cond, List, [], ◌∷◌, ◌++◌, map, Float}
+use Rattle.std.specs.Prelude.{◌≡◌, cond, List, [], ◌∷◌, ◌++◌, map, Float, Ok}
 use Rattle.std.specs.Float.Ieee as Ieee
-use Rattle.rules.specs.declared.Verdict.TheVariants as Verdict
 use Rattle.rules.specs.Queue.{those}
 use Rattle.rules.specs.Block.{Command, cancel}
 use Rattle.playing.specs.Play.{State, asked, scheduled, verdicts, is_answered}
@@ -36,7 +35,7 @@ pub record TwoAreOne (s : State) (a b : Float) : Type 0 where
 
 -- `scheduled` is the parameter and the store that the calls leave, so both are meant by each equation
 pub record CancelsAreOne (s : State) : Type 0 where
-  pub two : (a b : Float) → (asked s (cancel a)).verdict ≡ Verdict.Answered → (asked s (cancel b)).verdict ≡ Verdict.Answered → TwoAreOne s a b
+  pub two : (a b : Float) → (asked s (cancel a)).verdict ≡ Ok tt → (asked s (cancel b)).verdict ≡ Ok tt → TwoAreOne s a b
   -- each of a burst is answered, or refused, as it would be if it came first
   pub heard : (ts : List Float) → verdicts s (burst ts) ≡ map (λ t. (asked s (cancel t)).verdict) ts
   pub many : (ts : List Float) → scheduled s (burst ts) ≡ scheduled s (one_cancel (accepted_times s ts))

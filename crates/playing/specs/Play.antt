@@ -1,8 +1,8 @@
 -- Playing: a parameter with its curve store, calls that schedule and cancel, and blocks one after the other.
-use Rattle.std.specs.Prelude.{◌≡◌, Bool, true, false, ◌||◌, List, [], ◌∷◌, ℕ, Float}
+use Rattle.rules.specs.declared.Refusal.{Refusal}
+use Rattle.std.specs.Prelude.{◌≡◌, Bool, true, false, ◌||◌, List, [], ◌∷◌, ℕ, Float, Result, Ok, Err}
 use Rattle.rules.specs.declared.Bounds.{Bounds}
 use Rattle.rules.specs.declared.AutomationRate.{AutomationRate}
-use Rattle.rules.specs.declared.Verdict.{Verdict}
 use Rattle.rules.specs.Queue.{Waiting, events_of, packed, attached}
 use Rattle.rules.specs.Block.{Param, Call, Answer, with_queue, answered, Command, Called, called, made}
 
@@ -44,14 +44,14 @@ scheduled s [] = s
 scheduled s (c ∷ cs) = scheduled (after_call s c) cs
 
 -- and what is said to each
-unfoldable pub verdicts : State → List Command → List Verdict
+unfoldable pub verdicts : State → List Command → List (Result Unit Refusal)
 verdicts s [] = []
 verdicts s (c ∷ cs) = (asked s c).verdict ∷ verdicts (after_call s c) cs
 
 -- those of them that are answered
-unfoldable pub accepted_if : Verdict → Command → List Command → List Command
-accepted_if Verdict.Answered c cs = c ∷ cs
-accepted_if (Verdict.Refused r) c cs = cs
+unfoldable pub accepted_if : Result Unit Refusal → Command → List Command → List Command
+accepted_if (Ok _) c cs = c ∷ cs
+accepted_if (Err r) c cs = cs
 
 unfoldable pub accepted : State → List Command → List Command
 accepted s [] = []
@@ -59,7 +59,7 @@ accepted s (c ∷ cs) = accepted_if (asked s c).verdict c (accepted (after_call 
 
 abbrev pub AllAccepted : State → List Command → Type 0
 AllAccepted s [] = Unit {0}
-AllAccepted s (c ∷ cs) = ((asked s c).verdict ≡ Verdict.Answered) × AllAccepted (after_call s c) cs
+AllAccepted s (c ∷ cs) = ((asked s c).verdict ≡ Ok tt) × AllAccepted (after_call s c) cs
 
 -- ---- blocks
 
@@ -103,16 +103,16 @@ unfoldable pub apart : Answer → Answer
 apart a = leaving (with_queue [] a.param) [] a
 
 -- an answer, but for the store of a refused call, which is the one that was lent
-unfoldable pub store_told : Verdict → List Float → List Float
-store_told Verdict.Answered store = store
-store_told (Verdict.Refused r) store = []
+unfoldable pub store_told : Result Unit Refusal → List Float → List Float
+store_told (Ok _) store = store
+store_told (Err r) store = []
 
 unfoldable pub told : Answer → Answer
 told a = leaving a.param (store_told a.verdict a.store) a
 
-unfoldable pub is_answered : Verdict → Bool
-is_answered Verdict.Answered = true
-is_answered (Verdict.Refused r) = false
+unfoldable pub is_answered : Result Unit Refusal → Bool
+is_answered (Ok _) = true
+is_answered (Err r) = false
 
 unfoldable pub any_answered : List Answer → Bool
 any_answered [] = false

@@ -1,4 +1,5 @@
 -- A call's rows one after the other, and the tests that they name. Assumes nothing.
+use Rattle.std.proofs.Common.{Result, Ok, Err}
 use mathlib.Core.Path.{◌≡◌, refl, sym, ◌∙◌}
 use mathlib.Core.Bool.{Bool, true, false, ◌&&◌, and-true}
 use mathlib.Core.List.{List, [], ◌∷◌}
@@ -8,7 +9,6 @@ use lib.ListN.{length, drop, get_or, drop_of_length-le}
 use lib.Seq.{drop-cons}
 use lib.Ieee.{Float, nan}
 use Rattle.rules.specs.declared.Refusal.{Refusal}
-use Rattle.rules.specs.declared.Verdict.{Verdict}
 use Rattle.rules.specs.Numbers.{is_finite}
 use Rattle.rules.specs.Refusals.{Row, row, lowest, all_finite}
 use Rattle.refusals.specs.Rows.{with_row}
@@ -16,16 +16,16 @@ use Rattle.refusals.specs.Rows.{with_row}
 -- ---- row after row
 
 -- what these rows say below those that say v
-unfoldable pub said : Verdict → List Row → Verdict
+unfoldable pub said : Result Unit Refusal → List Row → Result Unit Refusal
 said v [] = v
 said v (row r b ∷ rows) = said (with_row v r b) rows
 
-said_refused : (q : Refusal) (rows : List Row) → said (Verdict.Refused q) rows ≡ Verdict.Refused q
+said_refused : (q : Refusal) (rows : List Row) → said (Err q) rows ≡ Err q
 unfolding said with_row
 said_refused q [] = refl
 said_refused q (row r b ∷ rows) = said_refused q rows
 
-pub said_lowest : (rows : List Row) → said Verdict.Answered rows ≡ lowest rows
+pub said_lowest : (rows : List Row) → said (Ok tt) rows ≡ lowest rows
 unfolding said with_row lowest
 said_lowest [] = refl
 said_lowest (row r true ∷ rows) = said_refused r rows

@@ -5,7 +5,7 @@ ghost use Rattle.rules.specs.Refusals.{lowest, is_time, is_period, is_count, is_
 
 use crate::row;
 use floats::{is_finite64, is_negative64, is_positive64};
-use rules::{MaybeTime, Refusal, Verdict};
+use rules::Refusal;
 
 fn is_time(time: f64) -> bool
     ensures { result ≡ is_time time }
@@ -34,30 +34,30 @@ fn is_block(most: usize, time: f64, period: f64, count: usize, input: usize, out
 }
 
 // Whether refusal 10 applies.
-fn is_earlier(last: MaybeTime, time: f64) -> bool
+fn is_earlier(last: Option<f64>, time: f64) -> bool
     ensures { result ≡ is_earlier last time }
 {
     match last {
-        MaybeTime::Missing => false,
-        MaybeTime::At(t) => time < t,
+        None => false,
+        Some(t) => time < t,
     }
 }
 
 // `most` is the ceiling of the count, `input` and `output` are the lengths of what is lent, `lent` says whether a whole store is.
 pub fn verdict(
     most: usize,
-    last: MaybeTime,
+    last: Option<f64>,
     time: f64,
     period: f64,
     count: usize,
     input: usize,
     output: usize,
     lent: bool,
-) -> Verdict
+) -> Result<(), Refusal>
     ensures { (is os store : List Float) → length is ≡ input → length os ≡ output → lent ≡ eqb (length store) store_length
         → result ≡ lowest (block_rows most last store time period count is os) }
 {
-    let v = Verdict::Answered;
+    let v = Ok(());
     let block = is_block(most, time, period, count, input, output);
     let v = row(v, Refusal::BadBlock, !block);
     let v = row(v, Refusal::OutOfOrder, is_earlier(last, time));

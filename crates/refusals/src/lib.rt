@@ -8,7 +8,7 @@ ghost use Rattle.rules.specs.Refusals.{number_of, lowest, all_finite, are_bounds
 ghost use Rattle.refusals.specs.Rows.{with_row};
 
 use floats::{is_finite32, is_finite64, is_negative64, is_positive64, is_zero32};
-use rules::{Bounds, Event, Refusal, Verdict};
+use rules::{Bounds, Event, Refusal};
 
 pub mod block; // block.rt: the verdict on a block
 pub mod sound; // sound.rt: whether parts make a parameter
@@ -34,18 +34,12 @@ pub fn number_of(r: Refusal) -> u8
 }
 
 // One more row of the table: it is given where it applies and none before it was.
-fn row(v: Verdict, why: Refusal, applies: bool) -> Verdict
+fn row(v: Result<(), Refusal>, why: Refusal, applies: bool) -> Result<(), Refusal>
     ensures { result ≡ with_row v why applies }
 {
     match v {
-        Verdict::Answered => {
-            if applies {
-                Verdict::Refused(why)
-            } else {
-                Verdict::Answered
-            }
-        }
-        Verdict::Refused(_) => v,
+        Ok(()) => { if applies { Err(why) } else { Ok(()) } }
+        Err(_) => v,
     }
 }
 
@@ -78,19 +72,19 @@ pub fn is_edition(number: u64) -> bool
 }
 
 // Of making a parameter, under the edition of that number.
-pub fn making(b: Bounds, edition: u64) -> Verdict
+pub fn making(b: Bounds, edition: u64) -> Result<(), Refusal>
     ensures { result ≡ lowest (making_rows b edition) }
 {
-    let v = Verdict::Answered;
+    let v = Ok(());
     let v = row(v, Refusal::Bounds, !are_bounds(b));
     row(v, Refusal::UnknownEdition, !is_edition(edition))
 }
 
 // Of a step or a linear ramp; `inside` says whether its time lies inside a waiting curve, `full` whether as many events wait as can.
-pub fn value(inside: bool, full: bool, value: f32, time: f64) -> Verdict
+pub fn value(inside: bool, full: bool, value: f32, time: f64) -> Result<(), Refusal>
     ensures { (q : List Event) → inside ≡ any_covers (taken_time time) q → full ≡ leb most_events (length q) → result ≡ lowest (value_rows q value time) }
 {
-    let v = Verdict::Answered;
+    let v = Ok(());
     let v = row(
         v,
         Refusal::NotFinite,
@@ -101,10 +95,10 @@ pub fn value(inside: bool, full: bool, value: f32, time: f64) -> Verdict
     row(v, Refusal::QueueFull, full)
 }
 
-pub fn exponential(inside: bool, full: bool, value: f32, time: f64) -> Verdict
+pub fn exponential(inside: bool, full: bool, value: f32, time: f64) -> Result<(), Refusal>
     ensures { (q : List Event) → inside ≡ any_covers (taken_time time) q → full ≡ leb most_events (length q) → result ≡ lowest (exponential_rows q value time) }
 {
-    let v = Verdict::Answered;
+    let v = Ok(());
     let v = row(
         v,
         Refusal::NotFinite,
@@ -116,10 +110,10 @@ pub fn exponential(inside: bool, full: bool, value: f32, time: f64) -> Verdict
     row(v, Refusal::QueueFull, full)
 }
 
-pub fn target(inside: bool, full: bool, value: f32, time: f64, constant: f64) -> Verdict
+pub fn target(inside: bool, full: bool, value: f32, time: f64, constant: f64) -> Result<(), Refusal>
     ensures { (q : List Event) → inside ≡ any_covers (taken_time time) q → full ≡ leb most_events (length q) → result ≡ lowest (target_rows q value time constant) }
 {
-    let v = Verdict::Answered;
+    let v = Ok(());
     let finite = is_finite32(value) & (is_finite64(time) & is_finite64(constant));
     let v = row(v, Refusal::NotFinite, !finite);
     let v = row(v, Refusal::BeforeZero, is_negative64(time));
@@ -137,11 +131,11 @@ pub fn curve(
     full: bool,
     crowded: bool,
     lent: bool,
-) -> Verdict
+) -> Result<(), Refusal>
     ensures { (q : List Event) (store : List Float) → crossed ≡ is_crossed q (taken_time time) duration → full ≡ leb most_events (length q) → crowded ≡ ltb store_length (lengths_of q + length values.now)
         → lent ≡ eqb (length store) store_length → result ≡ lowest (curve_rows q store time duration values.now) }
 {
-    let v = Verdict::Answered;
+    let v = Ok(());
     let finite = is_finite64(time) & (is_finite64(duration) & all_finite(values));
     let v = row(v, Refusal::NotFinite, !finite);
     let v = row(v, Refusal::BeforeZero, is_negative64(time));
@@ -154,10 +148,10 @@ pub fn curve(
 }
 
 // Of a cancel, or a cancel-and-hold.
-pub fn cancel(time: f64, lent: bool) -> Verdict
+pub fn cancel(time: f64, lent: bool) -> Result<(), Refusal>
     ensures { (store : List Float) → lent ≡ eqb (length store) store_length → result ≡ lowest (cancel_rows store time) }
 {
-    let v = Verdict::Answered;
+    let v = Ok(());
     let v = row(v, Refusal::NotFinite, !is_finite64(time));
     let v = row(v, Refusal::BeforeZero, is_negative64(time));
     row(v, Refusal::BadStore, !lent)

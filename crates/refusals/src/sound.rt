@@ -5,7 +5,7 @@ ghost use Rattle.laws.specs.Sound.{is_number, is_from_zero, is_taken, is_taken_i
 
 use crate::block::is_period;
 use floats::{is_finite32, is_finite64, is_zero32, later_of};
-use rules::{Event, LastEvent, MaybeTime};
+use rules::{Event, Finished};
 use timeline::{curve_end, filed_under};
 
 // No NaN.
@@ -29,37 +29,37 @@ fn is_taken(t: f64) -> bool
     is_finite64(t) & is_from_zero(t)
 }
 
-fn is_taken_if_any(t: MaybeTime) -> bool
+fn is_taken_if_any(t: Option<f64>) -> bool
     ensures { result ≡ is_taken_if_any t }
 {
     match t {
-        MaybeTime::Missing => true,
-        MaybeTime::At(t) => is_taken(t),
+        None => true,
+        Some(t) => is_taken(t),
     }
 }
 
 // A ramp is held at or before its own time, a curve at or before start + duration.
-fn is_held_by(time: f64, hold: MaybeTime) -> bool
+fn is_held_by(time: f64, hold: Option<f64>) -> bool
     ensures { result ≡ is_held_by time hold }
 {
     match hold {
-        MaybeTime::Missing => true,
-        MaybeTime::At(c) => c <= time,
+        None => true,
+        Some(c) => c <= time,
     }
 }
 
 // A curve is held at its start or later.
-fn is_held_from(start: f64, hold: MaybeTime) -> bool
+fn is_held_from(start: f64, hold: Option<f64>) -> bool
     ensures { result ≡ is_held_from start hold }
 {
     match hold {
-        MaybeTime::Missing => true,
-        MaybeTime::At(c) => start <= c,
+        None => true,
+        Some(c) => start <= c,
     }
 }
 
 // A curve's hold time.
-fn is_curve_hold(start: f64, duration: f64, hold: MaybeTime) -> bool
+fn is_curve_hold(start: f64, duration: f64, hold: Option<f64>) -> bool
     ensures { result ≡ is_curve_hold start duration hold }
 {
     let held = is_held_from(start, hold) & is_held_by(start + duration, hold);
@@ -67,7 +67,7 @@ fn is_curve_hold(start: f64, duration: f64, hold: MaybeTime) -> bool
 }
 
 // A ramp's time, and its hold time.
-fn is_span(time: f64, hold: MaybeTime) -> bool
+fn is_span(time: f64, hold: Option<f64>) -> bool
     ensures { result ≡ is_span time hold }
 {
     is_taken(time) & (is_taken_if_any(hold) & is_held_by(time, hold))
@@ -130,17 +130,17 @@ fn is_end_of(time: f64, end: f64) -> bool
 }
 
 // The last block's time, and its end: both, or neither.
-pub fn are_block_times(time: MaybeTime, end: MaybeTime) -> bool
+pub fn are_block_times(time: Option<f64>, end: Option<f64>) -> bool
     ensures { result ≡ are_block_times time end }
 {
     match time {
-        MaybeTime::Missing => match end {
-            MaybeTime::Missing => true,
-            MaybeTime::At(_) => false,
+        None => match end {
+            None => true,
+            Some(_) => false,
         },
-        MaybeTime::At(t) => match end {
-            MaybeTime::Missing => false,
-            MaybeTime::At(e) => is_taken(t) & is_end_of(t, e),
+        Some(t) => match end {
+            None => false,
+            Some(e) => is_taken(t) & is_end_of(t, e),
         },
     }
 }
@@ -152,21 +152,21 @@ pub fn is_due(played: bool, time: f64) -> bool
     played | is_finite64(time)
 }
 
-pub fn is_last_clear(last: LastEvent) -> bool
+pub fn is_last_clear(last: Option<Finished>) -> bool
     ensures { result ≡ is_last_clear last }
 {
     match last {
-        LastEvent::None => true,
-        LastEvent::Done(f) => is_number(f.time),
+        None => true,
+        Some(f) => is_number(f.time),
     }
 }
 
 // Whether a block was answered: the last one has a time.
-pub fn has_played(block: MaybeTime) -> bool
+pub fn has_played(block: Option<f64>) -> bool
     ensures { result ≡ has_played block }
 {
     match block {
-        MaybeTime::Missing => false,
-        MaybeTime::At(_) => true,
+        None => false,
+        Some(_) => true,
     }
 }

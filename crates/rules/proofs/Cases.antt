@@ -3,14 +3,13 @@
 -- the definitions, C50 to C52, C54 to C58, C61 to C66, C68 to C74, C78, C79 and what 02 changes of C25 and C65 from a program written from 01 and 02 (cases-02), C53, C59,
 -- C60, C67, C75 to C77, C80 and what 02 changes of C39, C42 and C46 by hand; the oracle's reference interpreter gives the same. Under each case's name stand its calls in
 -- plain numbers.
+use Rattle.std.proofs.Common.{Some, None}
 use mathlib.Core.Path.{◌≡◌, refl}
 use mathlib.Core.Bool.{true, false}
 use mathlib.Core.List.{List, [], ◌∷◌, ◌++◌}
 use lib.ListN.{replicate}
 use lib.IntN.{pos, negsuc}
 use lib.Ieee.{nan, inf, fin}
-use Rattle.rules.specs.declared.MaybeTime.TheVariants as MaybeTime
-use Rattle.rules.specs.declared.LastEvent.TheVariants as LastEvent
 use Rattle.rules.specs.declared.Event.TheVariants as Event
 use Rattle.rules.specs.declared.AutomationRate.TheVariants as Rate
 use Rattle.rules.specs.declared.Edition.TheVariants as Edition
@@ -37,9 +36,9 @@ cases =
           ∷ ok
           ∷ ok
           ∷ output 2 n0 false (replicate 64 (fin false 25 (pos 4)))
-          ∷ state (fin false 25 (pos 4)) (MaybeTime.At n0) (MaybeTime.At (fin false 1 (pos 6))) (done n0 (fin false 25 (pos 4))) (alone (Event.Step n0 (fin false 35 (pos 1))) ∷ []) true
+          ∷ state (fin false 25 (pos 4)) (Some n0) (Some (fin false 1 (pos 6))) (done n0 (fin false 25 (pos 4))) (alone (Event.Step n0 (fin false 35 (pos 1))) ∷ []) true
           ∷ output 2 (fin false 25 (pos 4)) false (replicate 6 (fin false 25 (pos 4)) ++ replicate 58 n0)
-          ∷ state n0 (MaybeTime.At (fin false 1 (pos 6))) (MaybeTime.At (fin false 1 (pos 7))) (done (fin false 35 (pos 1)) n0) [] true
+          ∷ state n0 (Some (fin false 1 (pos 6))) (Some (fin false 1 (pos 7))) (done (fin false 35 (pos 1)) n0) [] true
           ∷ [];
     }
     -- C2 the same with one block of 128, for comparison
@@ -57,7 +56,7 @@ cases =
           ∷ ok
           ∷ ok
           ∷ output 3 n0 false (replicate 70 (fin false 25 (pos 4)) ++ replicate 58 n0)
-          ∷ state n0 (MaybeTime.At n0) (MaybeTime.At (fin false 1 (pos 7))) (done (fin false 35 (pos 1)) n0) [] true
+          ∷ state n0 (Some n0) (Some (fin false 1 (pos 7))) (done (fin false 35 (pos 1)) n0) [] true
           ∷ [];
     }
     -- C3 a target over two blocks, and its snap
@@ -79,11 +78,11 @@ cases =
           ∷ ok
           ∷ ok
           ∷ output 2 n0 false (n1 ∷ (fin false 9082197 (negsuc 25)) ∷ (fin false 4916567 (negsuc 27)) ∷ (fin false 665385 (negsuc 27)) ∷ (fin false 1440801 (negsuc 31)) ∷ (fin false 6239719 (negsuc 36)) ∷ (fin false 6755633 (negsuc 39)) ∷ (fin false 1828551 (negsuc 40)) ∷ [])
-          ∷ state (fin false 7918959 (negsuc 45)) (MaybeTime.At n0) (MaybeTime.At n8) (done n0 n1) (alone (Event.Target n0 n0 half MaybeTime.Missing) ∷ []) true
+          ∷ state (fin false 7918959 (negsuc 45)) (Some n0) (Some n8) (done n0 n1) (alone (Event.Target n0 n0 half None) ∷ []) true
           ∷ output 1 (fin false 7918959 (negsuc 45)) false ((fin false 7918959 (negsuc 45)) ∷ (fin false 8573717 (negsuc 48)) ∷ (fin false 9282611 (negsuc 51)) ∷ (fin false 5025059 (negsuc 53)) ∷ (fin false 10881085 (negsuc 57)) ∷ (fin false 11780757 (negsuc 60)) ∷ (fin false 12754817 (negsuc 63)) ∷ (fin false 6904707 (negsuc 65)) ∷ [])
-          ∷ state n0 (MaybeTime.At n8) (MaybeTime.At (fin false 1 (pos 4))) (done n0 n1) (alone (Event.Step n0 (fin false 1 (pos 4))) ∷ []) true
+          ∷ state n0 (Some n8) (Some (fin false 1 (pos 4))) (done n0 n1) (alone (Event.Step n0 (fin false 1 (pos 4))) ∷ []) true
           ∷ output 2 n0 false (n0 ∷ n0 ∷ n0 ∷ n0 ∷ [])
-          ∷ state n0 (MaybeTime.At (fin false 1 (pos 4))) (MaybeTime.At (fin false 5 (pos 2))) (done (fin false 1 (pos 4)) n0) [] true
+          ∷ state n0 (Some (fin false 1 (pos 4))) (Some (fin false 5 (pos 2))) (done (fin false 1 (pos 4)) n0) [] true
           ∷ [];
     }
     -- C4 a target that ends at the next event
@@ -103,7 +102,7 @@ cases =
           ∷ ok
           ∷ ok
           ∷ output 4 n0 false (n1 ∷ n1 ∷ (fin false 1349453 (negsuc 18)) ∷ (fin false 14799527 (negsuc 21)) ∷ (fin false 1076751 (negsuc 17)) ∷ (fin true 3 (pos 0)) ∷ (fin true 3 (pos 0)) ∷ (fin true 3 (pos 0)) ∷ [])
-          ∷ state (fin true 3 (pos 0)) (MaybeTime.At n0) (MaybeTime.At n8) (done (fin false 9 (negsuc 0)) (fin true 3 (pos 0))) [] true
+          ∷ state (fin true 3 (pos 0)) (Some n0) (Some n8) (done (fin false 9 (negsuc 0)) (fin true 3 (pos 0))) [] true
           ∷ [];
     }
     -- C5 an exponential from 1 to 8
@@ -121,7 +120,7 @@ cases =
           ∷ ok
           ∷ ok
           ∷ output 3 n0 false (n1 ∷ n2 ∷ n4 ∷ n8 ∷ n8 ∷ n8 ∷ [])
-          ∷ state n8 (MaybeTime.At n0) (MaybeTime.At n6) (done n3 n8) [] true
+          ∷ state n8 (Some n0) (Some n6) (done n3 n8) [] true
           ∷ [];
     }
     -- C6 an exponential over two blocks, downwards, negative
@@ -141,7 +140,7 @@ cases =
           ∷ ok
           ∷ output 2 n0 false ((fin true 1 (pos 3)) ∷ (fin true 1321123 (negsuc 17)) ∷ (fin true 13316085 (negsuc 21)) ∷ (fin true 1 (pos 1)) ∷ [])
           ∷ output 2 (fin true 1321123 (negsuc 19)) false ((fin true 1321123 (negsuc 19)) ∷ (fin true 13316085 (negsuc 23)) ∷ (fin true 1 (negsuc 0)) ∷ (fin true 1 (negsuc 0)) ∷ [])
-          ∷ state (fin true 1 (negsuc 0)) (MaybeTime.At n4) (MaybeTime.At n8) (done n6 (fin true 1 (negsuc 0))) [] true
+          ∷ state (fin true 1 (negsuc 0)) (Some n4) (Some n8) (done n6 (fin true 1 (negsuc 0))) [] true
           ∷ [];
     }
     -- C7 a held target, and a hold that can only move earlier
@@ -165,9 +164,9 @@ cases =
           ∷ ok
           ∷ ok
           ∷ ok
-          ∷ state n0 MaybeTime.Missing MaybeTime.Missing LastEvent.None (alone (Event.Step n8 n0) ∷ alone (Event.Target n0 n0 n4 (MaybeTime.At n3)) ∷ []) true
+          ∷ state n0 None None None (alone (Event.Step n8 n0) ∷ alone (Event.Target n0 n0 n4 (Some n3)) ∷ []) true
           ∷ output 3 n0 false (n8 ∷ (fin false 13066109 (negsuc 20)) ∷ (fin false 1271987 (negsuc 17)) ∷ (fin false 1981249 (negsuc 18)) ∷ (fin false 1981249 (negsuc 18)) ∷ (fin false 1981249 (negsuc 18)) ∷ (fin false 1981249 (negsuc 18)) ∷ (fin false 1981249 (negsuc 18)) ∷ [])
-          ∷ state (fin false 1981249 (negsuc 18)) (MaybeTime.At n0) (MaybeTime.At n8) (done n3 (fin false 1981249 (negsuc 18))) [] true
+          ∷ state (fin false 1981249 (negsuc 18)) (Some n0) (Some n8) (done n3 (fin false 1981249 (negsuc 18))) [] true
           ∷ [];
     }
     -- C8 a held curve
@@ -185,9 +184,9 @@ cases =
           ok
           ∷ ok
           ∷ ok
-          ∷ state n0 MaybeTime.Missing MaybeTime.Missing LastEvent.None (record { event = Event.Curve n0 n8 5 (MaybeTime.At n3); numbers = (n0 ∷ n4 ∷ n8 ∷ n4 ∷ n0 ∷ []) } ∷ []) true
+          ∷ state n0 None None None (record { event = Event.Curve n0 n8 5 (Some n3); numbers = (n0 ∷ n4 ∷ n8 ∷ n4 ∷ n0 ∷ []) } ∷ []) true
           ∷ output 2 n0 false (n0 ∷ n2 ∷ n4 ∷ n6 ∷ n6 ∷ n6 ∷ [])
-          ∷ state n6 (MaybeTime.At n0) (MaybeTime.At n6) (done n3 n6) [] true
+          ∷ state n6 (Some n0) (Some n6) (done n3 n6) [] true
           ∷ [];
     }
     -- C9 a held exponential
@@ -207,7 +206,7 @@ cases =
           ∷ ok
           ∷ ok
           ∷ output 3 n0 false (n1 ∷ (fin false 11863283 (negsuc 22)) ∷ n2 ∷ (fin false 11863283 (negsuc 21)) ∷ (fin false 11863283 (negsuc 21)) ∷ (fin false 11863283 (negsuc 21)) ∷ (fin false 11863283 (negsuc 21)) ∷ (fin false 11863283 (negsuc 21)) ∷ [])
-          ∷ state (fin false 11863283 (negsuc 21)) (MaybeTime.At n0) (MaybeTime.At n8) (done n3 (fin false 11863283 (negsuc 21))) [] true
+          ∷ state (fin false 11863283 (negsuc 21)) (Some n0) (Some n8) (done n3 (fin false 11863283 (negsuc 21))) [] true
           ∷ [];
     }
     -- C10 a ramp that ends exactly at the next block time goes on waiting
@@ -227,9 +226,9 @@ cases =
           ∷ ok
           ∷ ok
           ∷ output 2 n0 false (n0 ∷ n1 ∷ n2 ∷ n3 ∷ [])
-          ∷ state n4 (MaybeTime.At n0) (MaybeTime.At n4) (done n0 n0) (alone (Event.Linear n4 n4 MaybeTime.Missing) ∷ []) true
+          ∷ state n4 (Some n0) (Some n4) (done n0 n0) (alone (Event.Linear n4 n4 None) ∷ []) true
           ∷ output 2 n4 false (n4 ∷ n4 ∷ n4 ∷ n4 ∷ [])
-          ∷ state n4 (MaybeTime.At n4) (MaybeTime.At n8) (done n4 n4) [] true
+          ∷ state n4 (Some n4) (Some n8) (done n4 n4) [] true
           ∷ [];
     }
     -- C11 a target before a ramp, starting inside the block
@@ -249,7 +248,7 @@ cases =
           ∷ ok
           ∷ ok
           ∷ output 4 n0 false (n8 ∷ n8 ∷ n8 ∷ n7 ∷ n6 ∷ n5 ∷ n4 ∷ n4 ∷ [])
-          ∷ state n4 (MaybeTime.At n0) (MaybeTime.At n8) (done n6 n4) [] true
+          ∷ state n4 (Some n0) (Some n8) (done n6 n4) [] true
           ∷ [];
     }
     -- C12 a target that has run, before a ramp
@@ -271,7 +270,7 @@ cases =
           ∷ output 2 n0 false (n8 ∷ (fin false 13066109 (negsuc 20)) ∷ (fin false 1271987 (negsuc 17)) ∷ (fin false 1981249 (negsuc 18)) ∷ [])
           ∷ ok
           ∷ output 3 (fin false 6171993 (negsuc 20)) false ((fin false 6171993 (negsuc 20)) ∷ (fin false 6726147 (negsuc 20)) ∷ (fin false 14560601 (negsuc 21)) ∷ (fin false 3917227 (negsuc 19)) ∷ n4 ∷ n4 ∷ n4 ∷ n4 ∷ [])
-          ∷ state n4 (MaybeTime.At n4) (MaybeTime.At (fin false 3 (pos 2))) (done n8 n4) [] true
+          ∷ state n4 (Some n4) (Some (fin false 3 (pos 2))) (done n8 n4) [] true
           ∷ [];
     }
     -- C13 K-rate: the value before the walk, from 3
@@ -291,9 +290,9 @@ cases =
           ∷ ok
           ∷ ok
           ∷ output 2 n3 true (n3 ∷ n3 ∷ n3 ∷ n3 ∷ [])
-          ∷ state n8 (MaybeTime.At n0) (MaybeTime.At n4) (done n1 n5) (alone (Event.Linear n9 n5 MaybeTime.Missing) ∷ []) true
+          ∷ state n8 (Some n0) (Some n4) (done n1 n5) (alone (Event.Linear n9 n5 None) ∷ []) true
           ∷ output 2 n8 true (n8 ∷ n8 ∷ n8 ∷ n8 ∷ [])
-          ∷ state n9 (MaybeTime.At n4) (MaybeTime.At n8) (done n5 n9) [] true
+          ∷ state n9 (Some n4) (Some n8) (done n5 n9) [] true
           ∷ [];
     }
     -- C14 the current value is the one before the walk; one-valued blocks
@@ -311,7 +310,7 @@ cases =
           ∷ ok
           ∷ output 2 n2 false (n7 ∷ n7 ∷ n7 ∷ n7 ∷ [])
           ∷ output 1 n7 true (n7 ∷ n7 ∷ n7 ∷ n7 ∷ [])
-          ∷ state n7 (MaybeTime.At n4) (MaybeTime.At n8) (done n0 n7) [] true
+          ∷ state n7 (Some n4) (Some n8) (done n0 n7) [] true
           ∷ [];
     }
     -- C15 zeros: a value of -0 with silence gives +0, with an input of -0 it keeps its sign
@@ -375,7 +374,7 @@ cases =
           ok
           ∷ ok
           ∷ output 1 (fin false 35681 (negsuc 147)) true (n0 ∷ n0 ∷ n0 ∷ n0 ∷ n0 ∷ n0 ∷ [])
-          ∷ state n0 (MaybeTime.At n0) (MaybeTime.At n6) (done n0 (fin false 35681 (negsuc 147))) (alone (Event.Step n0 n6) ∷ []) true
+          ∷ state n0 (Some n0) (Some n6) (done n0 (fin false 35681 (negsuc 147))) (alone (Event.Step n0 n6) ∷ []) true
           ∷ [];
     }
     -- C19 a target that does not end, where times lose the period (reading 1)
@@ -409,7 +408,7 @@ cases =
           ∷ ok
           ∷ ok
           ∷ output 3 n0 false (n0 ∷ n2 ∷ n4 ∷ n6 ∷ n8 ∷ n6 ∷ n4 ∷ n2 ∷ n0 ∷ n0 ∷ [])
-          ∷ state n0 (MaybeTime.At n0) (MaybeTime.At n10) (done n8 n0) [] true
+          ∷ state n0 (Some n0) (Some n10) (done n8 n0) [] true
           ∷ [];
     }
     -- C21 an infinite next block time (reading 13)
@@ -430,10 +429,10 @@ cases =
           ∷ ok
           ∷ ok
           ∷ output 2 n0 false (n5 ∷ n5 ∷ [])
-          ∷ state n5 (MaybeTime.At (fin false 4258857765019067 (pos 972))) (MaybeTime.At (inf false)) (done (fin false 4258857765019067 (pos 972)) n1) (alone (Event.Step n5 (inf false)) ∷ []) true
+          ∷ state n5 (Some (fin false 4258857765019067 (pos 972))) (Some (inf false)) (done (fin false 4258857765019067 (pos 972)) n1) (alone (Event.Step n5 (inf false)) ∷ []) true
           ∷ ok
           ∷ output 3 n5 false (n1 ∷ n3 ∷ [])
-          ∷ state n5 (MaybeTime.At (fin false 4258857765019067 (pos 972))) (MaybeTime.At (inf false)) (done (inf false) n5) [] true
+          ∷ state n5 (Some (fin false 4258857765019067 (pos 972))) (Some (inf false)) (done (inf false) n5) [] true
           ∷ [];
     }
     -- C22 a hold time before the ramp's start (reading 15)
@@ -455,7 +454,7 @@ cases =
           ∷ output 2 n0 false (n0 ∷ n0 ∷ n0 ∷ n0 ∷ n0 ∷ n0 ∷ n5 ∷ [])
           ∷ ok
           ∷ output 2 (fin false 13 (negsuc 0)) false (minus1 ∷ minus1 ∷ minus1 ∷ minus1 ∷ [])
-          ∷ state minus1 (MaybeTime.At n7) (MaybeTime.At (fin false 11 (pos 0))) (done n2 minus1) [] true
+          ∷ state minus1 (Some n7) (Some (fin false 11 (pos 0))) (done n2 minus1) [] true
           ∷ [];
     }
     -- C23 an exponential that is none: from 0, held (reading 5)
@@ -475,7 +474,7 @@ cases =
           ∷ ok
           ∷ ok
           ∷ output 4 n0 false (n0 ∷ n0 ∷ n5 ∷ n5 ∷ [])
-          ∷ state n5 (MaybeTime.At n0) (MaybeTime.At n4) (done n2 n5) [] true
+          ∷ state n5 (Some n0) (Some n4) (done n2 n5) [] true
           ∷ [];
     }
     -- C24 NaN from finite numbers: the default is put out
@@ -521,9 +520,9 @@ cases =
           ∷ ok
           ∷ ok
           ∷ ok
-          ∷ state n0 (MaybeTime.At n4) (MaybeTime.At n8) (done n0 n0) (record { event = Event.Curve n10 n2 3 MaybeTime.Missing; numbers = (n4 ∷ n5 ∷ n6 ∷ []) } ∷ record { event = Event.Curve (fin false 15 (pos 0)) n1 2 MaybeTime.Missing; numbers = (n7 ∷ n8 ∷ []) } ∷ record { event = Event.Curve (fin false 5 (pos 2)) n2 2 MaybeTime.Missing; numbers = (n1 ∷ n2 ∷ []) } ∷ []) true
+          ∷ state n0 (Some n4) (Some n8) (done n0 n0) (record { event = Event.Curve n10 n2 3 None; numbers = (n4 ∷ n5 ∷ n6 ∷ []) } ∷ record { event = Event.Curve (fin false 15 (pos 0)) n1 2 None; numbers = (n7 ∷ n8 ∷ []) } ∷ record { event = Event.Curve (fin false 5 (pos 2)) n2 2 None; numbers = (n1 ∷ n2 ∷ []) } ∷ []) true
           ∷ ok
-          ∷ state n0 (MaybeTime.At n4) (MaybeTime.At n8) (done n0 n0) [] true
+          ∷ state n0 (Some n4) (Some n8) (done n0 n0) [] true
           ∷ [];
     }
     -- C26 refusals, several at once: the lowest
@@ -583,7 +582,7 @@ cases =
           ∷ refused 14
           ∷ refused 14
           ∷ ok
-          ∷ state n1 (MaybeTime.At n5) (MaybeTime.At n9) (done n1 n1) [] true
+          ∷ state n1 (Some n5) (Some n9) (done n1 n1) [] true
           ∷ [];
     }
     -- C27 the snap's edge: a value just 1e-10 (f32) away from the target does not snap
@@ -599,7 +598,7 @@ cases =
           ok
           ∷ ok
           ∷ output 1 (fin false 14411519 (negsuc 56)) false ((fin false 14411519 (negsuc 56)) ∷ (fin false 14411519 (negsuc 56)) ∷ [])
-          ∷ state (fin false 14411519 (negsuc 56)) (MaybeTime.At n0) (MaybeTime.At n2) (done n0 (fin false 14411519 (negsuc 56))) (alone (Event.Target n0 n0 (fin false 1681218273811815 (pos 946)) MaybeTime.Missing) ∷ []) true
+          ∷ state (fin false 14411519 (negsuc 56)) (Some n0) (Some n2) (done n0 (fin false 14411519 (negsuc 56))) (alone (Event.Target n0 n0 (fin false 1681218273811815 (pos 946)) None) ∷ []) true
           ∷ [];
     }
     -- C28 a target whose next event, or whose hold, lies just at the next block time does not end
@@ -626,16 +625,16 @@ cases =
           ∷ ok
           ∷ ok
           ∷ output 1 n1 false (n1 ∷ (fin false 1349453 (negsuc 18)) ∷ (fin false 14799527 (negsuc 21)) ∷ (fin false 1076751 (negsuc 17)) ∷ [])
-          ∷ state (fin false 9350485 (negsuc 20)) (MaybeTime.At n0) (MaybeTime.At n4) (done n0 n1) (alone (Event.Target n5 n0 n2 MaybeTime.Missing) ∷ alone (Event.Step n2 n4) ∷ []) true
+          ∷ state (fin false 9350485 (negsuc 20)) (Some n0) (Some n4) (done n0 n1) (alone (Event.Target n5 n0 n2 None) ∷ alone (Event.Step n2 n4) ∷ []) true
           ∷ output 3 (fin false 9350485 (negsuc 20)) false (n2 ∷ n2 ∷ [])
-          ∷ state n2 (MaybeTime.At n4) (MaybeTime.At n6) (done n4 n2) [] true
+          ∷ state n2 (Some n4) (Some n6) (done n4 n2) [] true
           ∷ ok
           ∷ ok
           ∷ ok
           ∷ output 1 n1 false (n1 ∷ (fin false 1349453 (negsuc 18)) ∷ (fin false 14799527 (negsuc 21)) ∷ (fin false 1076751 (negsuc 17)) ∷ [])
-          ∷ state (fin false 9350485 (negsuc 20)) (MaybeTime.At n0) (MaybeTime.At n4) (done n0 n1) (alone (Event.Target n5 n0 n2 (MaybeTime.At n4)) ∷ []) true
+          ∷ state (fin false 9350485 (negsuc 20)) (Some n0) (Some n4) (done n0 n1) (alone (Event.Target n5 n0 n2 (Some n4)) ∷ []) true
           ∷ output 2 (fin false 9350485 (negsuc 20)) false ((fin false 9350485 (negsuc 20)) ∷ (fin false 9350485 (negsuc 20)) ∷ [])
-          ∷ state (fin false 9350485 (negsuc 20)) (MaybeTime.At n4) (MaybeTime.At n6) (done n4 (fin false 9350485 (negsuc 20))) [] true
+          ∷ state (fin false 9350485 (negsuc 20)) (Some n4) (Some n6) (done n4 (fin false 9350485 (negsuc 20))) [] true
           ∷ [];
     }
     -- C29 a target and a curve that start just at the next block time have started; one behind it waits
@@ -668,22 +667,22 @@ cases =
           ∷ ok
           ∷ ok
           ∷ output 2 n1 false (n1 ∷ n1 ∷ n1 ∷ n1 ∷ [])
-          ∷ state n1 (MaybeTime.At n0) (MaybeTime.At n4) (done n0 n1) (alone (Event.Step n1 n4) ∷ []) true
+          ∷ state n1 (Some n0) (Some n4) (done n0 n1) (alone (Event.Step n1 n4) ∷ []) true
           ∷ ok
           ∷ ok
           ∷ ok
           ∷ output 2 n1 false (n1 ∷ n1 ∷ n1 ∷ n1 ∷ [])
-          ∷ state n3 (MaybeTime.At n0) (MaybeTime.At n4) (done n0 n1) (record { event = Event.Curve n4 n2 2 MaybeTime.Missing; numbers = (n3 ∷ n5 ∷ []) } ∷ []) true
+          ∷ state n3 (Some n0) (Some n4) (done n0 n1) (record { event = Event.Curve n4 n2 2 None; numbers = (n3 ∷ n5 ∷ []) } ∷ []) true
           ∷ ok
           ∷ ok
           ∷ ok
           ∷ output 2 n0 false (n1 ∷ n1 ∷ n1 ∷ n1 ∷ [])
-          ∷ state n1 (MaybeTime.At n0) (MaybeTime.At n4) (done n0 n1) (alone (Event.Target n5 (fin false 9 (negsuc 0)) n2 MaybeTime.Missing) ∷ []) true
+          ∷ state n1 (Some n0) (Some n4) (done n0 n1) (alone (Event.Target n5 (fin false 9 (negsuc 0)) n2 None) ∷ []) true
           ∷ ok
           ∷ ok
           ∷ ok
           ∷ output 2 n0 false (n1 ∷ n1 ∷ n1 ∷ n1 ∷ [])
-          ∷ state n1 (MaybeTime.At n0) (MaybeTime.At n4) (done n0 n1) (record { event = Event.Curve (fin false 9 (negsuc 0)) n2 2 MaybeTime.Missing; numbers = (n3 ∷ n5 ∷ []) } ∷ []) true
+          ∷ state n1 (Some n0) (Some n4) (done n0 n1) (record { event = Event.Curve (fin false 9 (negsuc 0)) n2 2 None; numbers = (n3 ∷ n5 ∷ []) } ∷ []) true
           ∷ [];
     }
     -- C30 a sample at the very start is the curve's; before it the intrinsic value
@@ -699,7 +698,7 @@ cases =
           ok
           ∷ ok
           ∷ output 2 n1 false (n1 ∷ n1 ∷ n3 ∷ n4 ∷ n5 ∷ n5 ∷ [])
-          ∷ state n5 (MaybeTime.At n0) (MaybeTime.At n6) (done n4 n5) [] true
+          ∷ state n5 (Some n0) (Some n6) (done n4 n5) [] true
           ∷ [];
     }
     -- C31 ramps with no last event make one, and keep it; so does an exponential that turns and waits on
@@ -726,18 +725,18 @@ cases =
           ok
           ∷ ok
           ∷ output 1 n1 false (n1 ∷ (fin false 15 (negsuc 2)) ∷ (fin false 11 (negsuc 1)) ∷ (fin false 29 (negsuc 2)) ∷ [])
-          ∷ state (fin false 9 (negsuc 0)) (MaybeTime.At n0) (MaybeTime.At n4) (done n0 n1) (alone (Event.Linear n8 n8 MaybeTime.Missing) ∷ []) true
+          ∷ state (fin false 9 (negsuc 0)) (Some n0) (Some n4) (done n0 n1) (alone (Event.Linear n8 n8 None) ∷ []) true
           ∷ ok
           ∷ ok
           ∷ output 1 n1 false (n1 ∷ (fin false 14107901 (negsuc 22)) ∷ [])
-          ∷ state (fin false 11863283 (negsuc 21)) (MaybeTime.At n2) (MaybeTime.At n4) (done n2 n1) (alone (Event.Exponential n8 n6 MaybeTime.Missing) ∷ []) true
+          ∷ state (fin false 11863283 (negsuc 21)) (Some n2) (Some n4) (done n2 n1) (alone (Event.Exponential n8 n6 None) ∷ []) true
           ∷ ok
           ∷ ok
           ∷ output 2 n0 false (n0 ∷ n0 ∷ n0 ∷ n0 ∷ [])
-          ∷ state n0 (MaybeTime.At n0) (MaybeTime.At n4) (done n0 n0) (alone (Event.Step n5 n9) ∷ []) true
+          ∷ state n0 (Some n0) (Some n4) (done n0 n0) (alone (Event.Step n5 n9) ∷ []) true
           ∷ output 1 n0 true (n0 ∷ n0 ∷ n0 ∷ n0 ∷ [])
           ∷ output 2 n0 false (n0 ∷ n5 ∷ n5 ∷ n5 ∷ [])
-          ∷ state n5 (MaybeTime.At n8) (MaybeTime.At (fin false 3 (pos 2))) (done n9 n5) [] true
+          ∷ state n5 (Some n8) (Some (fin false 3 (pos 2))) (done n9 n5) [] true
           ∷ [];
     }
     -- C32 cancel just at an event's time; a ramp at that time is lost, with no last event too
@@ -768,16 +767,16 @@ cases =
           ∷ output 2 n1 false (n2 ∷ n3 ∷ n4 ∷ n5 ∷ [])
           ∷ ok
           ∷ ok
-          ∷ state n2 (MaybeTime.At n0) (MaybeTime.At n4) (done n0 n2) [] true
+          ∷ state n2 (Some n0) (Some n4) (done n0 n2) [] true
           ∷ ok
           ∷ ok
           ∷ ok
-          ∷ state n1 MaybeTime.Missing MaybeTime.Missing LastEvent.None [] true
+          ∷ state n1 None None None [] true
           ∷ ok
           ∷ ok
           ∷ ok
           ∷ ok
-          ∷ state n1 MaybeTime.Missing MaybeTime.Missing LastEvent.None (alone (Event.Step n2 n3) ∷ []) true
+          ∷ state n1 None None None (alone (Event.Step n2 n3) ∷ []) true
           ∷ [];
     }
     -- C33 hold just at a curve's end and just at a ramp's time holds nothing
@@ -797,11 +796,11 @@ cases =
           ok
           ∷ ok
           ∷ ok
-          ∷ state n1 MaybeTime.Missing MaybeTime.Missing LastEvent.None (record { event = Event.Curve n0 n4 3 MaybeTime.Missing; numbers = (n1 ∷ n2 ∷ n3 ∷ []) } ∷ []) true
+          ∷ state n1 None None None (record { event = Event.Curve n0 n4 3 None; numbers = (n1 ∷ n2 ∷ n3 ∷ []) } ∷ []) true
           ∷ ok
           ∷ ok
           ∷ ok
-          ∷ state n1 MaybeTime.Missing MaybeTime.Missing LastEvent.None (alone (Event.Linear n8 n8 MaybeTime.Missing) ∷ []) true
+          ∷ state n1 None None None (alone (Event.Linear n8 n8 None) ∷ []) true
           ∷ [];
     }
     -- C34 hold: the ramp alone is held; a later step goes and the target is held; a step is never held
@@ -833,19 +832,19 @@ cases =
           ∷ ok
           ∷ ok
           ∷ ok
-          ∷ state n1 MaybeTime.Missing MaybeTime.Missing LastEvent.None (alone (Event.Target n5 n0 n2 MaybeTime.Missing) ∷ alone (Event.Linear n8 n8 (MaybeTime.At n3)) ∷ []) true
+          ∷ state n1 None None None (alone (Event.Target n5 n0 n2 None) ∷ alone (Event.Linear n8 n8 (Some n3)) ∷ []) true
           ∷ ok
           ∷ ok
           ∷ ok
           ∷ ok
           ∷ ok
-          ∷ state n1 MaybeTime.Missing MaybeTime.Missing LastEvent.None (alone (Event.Target n5 n0 n2 (MaybeTime.At n3)) ∷ []) true
+          ∷ state n1 None None None (alone (Event.Target n5 n0 n2 (Some n3)) ∷ []) true
           ∷ ok
           ∷ ok
           ∷ ok
           ∷ ok
           ∷ ok
-          ∷ state n1 MaybeTime.Missing MaybeTime.Missing LastEvent.None (alone (Event.Target n5 n0 n2 MaybeTime.Missing) ∷ alone (Event.Step n3 n1) ∷ []) true
+          ∷ state n1 None None None (alone (Event.Target n5 n0 n2 None) ∷ alone (Event.Step n3 n1) ∷ []) true
           ∷ [];
     }
     -- C35 zeros of times; a target with time constant 0; an immediate set, played at the block time
@@ -875,15 +874,15 @@ cases =
           ∷ ok
           ∷ ok
           ∷ ok
-          ∷ state n1 MaybeTime.Missing MaybeTime.Missing LastEvent.None (alone (Event.Step n2 n0) ∷ alone (Event.Linear n4 n0 MaybeTime.Missing) ∷ alone (Event.Step n7 n0) ∷ []) true
+          ∷ state n1 None None None (alone (Event.Step n2 n0) ∷ alone (Event.Linear n4 n0 None) ∷ alone (Event.Step n7 n0) ∷ []) true
           ∷ output 4 n1 false (n7 ∷ n7 ∷ n7 ∷ n7 ∷ [])
-          ∷ state n7 (MaybeTime.At n0) (MaybeTime.At n4) (done n0 n7) [] true
+          ∷ state n7 (Some n0) (Some n4) (done n0 n7) [] true
           ∷ ok
           ∷ output 1 n1 true (n1 ∷ n1 ∷ [])
           ∷ ok
           ∷ ok
           ∷ output 2 n1 false (n7 ∷ (fin false 15 (negsuc 0)) ∷ n8 ∷ (fin false 17 (negsuc 0)) ∷ [])
-          ∷ state n9 (MaybeTime.At n2) (MaybeTime.At n6) (done n2 n7) (alone (Event.Linear n9 n6 MaybeTime.Missing) ∷ []) true
+          ∷ state n9 (Some n2) (Some n6) (done n2 n7) (alone (Event.Linear n9 n6 None) ∷ []) true
           ∷ [];
     }
     -- C36 the current value is mixed, and is the one before the walk; K-rate repeats the first input
@@ -901,7 +900,7 @@ cases =
           ∷ ok
           ∷ output 2 n0 true (half ∷ half ∷ [])
           ∷ output 1 n3 true (minus1 ∷ minus1 ∷ minus1 ∷ [])
-          ∷ state n5 (MaybeTime.At n2) (MaybeTime.At n5) (done n0 n5) [] true
+          ∷ state n5 (Some n2) (Some n5) (done n0 n5) [] true
           ∷ [];
     }
     -- C37 one-valued only with silence
@@ -973,25 +972,25 @@ cases =
           ∷ ok
           ∷ ok
           ∷ output 2 n2 false (n2 ∷ n2 ∷ n2 ∷ n2 ∷ [])
-          ∷ state n8 (MaybeTime.At n0) (MaybeTime.At n4) (done n4 n1) (alone (Event.Exponential n8 n4 MaybeTime.Missing) ∷ []) true
+          ∷ state n8 (Some n0) (Some n4) (done n4 n1) (alone (Event.Exponential n8 n4 None) ∷ []) true
           ∷ output 2 n8 false (n8 ∷ n8 ∷ [])
           ∷ ok
           ∷ ok
           ∷ ok
           ∷ output 2 n2 false (n2 ∷ n2 ∷ n2 ∷ n2 ∷ [])
-          ∷ state n8 (MaybeTime.At n0) (MaybeTime.At n4) (done n4 n1) (alone (Event.Linear n8 n4 MaybeTime.Missing) ∷ []) true
+          ∷ state n8 (Some n0) (Some n4) (done n4 n1) (alone (Event.Linear n8 n4 None) ∷ []) true
           ∷ output 2 n8 false (n8 ∷ n8 ∷ [])
-          ∷ state n8 (MaybeTime.At n4) (MaybeTime.At n6) (done n4 n8) [] true
+          ∷ state n8 (Some n4) (Some n6) (done n4 n8) [] true
           ∷ ok
           ∷ ok
           ∷ ok
           ∷ output 4 n1 false ((fin false 7395571 (pos 105)) ∷ (fin false 7395571 (pos 105)) ∷ (fin false 7395571 (pos 105)) ∷ (fin false 7395571 (pos 105)) ∷ (fin false 7 (negsuc 148)) ∷ (fin false 7 (negsuc 148)) ∷ [])
-          ∷ state (fin false 7 (negsuc 148)) (MaybeTime.At n0) (MaybeTime.At n6) (done n4 (fin false 7 (negsuc 148))) [] true
+          ∷ state (fin false 7 (negsuc 148)) (Some n0) (Some n6) (done n4 (fin false 7 (negsuc 148))) [] true
           ∷ ok
           ∷ ok
           ∷ ok
           ∷ output 3 n1 false (n7 ∷ (fin false 9445201 (negsuc 20)) ∷ (fin false 12154145 (negsuc 21)) ∷ (fin false 7820017 (negsuc 21)) ∷ (fin false 9827 (negsuc 12)) ∷ (fin false 12948939 (negsuc 23)) ∷ (fin false 8331389 (negsuc 23)) ∷ (fin false 5033165 (negsuc 23)) ∷ [])
-          ∷ state (fin false 5033165 (negsuc 23)) (MaybeTime.At n0) (MaybeTime.At (fin false 3152519739159347 (negsuc 48))) (done n5 (fin false 5033165 (negsuc 23))) [] true
+          ∷ state (fin false 5033165 (negsuc 23)) (Some n0) (Some (fin false 3152519739159347 (negsuc 48))) (done n5 (fin false 5033165 (negsuc 23))) [] true
           ∷ [];
     }
     -- C40 a target at its far end: the factor below f32's normals, and 0 from y = 160 on
@@ -1011,11 +1010,11 @@ cases =
           ok
           ∷ ok
           ∷ output 1 (fin false 7395571 (pos 105)) false ((fin false 7395571 (pos 105)) ∷ (fin false 11911813 (pos 87)) ∷ (fin false 4796495 (pos 71)) ∷ (fin false 15451127 (pos 52)) ∷ (fin false 12443321 (pos 35)) ∷ (fin false 10021031 (pos 18)) ∷ (fin false 8070279 (pos 1)) ∷ (fin false 12998543 (negsuc 16)) ∷ (fin false 5232511 (negsuc 32)) ∷ n0 ∷ n0 ∷ n0 ∷ [])
-          ∷ state n0 (MaybeTime.At n0) (MaybeTime.At (fin false 9 (pos 4))) (done n0 (fin false 7395571 (pos 105))) (alone (Event.Step n0 (fin false 9 (pos 4))) ∷ []) true
+          ∷ state n0 (Some n0) (Some (fin false 9 (pos 4))) (done n0 (fin false 7395571 (pos 105))) (alone (Event.Step n0 (fin false 9 (pos 4))) ∷ []) true
           ∷ ok
           ∷ ok
           ∷ output 1 (fin false 7395571 (pos 105)) false ((fin false 7395571 (pos 105)) ∷ (fin false 3224177 (pos 86)) ∷ (fin false 702807 (pos 68)) ∷ (fin false 2451169 (pos 46)) ∷ (fin false 8548903 (pos 24)) ∷ (fin false 14907937 (pos 3)) ∷ (fin false 12998543 (negsuc 16)) ∷ (fin false 2831117 (negsuc 34)) ∷ (fin false 7 (negsuc 148)) ∷ [])
-          ∷ state (fin false 7 (negsuc 148)) (MaybeTime.At n0) (MaybeTime.At (fin false 63 (pos 1))) (done n0 (fin false 7395571 (pos 105))) (alone (Event.Step (fin false 7 (negsuc 148)) (fin false 63 (pos 1))) ∷ []) true
+          ∷ state (fin false 7 (negsuc 148)) (Some n0) (Some (fin false 63 (pos 1))) (done n0 (fin false 7395571 (pos 105))) (alone (Event.Step (fin false 7 (negsuc 148)) (fin false 63 (pos 1))) ∷ []) true
           ∷ [];
     }
     -- C41 sample times: the first of a run fused, the next added; positions and phases that are not exact
@@ -1045,19 +1044,19 @@ cases =
           ∷ ok
           ∷ ok
           ∷ output 3 n0 false (n1 ∷ (fin true 9586981 (negsuc 24)) ∷ (fin true 6591049 (negsuc 21)) ∷ (fin true 4793489 (negsuc 23)) ∷ (fin false 9586981 (negsuc 21)) ∷ (fin false 8089015 (negsuc 20)) ∷ (fin false 14380471 (negsuc 21)) ∷ n3 ∷ (fin false 4404019 (negsuc 19)) ∷ (fin false 11324621 (negsuc 20)) ∷ (fin false 3460301 (negsuc 18)) ∷ (fin false 8178893 (negsuc 19)) ∷ n9 ∷ n9 ∷ [])
-          ∷ state n9 (MaybeTime.At (fin false 3602879701896397 (negsuc 54))) (MaybeTime.At (fin false 3 (negsuc 0))) (done (fin false 5854679515581645 (negsuc 51)) n9) [] true
+          ∷ state n9 (Some (fin false 3602879701896397 (negsuc 54))) (Some (fin false 3 (negsuc 0))) (done (fin false 5854679515581645 (negsuc 51)) n9) [] true
           ∷ ok
           ∷ ok
           ∷ ok
           ∷ output 2 n0 false (n0 ∷ (fin false 25 (pos 2)) ∷ (fin false 25 (pos 3)) ∷ (fin false 75 (pos 2)) ∷ (fin false 25 (pos 4)) ∷ (fin false 125 (pos 2)) ∷ (fin false 75 (pos 3)) ∷ (fin false 175 (pos 2)) ∷ [])
           ∷ ok
           ∷ output 3 (fin false 25 (pos 5)) false ((fin false 125 (pos 3)) ∷ (fin false 125 (pos 3)) ∷ (fin false 125 (pos 3)) ∷ (fin false 125 (pos 3)) ∷ (fin false 125 (pos 3)) ∷ (fin false 125 (pos 3)) ∷ (fin false 125 (pos 3)) ∷ (fin false 125 (pos 3)) ∷ (fin false 125 (pos 3)) ∷ (fin false 125 (pos 3)) ∷ (fin false 125 (pos 3)) ∷ half ∷ (fin true 1 (negsuc 24)) ∷ (fin true 1 (negsuc 0)) ∷ minus1 ∷ (fin true 3 (negsuc 0)) ∷ (fin true 1 (pos 1)) ∷ minus1 ∷ (fin false 1 (negsuc 23)) ∷ n1 ∷ n2 ∷ n3 ∷ n4 ∷ (fin false 16078165 (negsuc 21)) ∷ (fin false 15379115 (negsuc 21)) ∷ (fin false 7 (negsuc 0)) ∷ (fin false 13981013 (negsuc 21)) ∷ (fin false 13281963 (negsuc 21)) ∷ n3 ∷ (fin false 15379115 (negsuc 21)) ∷ (fin false 9087659 (negsuc 20)) ∷ n5 ∷ (fin false 5941931 (negsuc 19)) ∷ (fin false 6640981 (negsuc 19)) ∷ n7 ∷ (fin false 15379115 (negsuc 20)) ∷ (fin false 16078165 (negsuc 20)) ∷ n8 ∷ (fin false 8738133 (negsuc 19)) ∷ (fin false 9087659 (negsuc 19)) ∷ n9 ∷ n9 ∷ n9 ∷ n9 ∷ n9 ∷ n9 ∷ n9 ∷ n9 ∷ [])
-          ∷ state n9 (MaybeTime.At (fin false 6530219459687219 (negsuc 50))) (MaybeTime.At (fin false 3805541685128069 (negsuc 49))) (done (fin false 3715469692580659 (negsuc 49)) n9) [] true
+          ∷ state n9 (Some (fin false 6530219459687219 (negsuc 50))) (Some (fin false 3805541685128069 (negsuc 49))) (done (fin false 3715469692580659 (negsuc 49)) n9) [] true
           ∷ ok
           ∷ ok
           ∷ ok
           ∷ output 2 n0 false (n0 ∷ n0 ∷ n0 ∷ n0 ∷ n0 ∷ n5 ∷ n5 ∷ [])
-          ∷ state n5 (MaybeTime.At (fin false 3602879701896397 (negsuc 54))) (MaybeTime.At (fin false 3602879701896397 (negsuc 51))) (done (fin false 5404319552844595 (negsuc 52)) n1) (record { event = Event.Curve (fin false 1351079888211149 (negsuc 50)) n1 2 MaybeTime.Missing; numbers = (n5 ∷ n5 ∷ []) } ∷ []) true
+          ∷ state n5 (Some (fin false 3602879701896397 (negsuc 54))) (Some (fin false 3602879701896397 (negsuc 51))) (done (fin false 5404319552844595 (negsuc 52)) n1) (record { event = Event.Curve (fin false 1351079888211149 (negsuc 50)) n1 2 None; numbers = (n5 ∷ n5 ∷ []) } ∷ []) true
           ∷ [];
     }
     -- C42 a next block time that is infinite, with a curve; its end is, too, and a ramp behind its start lies inside
@@ -1075,7 +1074,7 @@ cases =
           ∷ ok
           ∷ refused 11
           ∷ output 1 n1 false (n3 ∷ n5 ∷ [])
-          ∷ state n5 (MaybeTime.At (fin false 4258857765019067 (pos 972))) (MaybeTime.At (inf false)) LastEvent.None (record { event = Event.Curve (fin false 4258857765019067 (pos 972)) (fin false 8016673440035891 (pos 967)) 2 MaybeTime.Missing; numbers = (n3 ∷ n5 ∷ []) } ∷ []) true
+          ∷ state n5 (Some (fin false 4258857765019067 (pos 972))) (Some (inf false)) None (record { event = Event.Curve (fin false 4258857765019067 (pos 972)) (fin false 8016673440035891 (pos 967)) 2 None; numbers = (n3 ∷ n5 ∷ []) } ∷ []) true
           ∷ [];
     }
     -- C43 the flush: +0 also of a negative sample, and only below 2^-126
@@ -1130,14 +1129,14 @@ cases =
           ∷ output 2 n0 false (n0 ∷ n0 ∷ n0 ∷ n0 ∷ n0 ∷ n0 ∷ n0 ∷ n0 ∷ n0 ∷ (fin false 4135903 (pos 79)) ∷ [])
           ∷ ok
           ∷ output 2 (fin false 7888609 (pos 103)) false ((fin false 6338253 (negsuc 145)) ∷ (fin false 6338253 (negsuc 145)) ∷ [])
-          ∷ state (fin false 6338253 (negsuc 145)) (MaybeTime.At n10) (MaybeTime.At (fin false 3 (pos 2))) (done n0 (fin false 6338253 (negsuc 145))) [] true
+          ∷ state (fin false 6338253 (negsuc 145)) (Some n10) (Some (fin false 3 (pos 2))) (done n0 (fin false 6338253 (negsuc 145))) [] true
           ∷ ok
           ∷ ok
           ∷ ok
           ∷ output 2 n0 false (n0 ∷ n0 ∷ n0 ∷ n0 ∷ n0 ∷ n0 ∷ n0 ∷ n0 ∷ n0 ∷ (fin false 7805261 (negsuc 142)) ∷ [])
           ∷ ok
           ∷ output 2 (fin false 125 (negsuc 146)) false ((fin false 10101711 (pos 36)) ∷ (fin false 10101711 (pos 36)) ∷ [])
-          ∷ state (fin false 10101711 (pos 36)) (MaybeTime.At n10) (MaybeTime.At (fin false 3 (pos 2))) (done n0 (fin false 10101711 (pos 36))) [] true
+          ∷ state (fin false 10101711 (pos 36)) (Some n10) (Some (fin false 3 (pos 2))) (done n0 (fin false 10101711 (pos 36))) [] true
           ∷ [];
     }
     -- C45 a curve at its very end: time − start = duration, and a position that rounds up to length − 1
@@ -1157,11 +1156,11 @@ cases =
           ok
           ∷ ok
           ∷ output 1 n0 false (n0 ∷ [])
-          ∷ state (fin false 13421773 (negsuc 26)) (MaybeTime.At n0) (MaybeTime.At (fin false 4278419646001971 (negsuc 49))) LastEvent.None (record { event = Event.Curve n0 (fin false 4278419646001971 (negsuc 49)) 4 MaybeTime.Missing; numbers = (n0 ∷ n0 ∷ (fin false 390625 (pos 8)) ∷ (fin false 13421773 (negsuc 26)) ∷ []) } ∷ []) true
+          ∷ state (fin false 13421773 (negsuc 26)) (Some n0) (Some (fin false 4278419646001971 (negsuc 49))) None (record { event = Event.Curve n0 (fin false 4278419646001971 (negsuc 49)) 4 None; numbers = (n0 ∷ n0 ∷ (fin false 390625 (pos 8)) ∷ (fin false 13421773 (negsuc 26)) ∷ []) } ∷ []) true
           ∷ ok
           ∷ ok
           ∷ output 2 n0 false (minus0 ∷ minus0 ∷ [])
-          ∷ state minus0 (MaybeTime.At (fin false 3828059683264921 (negsuc 49))) (MaybeTime.At (fin false 1914029841632461 (negsuc 48))) (done (fin false 7656119366529843 (negsuc 50)) minus0) [] true
+          ∷ state minus0 (Some (fin false 3828059683264921 (negsuc 49))) (Some (fin false 1914029841632461 (negsuc 48))) (done (fin false 7656119366529843 (negsuc 50)) minus0) [] true
           ∷ [];
     }
     -- C46 64 events wait: 7, but 6 and 11 come before it and 8 and 14 after it; cancel is answered
@@ -1183,7 +1182,7 @@ cases =
           ∷ refused 11
           ∷ refused 7
           ∷ ok
-          ∷ state n0 MaybeTime.Missing MaybeTime.Missing LastEvent.None [] true
+          ∷ state n0 None None None [] true
           ∷ []));
     }
     -- C47 the store's ceiling; room is used again
@@ -1209,7 +1208,7 @@ cases =
           ∷ ok
           ∷ ok
           ∷ output 1 n0 false (n2 ∷ [])
-          ∷ state n3 (MaybeTime.At n0) (MaybeTime.At n1) LastEvent.None (record { event = Event.Curve n0 n1 2 MaybeTime.Missing; numbers = (n2 ∷ n3 ∷ []) } ∷ record { event = Event.Curve n1 n1 4000 MaybeTime.Missing; numbers = (replicate 4000 n1) } ∷ []) true
+          ∷ state n3 (Some n0) (Some n1) None (record { event = Event.Curve n0 n1 2 None; numbers = (n2 ∷ n3 ∷ []) } ∷ record { event = Event.Curve n1 n1 4000 None; numbers = (replicate 4000 n1) } ∷ []) true
           ∷ [];
     }
     -- C48 64 exponentials that turn: 129 steps
@@ -1288,7 +1287,7 @@ cases =
       said =
           (replicate 65 ok ++ (output 129 n0 false (n0 ∷ n5 ∷ (fin true 5 (pos 0)) ∷ n5 ∷ (fin true 5 (pos 0)) ∷ n5 ∷ (fin true 5 (pos 0)) ∷ n5 ∷ (fin true 5 (pos 0)) ∷ n5 ∷ (fin true 5 (pos 0)) ∷ n5 ∷ (fin true 5 (pos 0)) ∷ n5 ∷ (fin true 5 (pos 0)) ∷ n5 ∷ (fin true 5 (pos 0)) ∷ n5 ∷ (fin true 5 (pos 0)) ∷ n5 ∷ (fin true 5 (pos 0)) ∷ n5 ∷ (fin true 5 (pos 0)) ∷ n5 ∷ (fin true 5 (pos 0)) ∷ n5 ∷ (fin true 5 (pos 0)) ∷ n5 ∷ (fin true 5 (pos 0)) ∷ n5 ∷ (fin true 5 (pos 0)) ∷ n5 ∷ (fin true 5 (pos 0)) ∷ n5 ∷ (fin true 5 (pos 0)) ∷ n5 ∷ (fin true 5 (pos 0)) ∷ n5 ∷ (fin true 5 (pos 0)) ∷ n5 ∷ (fin true 5 (pos 0)) ∷ n5 ∷ (fin true 5 (pos 0)) ∷ n5 ∷ (fin true 5 (pos 0)) ∷ n5 ∷ (fin true 5 (pos 0)) ∷ n5 ∷ (fin true 5 (pos 0)) ∷ n5 ∷ (fin true 5 (pos 0)) ∷ n5 ∷ (fin true 5 (pos 0)) ∷ n5 ∷ (fin true 5 (pos 0)) ∷ n5 ∷ (fin true 5 (pos 0)) ∷ n5 ∷ (fin true 5 (pos 0)) ∷ n5 ∷ (fin true 5 (pos 0)) ∷ n5 ∷ (fin true 5 (pos 0)) ∷ n5 ∷ [])
           ∷ output 1 (fin true 5 (pos 0)) true ((fin true 5 (pos 0)) ∷ (fin true 5 (pos 0)) ∷ [])
-          ∷ state (fin true 5 (pos 0)) (MaybeTime.At (fin false 1 (pos 6))) (MaybeTime.At (fin false 33 (pos 1))) (done (fin false 1 (pos 6)) (fin true 5 (pos 0))) [] true
+          ∷ state (fin true 5 (pos 0)) (Some (fin false 1 (pos 6))) (Some (fin false 33 (pos 1))) (done (fin false 1 (pos 6)) (fin true 5 (pos 0))) [] true
           ∷ []));
     }
     -- C49 refusal 1 returns an empty A-rate parameter with all numbers 0
@@ -1305,7 +1304,7 @@ cases =
           ok
           ∷ ok
           ∷ refused 1
-          ∷ state n0 MaybeTime.Missing MaybeTime.Missing LastEvent.None [] true
+          ∷ state n0 None None None [] true
           ∷ output 1 n0 false (n0 ∷ n0 ∷ [])
           ∷ [];
     }
@@ -1329,7 +1328,7 @@ cases =
           ∷ ok
           ∷ ok
           ∷ output 2 n5 false (n8 ∷ n8 ∷ [])
-          ∷ state n8 (MaybeTime.At n6) (MaybeTime.At n8) (done n1 n8) [] true
+          ∷ state n8 (Some n6) (Some n8) (done n1 n8) [] true
           ∷ [];
     }
     -- C51 02's example, at K-rate and A-rate: step and ramp at 4, a block's end
@@ -1354,13 +1353,13 @@ cases =
           ∷ ok
           ∷ ok
           ∷ output 2 n1 true (n1 ∷ n1 ∷ n1 ∷ n1 ∷ [])
-          ∷ state n7 (MaybeTime.At n0) (MaybeTime.At n4) (done n4 n5) (alone (Event.Linear n7 n4 MaybeTime.Missing) ∷ []) true
+          ∷ state n7 (Some n0) (Some n4) (done n4 n5) (alone (Event.Linear n7 n4 None) ∷ []) true
           ∷ output 2 n7 true (n7 ∷ n7 ∷ [])
           ∷ ok
           ∷ ok
           ∷ ok
           ∷ output 2 n1 false (n1 ∷ n1 ∷ n1 ∷ n1 ∷ [])
-          ∷ state n7 (MaybeTime.At n0) (MaybeTime.At n4) (done n4 n5) (alone (Event.Exponential n7 n4 MaybeTime.Missing) ∷ []) true
+          ∷ state n7 (Some n0) (Some n4) (done n4 n5) (alone (Event.Exponential n7 n4 None) ∷ []) true
           ∷ output 2 n7 false (n7 ∷ n7 ∷ [])
           ∷ [];
     }
@@ -1401,7 +1400,7 @@ cases =
           ∷ output 2 n5 false (n5 ∷ n5 ∷ [])
           ∷ ok
           ∷ output 2 n5 false (n8 ∷ n8 ∷ [])
-          ∷ state n8 (MaybeTime.At (fin false 4258857765019067 (pos 972))) (MaybeTime.At (inf false)) (done (fin false 1096029571879907 (pos 974)) n8) [] true
+          ∷ state n8 (Some (fin false 4258857765019067 (pos 972))) (Some (inf false)) (done (fin false 1096029571879907 (pos 974)) n8) [] true
           ∷ [];
     }
     -- ---- 02, C-15: a held ramp is filed under its hold time (C54 to C58 are cases-02's)
@@ -1426,11 +1425,11 @@ cases =
           ∷ ok
           ∷ ok
           ∷ ok
-          ∷ state n0 MaybeTime.Missing MaybeTime.Missing LastEvent.None (alone (Event.Step n0 n0) ∷ alone (Event.Linear n8 n8 (MaybeTime.At n2)) ∷ []) true
+          ∷ state n0 None None None (alone (Event.Step n0 n0) ∷ alone (Event.Linear n8 n8 (Some n2)) ∷ []) true
           ∷ ok
-          ∷ state n0 MaybeTime.Missing MaybeTime.Missing LastEvent.None (alone (Event.Step n0 n0) ∷ alone (Event.Linear n8 n8 (MaybeTime.At n2)) ∷ []) true
+          ∷ state n0 None None None (alone (Event.Step n0 n0) ∷ alone (Event.Linear n8 n8 (Some n2)) ∷ []) true
           ∷ ok
-          ∷ state n0 MaybeTime.Missing MaybeTime.Missing LastEvent.None (alone (Event.Step n0 n0) ∷ alone (Event.Linear n8 n8 (MaybeTime.At n1)) ∷ []) true
+          ∷ state n0 None None None (alone (Event.Step n0 n0) ∷ alone (Event.Linear n8 n8 (Some n1)) ∷ []) true
           ∷ [];
     }
     -- C55 "equal times as before": the ramp stays behind what already stood at the hold time, and what comes later for that time goes behind the ramp
@@ -1453,7 +1452,7 @@ cases =
           ∷ ok
           ∷ ok
           ∷ ok
-          ∷ state n0 MaybeTime.Missing MaybeTime.Missing LastEvent.None (alone (Event.Step n0 n0) ∷ alone (Event.Step n3 n2) ∷ alone (Event.Linear n8 n8 (MaybeTime.At n2)) ∷ alone (Event.Step n5 n2) ∷ []) true
+          ∷ state n0 None None None (alone (Event.Step n0 n0) ∷ alone (Event.Step n3 n2) ∷ alone (Event.Linear n8 n8 (Some n2)) ∷ alone (Event.Step n5 n2) ∷ []) true
           ∷ output 5 n0 false (n0 ∷ n0 ∷ n5 ∷ n5 ∷ n5 ∷ n5 ∷ [])
           ∷ [];
     }
@@ -1473,7 +1472,7 @@ cases =
           ∷ ok
           ∷ ok
           ∷ ok
-          ∷ state n0 MaybeTime.Missing MaybeTime.Missing LastEvent.None (alone (Event.Linear n8 n8 (MaybeTime.At n0)) ∷ alone (Event.Step n5 n0) ∷ []) true
+          ∷ state n0 None None None (alone (Event.Linear n8 n8 (Some n0)) ∷ alone (Event.Step n5 n0) ∷ []) true
           ∷ output 3 n0 false (n5 ∷ n5 ∷ [])
           ∷ [];
     }
@@ -1497,9 +1496,9 @@ cases =
           ∷ ok
           ∷ ok
           ∷ ok
-          ∷ state n0 MaybeTime.Missing MaybeTime.Missing LastEvent.None (alone (Event.Step n0 n0) ∷ alone (Event.Exponential n5 n8 (MaybeTime.At n2)) ∷ alone (Event.Step n7 n4) ∷ []) true
+          ∷ state n0 None None None (alone (Event.Step n0 n0) ∷ alone (Event.Exponential n5 n8 (Some n2)) ∷ alone (Event.Step n7 n4) ∷ []) true
           ∷ output 4 n0 false (n0 ∷ n0 ∷ n5 ∷ [])
-          ∷ state n5 (MaybeTime.At n0) (MaybeTime.At n3) (done n2 n5) (alone (Event.Step n7 n4) ∷ []) true
+          ∷ state n5 (Some n0) (Some n3) (done n2 n5) (alone (Event.Step n7 n4) ∷ []) true
           ∷ output 2 n5 false (n5 ∷ n7 ∷ n7 ∷ [])
           ∷ [];
     }
@@ -1521,7 +1520,7 @@ cases =
           ∷ ok
           ∷ ok
           ∷ ok
-          ∷ state n0 MaybeTime.Missing MaybeTime.Missing LastEvent.None (alone (Event.Step n0 n0) ∷ alone (Event.Linear n8 n8 (MaybeTime.At n2)) ∷ alone (Event.Step n7 n5) ∷ []) true
+          ∷ state n0 None None None (alone (Event.Step n0 n0) ∷ alone (Event.Linear n8 n8 (Some n2)) ∷ alone (Event.Step n7 n5) ∷ []) true
           ∷ output 4 n0 false (n0 ∷ n1 ∷ n2 ∷ n2 ∷ n2 ∷ n7 ∷ n7 ∷ n7 ∷ [])
           ∷ [];
     }
@@ -1546,9 +1545,9 @@ cases =
           ∷ output 2 n0 false (n1 ∷ n2 ∷ [])
           ∷ ok
           ∷ ok
-          ∷ state n3 (MaybeTime.At n0) (MaybeTime.At n2) (done n0 n1) (alone (Event.Linear n9 n8 (MaybeTime.At n4)) ∷ []) true
+          ∷ state n3 (Some n0) (Some n2) (done n0 n1) (alone (Event.Linear n9 n8 (Some n4)) ∷ []) true
           ∷ ok
-          ∷ state n1 (MaybeTime.At n0) (MaybeTime.At n2) (done n0 n1) [] true
+          ∷ state n1 (Some n0) (Some n2) (done n0 n1) [] true
           ∷ [];
     }
     -- C60 a ramp that is sent behind a held one starts from its hold; a second hold holds that one, and leaves the first as it is
@@ -1571,7 +1570,7 @@ cases =
           ∷ ok
           ∷ ok
           ∷ ok
-          ∷ state n0 MaybeTime.Missing MaybeTime.Missing LastEvent.None (alone (Event.Step n0 n0) ∷ alone (Event.Linear n8 n8 (MaybeTime.At n2)) ∷ alone (Event.Linear n4 n6 (MaybeTime.At n4)) ∷ []) true
+          ∷ state n0 None None None (alone (Event.Step n0 n0) ∷ alone (Event.Linear n8 n8 (Some n2)) ∷ alone (Event.Linear n4 n6 (Some n4)) ∷ []) true
           ∷ output 4 n0 false (n0 ∷ n1 ∷ n2 ∷ fin false 5 (negsuc 0) ∷ n3 ∷ n3 ∷ [])
           ∷ [];
     }
@@ -1595,10 +1594,10 @@ cases =
           ∷ ok
           ∷ ok
           ∷ ok
-          ∷ state n0 MaybeTime.Missing MaybeTime.Missing LastEvent.None (record { event = Event.Curve n0 n4 3 (MaybeTime.At n1); numbers = (n0 ∷ n4 ∷ n8 ∷ []) } ∷ []) true
+          ∷ state n0 None None None (record { event = Event.Curve n0 n4 3 (Some n1); numbers = (n0 ∷ n4 ∷ n8 ∷ []) } ∷ []) true
           ∷ ok
           ∷ ok
-          ∷ state n0 MaybeTime.Missing MaybeTime.Missing LastEvent.None (record { event = Event.Curve n0 n4 3 (MaybeTime.At n1); numbers = (n0 ∷ n4 ∷ n8 ∷ []) } ∷ alone (Event.Linear n0 n8 (MaybeTime.At n2)) ∷ []) true
+          ∷ state n0 None None None (record { event = Event.Curve n0 n4 3 (Some n1); numbers = (n0 ∷ n4 ∷ n8 ∷ []) } ∷ alone (Event.Linear n0 n8 (Some n2)) ∷ []) true
           ∷ output 3 n0 false (n0 ∷ n2 ∷ (fin false 14380471 (negsuc 22)) ∷ (fin false 14380471 (negsuc 22)) ∷ (fin false 14380471 (negsuc 22)) ∷ (fin false 14380471 (negsuc 22)) ∷ (fin false 14380471 (negsuc 22)) ∷ (fin false 14380471 (negsuc 22)) ∷ (fin false 14380471 (negsuc 22)) ∷ (fin false 14380471 (negsuc 22)) ∷ [])
           ∷ [];
     }
@@ -1631,7 +1630,7 @@ cases =
           ∷ refused 11
           ∷ refused 11
           ∷ refused 11
-          ∷ state n0 MaybeTime.Missing MaybeTime.Missing LastEvent.None (record { event = Event.Curve n0 n1 2 MaybeTime.Missing; numbers = (n1 ∷ n2 ∷ []) } ∷ alone (Event.Step n1 n1) ∷ record { event = Event.Curve n2 n4 3 MaybeTime.Missing; numbers = (n0 ∷ n4 ∷ n8 ∷ []) } ∷ alone (Event.Step n1 n6) ∷ []) true
+          ∷ state n0 None None None (record { event = Event.Curve n0 n1 2 None; numbers = (n1 ∷ n2 ∷ []) } ∷ alone (Event.Step n1 n1) ∷ record { event = Event.Curve n2 n4 3 None; numbers = (n0 ∷ n4 ∷ n8 ∷ []) } ∷ alone (Event.Step n1 n6) ∷ []) true
           ∷ [];
     }
     -- C63 start + duration can be the start: then nothing is inside; or infinite: then all from the start on is
@@ -1654,12 +1653,12 @@ cases =
           ∷ ok
           ∷ ok
           ∷ ok
-          ∷ state n0 MaybeTime.Missing MaybeTime.Missing LastEvent.None (record { event = Event.Curve (fin false 762939453125 (pos 17)) n1 2 MaybeTime.Missing; numbers = (n0 ∷ n1 ∷ []) } ∷ alone (Event.Step n1 (fin false 762939453125 (pos 17))) ∷ record { event = Event.Curve (fin false 762939453125 (pos 17)) n2 2 MaybeTime.Missing; numbers = (n3 ∷ n4 ∷ []) } ∷ []) true
+          ∷ state n0 None None None (record { event = Event.Curve (fin false 762939453125 (pos 17)) n1 2 None; numbers = (n0 ∷ n1 ∷ []) } ∷ alone (Event.Step n1 (fin false 762939453125 (pos 17))) ∷ record { event = Event.Curve (fin false 762939453125 (pos 17)) n2 2 None; numbers = (n3 ∷ n4 ∷ []) } ∷ []) true
           ∷ ok
           ∷ ok
           ∷ refused 11
           ∷ ok
-          ∷ state n0 MaybeTime.Missing MaybeTime.Missing LastEvent.None (alone (Event.Step n1 (fin false 4509378810020189 (pos 971))) ∷ record { event = Event.Curve (fin false 156575653125701 (pos 976)) (fin false 156575653125701 (pos 976)) 2 MaybeTime.Missing; numbers = (n0 ∷ n1 ∷ []) } ∷ []) true
+          ∷ state n0 None None None (alone (Event.Step n1 (fin false 4509378810020189 (pos 971))) ∷ record { event = Event.Curve (fin false 156575653125701 (pos 976)) (fin false 156575653125701 (pos 976)) 2 None; numbers = (n0 ∷ n1 ∷ []) } ∷ []) true
           ∷ [];
     }
     -- C64 11 is given after 2 to 6, and before 7, 8 and 14
@@ -1706,10 +1705,10 @@ cases =
           ∷ ok
           ∷ ok
           ∷ output 1 n0 false (n0 ∷ n5 ∷ n5 ∷ n5 ∷ [])
-          ∷ state n5 (MaybeTime.At n0) (MaybeTime.At n4) (done n0 n0) (alone (Event.Step n5 n4) ∷ record { event = Event.Curve n4 n4 3 MaybeTime.Missing; numbers = (n0 ∷ n4 ∷ n8 ∷ []) } ∷ []) true
+          ∷ state n5 (Some n0) (Some n4) (done n0 n0) (alone (Event.Step n5 n4) ∷ record { event = Event.Curve n4 n4 3 None; numbers = (n0 ∷ n4 ∷ n8 ∷ []) } ∷ []) true
           ∷ refused 11
           ∷ ok
-          ∷ state n5 (MaybeTime.At n0) (MaybeTime.At n4) (done n0 n0) (alone (Event.Step n5 n4) ∷ []) true
+          ∷ state n5 (Some n0) (Some n4) (done n0 n0) (alone (Event.Step n5 n4) ∷ []) true
           ∷ [];
     }
     -- C66 at a curve's very start, in either order
@@ -1759,7 +1758,7 @@ cases =
           ∷ ok
           ∷ refused 11
           ∷ ok
-          ∷ state n0 MaybeTime.Missing MaybeTime.Missing LastEvent.None (record { event = Event.Curve n2 n4 3 (MaybeTime.At n2); numbers = (n0 ∷ n4 ∷ n8 ∷ []) } ∷ alone (Event.Step n1 n2) ∷ alone (Event.Linear n8 n8 (MaybeTime.At n7)) ∷ record { event = Event.Curve (fin false 15 (negsuc 0)) n1 2 MaybeTime.Missing; numbers = (n1 ∷ n2 ∷ []) } ∷ []) true
+          ∷ state n0 None None None (record { event = Event.Curve n2 n4 3 (Some n2); numbers = (n0 ∷ n4 ∷ n8 ∷ []) } ∷ alone (Event.Step n1 n2) ∷ alone (Event.Linear n8 n8 (Some n7)) ∷ record { event = Event.Curve (fin false 15 (negsuc 0)) n1 2 None; numbers = (n1 ∷ n2 ∷ []) } ∷ []) true
           ∷ [];
     }
     -- ---- 02, C-12: running curves (C68 to C74 are cases-02's)
@@ -1780,7 +1779,7 @@ cases =
           ∷ ok
           ∷ output 2 n0 false (n2 ∷ n0 ∷ (fin false 13421773 (negsuc 22)) ∷ [])
           ∷ ok
-          ∷ state n2 (MaybeTime.At n0) (MaybeTime.At n3) (done n0 n2) [] true
+          ∷ state n2 (Some n0) (Some n3) (done n0 n2) [] true
           ∷ [];
     }
     -- C69 started by its times alone: a curve that came behind the block and never played, and the value returns from 4 to 0
@@ -1802,9 +1801,9 @@ cases =
           ∷ ok
           ∷ output 2 n0 false (n0 ∷ n1 ∷ n2 ∷ n3 ∷ [])
           ∷ ok
-          ∷ state n4 (MaybeTime.At n0) (MaybeTime.At n4) (done n0 n0) (record { event = Event.Curve n1 n1 2 MaybeTime.Missing; numbers = (n5 ∷ n6 ∷ []) } ∷ alone (Event.Linear n8 n8 MaybeTime.Missing) ∷ []) true
+          ∷ state n4 (Some n0) (Some n4) (done n0 n0) (record { event = Event.Curve n1 n1 2 None; numbers = (n5 ∷ n6 ∷ []) } ∷ alone (Event.Linear n8 n8 None) ∷ []) true
           ∷ ok
-          ∷ state n0 (MaybeTime.At n0) (MaybeTime.At n4) (done n0 n0) [] true
+          ∷ state n0 (Some n0) (Some n4) (done n0 n0) [] true
           ∷ [];
     }
     -- C70 the last answered block's end, where an earlier block reached further: the curve has played in the first, and the value stays
@@ -1826,9 +1825,9 @@ cases =
           ∷ ok
           ∷ output 2 n0 false (n2 ∷ n2 ∷ n2 ∷ n2 ∷ n2 ∷ n0 ∷ n2 ∷ n4 ∷ [])
           ∷ output 1 n6 true (n6 ∷ [])
-          ∷ state n6 (MaybeTime.At n1) (MaybeTime.At n2) (done n0 n2) (record { event = Event.Curve n5 n4 3 MaybeTime.Missing; numbers = (n0 ∷ n4 ∷ n8 ∷ []) } ∷ []) true
+          ∷ state n6 (Some n1) (Some n2) (done n0 n2) (record { event = Event.Curve n5 n4 3 None; numbers = (n0 ∷ n4 ∷ n8 ∷ []) } ∷ []) true
           ∷ ok
-          ∷ state n6 (MaybeTime.At n1) (MaybeTime.At n2) (done n0 n2) [] true
+          ∷ state n6 (Some n1) (Some n2) (done n0 n2) [] true
           ∷ [];
     }
     -- C71 a curve that is not the head goes without touching the value; a block at K-rate puts it out once more
@@ -1852,7 +1851,7 @@ cases =
           ∷ output 2 n0 true (n0 ∷ n0 ∷ n0 ∷ [])
           ∷ ok
           ∷ ok
-          ∷ state (fin false 13421773 (negsuc 21)) (MaybeTime.At n0) (MaybeTime.At n3) (done n0 n2) (alone (Event.Step n9 n0) ∷ []) true
+          ∷ state (fin false 13421773 (negsuc 21)) (Some n0) (Some n3) (done n0 n2) (alone (Event.Step n9 n0) ∷ []) true
           ∷ output 2 (fin false 13421773 (negsuc 21)) true ((fin false 13421773 (negsuc 21)) ∷ (fin false 13421773 (negsuc 21)) ∷ [])
           ∷ output 1 n9 true (n9 ∷ n9 ∷ [])
           ∷ [];
@@ -1878,15 +1877,15 @@ cases =
           ok
           ∷ ok
           ∷ ok
-          ∷ state n0 MaybeTime.Missing MaybeTime.Missing LastEvent.None (record { event = Event.Curve n1 n5 3 MaybeTime.Missing; numbers = (n0 ∷ n4 ∷ n8 ∷ []) } ∷ []) true
+          ∷ state n0 None None None (record { event = Event.Curve n1 n5 3 None; numbers = (n0 ∷ n4 ∷ n8 ∷ []) } ∷ []) true
           ∷ ok
-          ∷ state n0 MaybeTime.Missing MaybeTime.Missing LastEvent.None [] true
+          ∷ state n0 None None None [] true
           ∷ ok
           ∷ ok
           ∷ ok
-          ∷ state n0 MaybeTime.Missing MaybeTime.Missing LastEvent.None (record { event = Event.Curve n1 n5 3 (MaybeTime.At n3); numbers = (n0 ∷ n4 ∷ n8 ∷ []) } ∷ []) true
+          ∷ state n0 None None None (record { event = Event.Curve n1 n5 3 (Some n3); numbers = (n0 ∷ n4 ∷ n8 ∷ []) } ∷ []) true
           ∷ ok
-          ∷ state n0 MaybeTime.Missing MaybeTime.Missing LastEvent.None [] true
+          ∷ state n0 None None None [] true
           ∷ [];
     }
     -- C73 with no last event the value stays where the curve had brought it
@@ -1904,7 +1903,7 @@ cases =
           ∷ ok
           ∷ output 1 n0 false (n0 ∷ n2 ∷ n4 ∷ [])
           ∷ ok
-          ∷ state n6 (MaybeTime.At n0) (MaybeTime.At n3) LastEvent.None [] true
+          ∷ state n6 (Some n0) (Some n3) None [] true
           ∷ [];
     }
     -- C74 02's example: a curve from 1 to 6 is cancelled at 3 while it runs
@@ -1925,9 +1924,9 @@ cases =
           ∷ ok
           ∷ ok
           ∷ output 2 n0 false (n2 ∷ n0 ∷ (fin false 13421773 (negsuc 22)) ∷ [])
-          ∷ state (fin false 13421773 (negsuc 21)) (MaybeTime.At n0) (MaybeTime.At n3) (done n0 n2) (record { event = Event.Curve n1 n5 3 MaybeTime.Missing; numbers = (n0 ∷ n4 ∷ n8 ∷ []) } ∷ []) true
+          ∷ state (fin false 13421773 (negsuc 21)) (Some n0) (Some n3) (done n0 n2) (record { event = Event.Curve n1 n5 3 None; numbers = (n0 ∷ n4 ∷ n8 ∷ []) } ∷ []) true
           ∷ ok
-          ∷ state n2 (MaybeTime.At n0) (MaybeTime.At n3) (done n0 n2) [] true
+          ∷ state n2 (Some n0) (Some n3) (done n0 n2) [] true
           ∷ output 1 n2 true (n2 ∷ n2 ∷ n2 ∷ n2 ∷ [])
           ∷ [];
     }
@@ -1957,14 +1956,14 @@ cases =
           ∷ output 2 n0 false (n0 ∷ n1 ∷ n2 ∷ n3 ∷ [])
           ∷ ok
           ∷ ok
-          ∷ state n0 (MaybeTime.At n0) (MaybeTime.At n4) (done n0 n0) [] true
+          ∷ state n0 (Some n0) (Some n4) (done n0 n0) [] true
           ∷ ok
           ∷ ok
           ∷ ok
           ∷ output 2 n0 false (n0 ∷ n1 ∷ n2 ∷ n3 ∷ [])
           ∷ ok
           ∷ ok
-          ∷ state n4 (MaybeTime.At n0) (MaybeTime.At n4) (done n0 n0) [] true
+          ∷ state n4 (Some n0) (Some n4) (done n0 n0) [] true
           ∷ [];
     }
     -- C76 the same of a hold before the start
@@ -1993,14 +1992,14 @@ cases =
           ∷ output 2 n0 false (n0 ∷ n1 ∷ n2 ∷ n3 ∷ [])
           ∷ ok
           ∷ ok
-          ∷ state n0 (MaybeTime.At n0) (MaybeTime.At n4) (done n0 n0) [] true
+          ∷ state n0 (Some n0) (Some n4) (done n0 n0) [] true
           ∷ ok
           ∷ ok
           ∷ ok
           ∷ output 2 n0 false (n0 ∷ n1 ∷ n2 ∷ n3 ∷ [])
           ∷ ok
           ∷ ok
-          ∷ state n4 (MaybeTime.At n0) (MaybeTime.At n4) (done n0 n0) [] true
+          ∷ state n4 (Some n0) (Some n4) (done n0 n0) [] true
           ∷ [];
     }
     -- C77 a block that reaches beyond all numbers ends at +infinity
@@ -2014,7 +2013,7 @@ cases =
       said =
           ok
           ∷ output 1 n0 true (n0 ∷ [])
-          ∷ state n0 (MaybeTime.At (fin false 156575653125701 (pos 976))) (MaybeTime.At (inf false)) LastEvent.None [] true
+          ∷ state n0 (Some (fin false 156575653125701 (pos 976))) (Some (inf false)) None [] true
           ∷ [];
     }
     -- ---- 02, C-17: two cancels are one (C78 is cases-02's)
@@ -2052,7 +2051,7 @@ cases =
           ∷ refused 11
           ∷ ok
           ∷ ok
-          ∷ state (fin false 14799527 (negsuc 21)) (MaybeTime.At n0) (MaybeTime.At n4) (done n0 n1) [] true
+          ∷ state (fin false 14799527 (negsuc 21)) (Some n0) (Some n4) (done n0 n1) [] true
           ∷ ok
           ∷ ok
           ∷ ok
@@ -2061,7 +2060,7 @@ cases =
           ∷ ok
           ∷ refused 11
           ∷ ok
-          ∷ state (fin false 14799527 (negsuc 21)) (MaybeTime.At n0) (MaybeTime.At n4) (done n0 n1) [] true
+          ∷ state (fin false 14799527 (negsuc 21)) (Some n0) (Some n4) (done n0 n1) [] true
           ∷ [];
     }
     -- ---- 02, C-19: blocks of up to 1,024 under the second edition (C79 is cases-02's)
@@ -2085,17 +2084,17 @@ cases =
           ∷ [];
       said =
           ok
-          ∷ state n0 MaybeTime.Missing MaybeTime.Missing LastEvent.None [] true
+          ∷ state n0 None None None [] true
           ∷ of (bounds minus10 n0 n10) Rate.A Edition.Second
           ∷ turned 9 0 n0 false (replicate 1025 mark)
           ∷ ok
           ∷ turned 9 0 n0 false (replicate 129 mark)
           ∷ refused 12
-          ∷ state n0 MaybeTime.Missing MaybeTime.Missing LastEvent.None [] true
+          ∷ state n0 None None None [] true
           ∷ of (bounds n0 n0 n0) Rate.A Edition.First
           ∷ refused 1
           ∷ refused 1
-          ∷ state n0 MaybeTime.Missing MaybeTime.Missing LastEvent.None [] true
+          ∷ state n0 None None None [] true
           ∷ of (bounds n0 n0 n0) Rate.A Edition.First
           ∷ [];
     }
@@ -2114,7 +2113,7 @@ cases =
           ok
           ∷ ok
           ∷ output 2 n0 false (replicate 130 n0 ++ replicate 894 n3)
-          ∷ state n3 (MaybeTime.At n0) (MaybeTime.At (fin false 1 (pos 10))) (done (fin false 65 (pos 1)) n3) [] true
+          ∷ state n3 (Some n0) (Some (fin false 1 (pos 10))) (done (fin false 65 (pos 1)) n3) [] true
           ∷ of (bounds minus10 n0 n10) Rate.A Edition.Second
           ∷ output 1 n3 true (replicate 129 n3)
           ∷ [];

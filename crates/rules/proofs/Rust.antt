@@ -1,12 +1,11 @@
 -- A third table: small sessions of steps, linear ramps and curves outside the known differences, with the Rust original's own answers (oracle/), so that the
 -- definitions are held to it, too. The Rust has no steps, no block time and no store: these are not compared here. Under each name stand the calls in plain numbers.
+use Rattle.std.proofs.Common.{None}
 use mathlib.Core.Path.{◌≡◌, refl}
 use mathlib.Core.Bool.{true, false}
 use mathlib.Core.List.{List, [], ◌∷◌}
 use lib.IntN.{pos, negsuc}
 use lib.Ieee.{nan, fin}
-use Rattle.rules.specs.declared.MaybeTime.TheVariants as MaybeTime
-use Rattle.rules.specs.declared.LastEvent.TheVariants as LastEvent
 use Rattle.rules.specs.declared.Event.TheVariants as Event
 use Rattle.rules.specs.declared.AutomationRate.TheVariants as Rate
 use Rattle.rules.specs.Queue.{alone}
@@ -75,7 +74,7 @@ rust =
           ∷ ok
           ∷ ok
           ∷ sounds n0 false (n1 ∷ (fin false 9586981 (negsuc 22)) ∷ (fin false 10785353 (negsuc 22)) ∷ [])
-          ∷ seen (fin false 5991863 (negsuc 21)) (done n0 n1) (alone (Event.Linear n2 n7 MaybeTime.Missing) ∷ [])
+          ∷ seen (fin false 5991863 (negsuc 21)) (done n0 n1) (alone (Event.Linear n2 n7 None) ∷ [])
           ∷ sounds (fin false 5991863 (negsuc 21)) false ((fin false 5991863 (negsuc 21)) ∷ (fin false 6591049 (negsuc 21)) ∷ (fin false 14380471 (negsuc 22)) ∷ [])
           ∷ sounds (fin false 3894711 (negsuc 20)) false ((fin false 3894711 (negsuc 20)) ∷ n2 ∷ n2 ∷ [])
           ∷ seen n2 (done n7 n2) []
@@ -176,7 +175,7 @@ rust =
           ∷ ok
           ∷ ok
           ∷ sounds n0 false (n1 ∷ (fin false 3387707 (negsuc 20)) ∷ (fin false 2339131 (negsuc 19)) ∷ (fin false 5968817 (negsuc 20)) ∷ (fin false 2903749 (negsuc 19)) ∷ [])
-          ∷ seen (fin false 1290555 (negsuc 18)) LastEvent.None (record { event = Event.Curve n0 (fin false 13 (negsuc 0)) 3 MaybeTime.Missing; numbers = (n1 ∷ n3 ∷ n2 ∷ []) } ∷ alone (Event.Linear n0 n9 MaybeTime.Missing) ∷ [])
+          ∷ seen (fin false 1290555 (negsuc 18)) None (record { event = Event.Curve n0 (fin false 13 (negsuc 0)) 3 None; numbers = (n1 ∷ n3 ∷ n2 ∷ []) } ∷ alone (Event.Linear n0 n9 None) ∷ [])
           ∷ sounds (fin false 1290555 (negsuc 18)) false ((fin false 1290555 (negsuc 18)) ∷ (fin false 4516943 (negsuc 20)) ∷ (fin false 13421773 (negsuc 22)) ∷ (fin false 3355443 (negsuc 21)) ∷ n0 ∷ [])
           ∷ seen n0 (done n9 n0) []
           ∷ [];

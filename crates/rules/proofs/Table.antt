@@ -1,4 +1,7 @@
 -- What the tables are made of: a case is a list of calls and what is said to each; the checker computes both. Definitions only.
+use Rattle.std.proofs.Common.{Option, Some, Result, Ok, Err}
+use Rattle.rules.specs.declared.Finished.{Finished}
+use Rattle.rules.specs.declared.Refusal.{Refusal}
 use mathlib.Core.Bool.{Bool, true, false}
 use mathlib.Core.List.{List, [], ◌∷◌, ◌++◌}
 use Prim.Native.Nat.{ℕ, zero, suc}
@@ -7,12 +10,9 @@ use lib.IntN.{pos, negsuc}
 use lib.Ieee as Ieee
 use lib.Ieee.{Float, nan, inf, fin}
 use Rattle.rules.specs.declared.Bounds.{Bounds}
-use Rattle.rules.specs.declared.MaybeTime.{MaybeTime}
-use Rattle.rules.specs.declared.LastEvent.{LastEvent}
 use Rattle.rules.specs.declared.AutomationRate.{AutomationRate}
 use Rattle.rules.specs.declared.AutomationRate.TheVariants as Rate
 use Rattle.rules.specs.declared.Edition.{Edition}
-use Rattle.rules.specs.declared.Verdict.{Verdict}
 use Rattle.rules.specs.Numbers as Numbers
 use Rattle.rules.specs.Numbers.{store_length, plus_zero}
 use Rattle.rules.specs.Kernels as Kernels
@@ -80,8 +80,8 @@ mark = fin false 1 (pos 23)
 abbrev pub bounds : Float → Float → Float → Bounds
 bounds lo d hi = record { min = lo; default = d; max = hi }
 
-abbrev pub done : Float → Float → LastEvent
-done t v = LastEvent.Done (record { time = t; value = v })
+abbrev pub done : Float → Float → Option Finished
+done t v = Some (record { time = t; value = v })
 
 -- ---- calls, and what is said to them
 
@@ -106,19 +106,19 @@ pub data Said : Type 0 where
   output : ℕ → Float → Bool → List Float → Said
   turned : ℕ → ℕ → Float → Bool → List Float → Said
   heard : List Float → ℕ → Said
-  state : Float → MaybeTime → MaybeTime → LastEvent → List Waiting → Bool → Said
+  state : Float → Option Float → Option Float → Option Finished → List Waiting → Bool → Said
   value : Float → Said
   of : Bounds → AutomationRate → Edition → Said
   sounds : Float → Bool → List Float → Said
-  seen : Float → LastEvent → List Waiting → Said
+  seen : Float → Option Finished → List Waiting → Said
 
 pub record Case : Type 0 where
   pub acts : List Act
   pub said : List Said
 
-unfoldable pub verdict_said : Verdict → Said → Said
-verdict_said Verdict.Answered s = s
-verdict_said (Verdict.Refused r) s = refused (number_of r)
+unfoldable pub verdict_said : Result Unit Refusal → Said → Said
+verdict_said (Ok _) s = s
+verdict_said (Err r) s = refused (number_of r)
 
 unfoldable pub all_zeros : List Float → Bool
 all_zeros [] = true
@@ -132,9 +132,9 @@ abbrev pub call_of : Float → Float → ℕ → ℕ → List Float → Call
 call_of t p count out input =
     record { time = t; period = p; count = count; input = input; output = replicate out mark }
 
-unfoldable pub output_as : Verdict → Answer → Said
-output_as Verdict.Answered a = output a.steps a.current a.one_valued a.output
-output_as (Verdict.Refused r) a = turned (number_of r) a.steps a.current a.one_valued a.output
+unfoldable pub output_as : Result Unit Refusal → Answer → Said
+output_as (Ok _) a = output a.steps a.current a.one_valued a.output
+output_as (Err r) a = turned (number_of r) a.steps a.current a.one_valued a.output
 
 unfoldable pub output_said : Answer → Said
 output_said a = output_as a.verdict a

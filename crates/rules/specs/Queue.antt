@@ -1,19 +1,17 @@
 -- Document 01, "Events as they arrive": the queue and the curve store.
-use Rattle.std.specs.Prelude.{Bool, true, false, cond, not, ◌&&◌, ◌||◌, List, [], ◌∷◌, ◌++◌, ℕ, suc, ◌+◌, ◌-◌, length, take, drop, replicate, Float}
+use Rattle.rules.specs.declared.Finished.{Finished}
+use Rattle.std.specs.Prelude.{Bool, true, false, cond, not, ◌&&◌, ◌||◌, List, [], ◌∷◌, ◌++◌, ℕ, suc, ◌+◌, ◌-◌, length, take, drop, replicate, Float, Option, Some, None}
 use Rattle.std.specs.Float.Ieee as Ieee
 use Rattle.std.specs.Float.{binary64}
-use Rattle.rules.specs.declared.MaybeTime.{MaybeTime}
 use Rattle.rules.specs.declared.Event.{Event}
-use Rattle.rules.specs.declared.Head.{Head}
-use Rattle.rules.specs.declared.LastEvent.{LastEvent}
 use Rattle.rules.specs.Numbers.{plus_zero, store_length, is_zero}
 
 -- ---- an event: "a step, linear ramp, exponential ramp, target or curve, each with its own numbers"
 
 -- a hold time where there is one, else t
-unfoldable pub hold_or : MaybeTime → Float → Float
-hold_or MaybeTime.Missing t = t
-hold_or (MaybeTime.At c) t = c
+unfoldable pub hold_or : Option Float → Float → Float
+hold_or None t = t
+hold_or (Some c) t = c
 
 -- The time that an event is filed under: "A held ramp must be filed under its hold time, while its slope still uses" its own (02, C-15); all else under its own
 -- time. Arrival, cancel, hold and a target's look at the next event all read this one.
@@ -32,7 +30,7 @@ is_ramp (Event.Target v t c h) = false
 is_ramp (Event.Curve s d n h) = false
 
 -- "the end being start plus duration or an earlier hold time" (02, C-14), the sum as rounded
-unfoldable pub curve_end : Float → Float → MaybeTime → Float
+unfoldable pub curve_end : Float → Float → Option Float → Float
 curve_end s d h = hold_or h (Ieee.add binary64 s d)
 
 -- "at or after a .. start and before its end"
@@ -57,7 +55,7 @@ length_of (Event.Curve s d n h) = n
 
 -- "A target with time constant 0 is stored as a step (Web Audio)."
 unfoldable pub target_event : Float → Float → Float → Event
-target_event v t c = cond (is_zero c) (Event.Step v t) (Event.Target v t c MaybeTime.Missing)
+target_event v t c = cond (is_zero c) (Event.Step v t) (Event.Target v t c None)
 
 -- ---- a waiting event, with its curve's numbers (none for the other kinds)
 
@@ -68,9 +66,9 @@ pub record Waiting : Type 0 where
 abbrev pub alone : Event → Waiting
 alone e = record { event = e; numbers = [] }
 
-unfoldable pub head_of : List Waiting → Head
-head_of [] = Head.Empty
-head_of (w ∷ ws) = Head.Event w.event
+unfoldable pub head_of : List Waiting → Option Event
+head_of [] = None
+head_of (w ∷ ws) = Some w.event
 
 unfoldable pub events_of : List Waiting → List Event
 events_of [] = []
@@ -162,12 +160,12 @@ unfoldable pub cancelled : Float → List Waiting → List Waiting
 cancelled c ws = those (is_before c) ws
 
 -- whether a time is "by the last answered block's end": with no block answered, none is
-unfoldable pub is_by : MaybeTime → Float → Bool
-is_by MaybeTime.Missing t = false
-is_by (MaybeTime.At end) t = Ieee.le t end
+unfoldable pub is_by : Option Float → Float → Bool
+is_by None t = false
+is_by (Some end) t = Ieee.le t end
 
 -- whether an event is a curve that "had started by the last answered block's end", by the two times alone (02, C-12)
-unfoldable pub has_started : MaybeTime → Event → Bool
+unfoldable pub has_started : Option Float → Event → Bool
 has_started end (Event.Step v t) = false
 has_started end (Event.Linear v t h) = false
 has_started end (Event.Exponential v t h) = false
@@ -175,24 +173,24 @@ has_started end (Event.Target v t c h) = false
 has_started end (Event.Curve s d n h) = is_by end s
 
 -- whether "the head was a ramp and is removed" (01), or a curve that had started (02, C-12)
-unfoldable pub loses_head : Float → MaybeTime → Head → Bool
-loses_head c end Head.Empty = false
-loses_head c end (Head.Event e) = goes_at c e && (is_ramp e || has_started end e)
+unfoldable pub loses_head : Float → Option Float → Option Event → Bool
+loses_head c end None = false
+loses_head c end (Some e) = goes_at c e && (is_ramp e || has_started end e)
 
 -- "the intrinsic value returns to the last event's value, if there is one"
-unfoldable pub returned : LastEvent → Float → Float
-returned LastEvent.None v = v
-returned (LastEvent.Done l) v = l.value
+unfoldable pub returned : Option Finished → Float → Float
+returned None v = v
+returned (Some l) v = l.value
 
-unfoldable pub value_after_cancel : Float → MaybeTime → List Waiting → LastEvent → Float → Float
+unfoldable pub value_after_cancel : Float → Option Float → List Waiting → Option Finished → Float → Float
 value_after_cancel c end ws l v = cond (loses_head c end (head_of ws)) (returned l v) v
 
 -- ---- cancel-and-hold at c
 
 -- "it gets hold time c"; "An existing hold time only moves earlier (ours)."
-unfoldable pub sooner : MaybeTime → Float → MaybeTime
-sooner MaybeTime.Missing c = MaybeTime.At c
-sooner (MaybeTime.At h) c = cond (Ieee.lt h c) (MaybeTime.At h) (MaybeTime.At c)
+unfoldable pub sooner : Option Float → Float → Option Float
+sooner None c = Some c
+sooner (Some h) c = cond (Ieee.lt h c) (Some h) (Some c)
 
 -- a step has no hold time, and is never held
 unfoldable pub held_event : Float → Event → Event
@@ -244,9 +242,9 @@ unfoldable pub held : Float → List Waiting → List Waiting
 held c ws = held_by c (those (is_not_later c) ws) (those (is_later c) ws)
 
 -- "removed by any cancel": a hold takes a curve from the head where it starts later than c. A ramp it never takes from there.
-unfoldable pub loses_curve : Float → MaybeTime → Head → Bool
-loses_curve c end Head.Empty = false
-loses_curve c end (Head.Event e) = Ieee.lt c (filed_under e) && has_started end e
+unfoldable pub loses_curve : Float → Option Float → Option Event → Bool
+loses_curve c end None = false
+loses_curve c end (Some e) = Ieee.lt c (filed_under e) && has_started end e
 
-unfoldable pub value_after_hold : Float → MaybeTime → List Waiting → LastEvent → Float → Float
+unfoldable pub value_after_hold : Float → Option Float → List Waiting → Option Finished → Float → Float
 value_after_hold c end ws l v = cond (loses_curve c end (head_of ws)) (returned l v) v

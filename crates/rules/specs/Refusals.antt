@@ -1,11 +1,9 @@
 -- Document 01, "Refusal numbers": when each call is refused, and with which number.
-use Rattle.std.specs.Prelude.{Bool, true, false, not, ◌&&◌, ◌||◌, List, [], ◌∷◌, ℕ, ◌+◌, leb, ltb, eqb, length, Float}
+use Rattle.std.specs.Prelude.{Bool, true, false, not, ◌&&◌, ◌||◌, List, [], ◌∷◌, ℕ, ◌+◌, leb, ltb, eqb, length, Float, Option, Some, None, Result, Ok, Err}
 use Rattle.std.specs.Float.Ieee as Ieee
 use Rattle.rules.specs.declared.Bounds.{Bounds}
 use Rattle.rules.specs.declared.Event.{Event}
-use Rattle.rules.specs.declared.MaybeTime.{MaybeTime}
 use Rattle.rules.specs.declared.Refusal.{Refusal}
-use Rattle.rules.specs.declared.Verdict.{Verdict}
 use Rattle.rules.specs.Numbers.{most_events, store_length, is_finite, is_zero, is_positive, is_negative, taken_time}
 use Rattle.rules.specs.Queue.{lengths_of, curve_end, any_covers, any_inside}
 
@@ -46,9 +44,9 @@ pub data Row : Type 0 where
   row : Refusal → Bool → Row
 
 -- "If several apply, the lowest number is given": the first row that applies, the rows of each call standing in the order of their ranks
-unfoldable pub lowest : List Row → Verdict
-lowest [] = Verdict.Answered
-lowest (row r true ∷ rows) = Verdict.Refused r
+unfoldable pub lowest : List Row → Result Unit Refusal
+lowest [] = Ok tt
+lowest (row r true ∷ rows) = Err r
 lowest (row r false ∷ rows) = lowest rows
 
 unfoldable pub all_finite : List Float → Bool
@@ -75,7 +73,7 @@ inside_row q t = row Refusal.Inside (any_covers (taken_time t) q)
 
 -- 11 for a curve: "whose own span .. holds a waiting event's time, or whose start lies inside a waiting curve's span"
 unfoldable pub is_crossed : List Event → Float → Float → Bool
-is_crossed q start d = any_covers start q || any_inside start (curve_end start d MaybeTime.Missing) q
+is_crossed q start d = any_covers start q || any_inside start (curve_end start d None) q
 
 -- 14: "the curve store lent to a call is not exactly 4,096 numbers long"
 abbrev pub store_row : List Float → Row
@@ -141,10 +139,10 @@ unfoldable pub is_block : ℕ → Float → Float → ℕ → List Float → Lis
 is_block most t period count input output = is_time t && (is_period period && (is_count most count && (leb count (length output) && fits_count input count)))
 
 -- 10: "block time below that of the last answered block"
-unfoldable pub is_earlier : MaybeTime → Float → Bool
-is_earlier MaybeTime.Missing t = false
-is_earlier (MaybeTime.At last) t = Ieee.lt t last
+unfoldable pub is_earlier : Option Float → Float → Bool
+is_earlier None t = false
+is_earlier (Some last) t = Ieee.lt t last
 
-unfoldable pub block_rows : ℕ → MaybeTime → List Float → Float → Float → ℕ → List Float → List Float → List Row
+unfoldable pub block_rows : ℕ → Option Float → List Float → Float → Float → ℕ → List Float → List Float → List Row
 block_rows most last store t period count input output =
     row Refusal.BadBlock (not (is_block most t period count input output)) ∷ row Refusal.OutOfOrder (is_earlier last t) ∷ store_row store ∷ []

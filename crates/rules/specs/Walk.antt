@@ -1,12 +1,9 @@
 -- Document 01, "Rendering one block": the five bodies, and the walk over the heads.
-use Rattle.std.specs.Prelude.{Bool, false, cond, List, [], ◌∷◌, ℕ, suc, negsuc, Float}
+use Rattle.std.specs.Prelude.{Bool, false, cond, List, [], ◌∷◌, ℕ, suc, negsuc, Float, Option, Some, None}
 use Rattle.std.specs.Float.Ieee as Ieee
 use Rattle.std.specs.Float.{fin, binary32, binary64}
-use Rattle.rules.specs.declared.MaybeTime.{MaybeTime}
 use Rattle.rules.specs.declared.Event.{Event}
-use Rattle.rules.specs.declared.Head.{Head}
 use Rattle.rules.specs.declared.Finished.{Finished}
-use Rattle.rules.specs.declared.LastEvent.{LastEvent}
 use Rattle.rules.specs.declared.BlockInfos.{BlockInfos}
 use Rattle.rules.specs.Numbers.{plus_zero, is_zero, is_subnormal, magnitude, later_of, end_place, filled}
 use Rattle.rules.specs.Samples.{linear_sample, exponential_sample, ratio_of, is_ratio, target_sample, curve_sample, last_number}
@@ -18,7 +15,7 @@ use Rattle.rules.specs.Queue.{Waiting, alone, hold_or, filed_under, is_ramp, hea
 -- exponentials that became steps.
 pub record Walk : Type 0 where
   pub intrinsic : Float
-  pub last : LastEvent
+  pub last : Option Finished
   pub values : List Float
   pub steps : ℕ
   pub finished : ℕ
@@ -44,7 +41,7 @@ with_intrinsic v w =
 
 unfoldable pub with_last : Finished → Walk → Walk
 with_last l w =
-    record { intrinsic = w.intrinsic; last = LastEvent.Done l; values = w.values; steps = w.steps; finished = w.finished; turned = w.turned }
+    record { intrinsic = w.intrinsic; last = Some l; values = w.values; steps = w.steps; finished = w.finished; turned = w.turned }
 
 -- an exponential ramp that became a step
 unfoldable pub with_turned : Walk → Walk
@@ -56,7 +53,7 @@ unfoldable pub consumed : Float → Float → Walk → Walk
 consumed t v w =
     record {
       intrinsic = v;
-      last = LastEvent.Done (record { time = t; value = v });
+      last = Some (record { time = t; value = v });
       values = w.values;
       steps = w.steps;
       finished = suc w.finished;
@@ -68,9 +65,9 @@ unfoldable pub fill : BlockInfos → ℕ → (Float → Float) → Walk → Walk
 fill f n sample w = with_values (filled f n sample w.values) w
 
 -- "With no last event, one is first made from block time and intrinsic value, and kept."
-unfoldable pub last_or : BlockInfos → Float → LastEvent → Finished
-last_or f v LastEvent.None = record { time = f.time; value = v }
-last_or f v (LastEvent.Done l) = l
+unfoldable pub last_or : BlockInfos → Float → Option Finished → Finished
+last_or f v None = record { time = f.time; value = v }
+last_or f v (Some l) = l
 
 unfoldable pub start_of : BlockInfos → Walk → Finished
 start_of f w = last_or f w.intrinsic w.last
@@ -93,13 +90,13 @@ step_turn f w v t = step_from f w (alone (Event.Step v t)) v (step_time f t)
 -- ---- what ramps and curves share
 
 -- "held, with the end and the value there; else with .. event value"
-unfoldable pub value_at_end : MaybeTime → Float → (Float → Float) → Float
-value_at_end MaybeTime.Missing v sample = v
-value_at_end (MaybeTime.At c) v sample = sample c
+unfoldable pub value_at_end : Option Float → Float → (Float → Float) → Float
+value_at_end None v sample = v
+value_at_end (Some c) v sample = sample c
 
 -- x is the head, t where it ends if not held and v the value with which it then ends, sample its value at each time: "End is the hold time, else the event time. Fill
 -- to the end place. End ≥ next block time: intrinsic becomes the value at next block time; stop. Otherwise consume"
-unfoldable pub span_turn : BlockInfos → Walk → Waiting → Float → Float → MaybeTime → (Float → Float) → Turn
+unfoldable pub span_turn : BlockInfos → Walk → Waiting → Float → Float → Option Float → (Float → Float) → Turn
 span_turn f w x t v h sample =
     let end = hold_or h t in
     let rest = fill f (end_place f end) sample w in
@@ -111,13 +108,13 @@ span_turn f w x t v h sample =
 -- ---- ramps
 
 -- "Duration is event time − last time."
-unfoldable pub linear_turn : BlockInfos → Walk → Waiting → Float → Float → MaybeTime → Turn
+unfoldable pub linear_turn : BlockInfos → Walk → Waiting → Float → Float → Option Float → Turn
 linear_turn f w x v t h =
     let from = start_of f w in
     span_turn f (with_last from w) x t v h (linear_sample from v (Ieee.sub binary64 t from.time))
 
 -- "If [the ratio] is not finite and above 0, the event becomes a step to its end value at the end time, and the walk goes on": with that step as its next head
-unfoldable pub exponential_turn : BlockInfos → Walk → Waiting → Float → Float → MaybeTime → Turn
+unfoldable pub exponential_turn : BlockInfos → Walk → Waiting → Float → Float → Option Float → Turn
 exponential_turn f w x v t h =
     let from = start_of f w in
     cond
@@ -128,18 +125,18 @@ exponential_turn f w x v t h =
 -- ---- target
 
 -- "If a ramp is next, it ends at the later of block time and its start ..; else at the next event's time if below next block time."
-unfoldable pub end_by_next : BlockInfos → Float → Head → MaybeTime
-end_by_next f t Head.Empty = MaybeTime.Missing
-end_by_next f t (Head.Event e) =
+unfoldable pub end_by_next : BlockInfos → Float → Option Event → Option Float
+end_by_next f t None = None
+end_by_next f t (Some e) =
     cond
     (is_ramp e)
-    (MaybeTime.At (later_of f.time t))
-    (cond (Ieee.lt (filed_under e) f.next) (MaybeTime.At (filed_under e)) MaybeTime.Missing)
+    (Some (later_of f.time t))
+    (cond (Ieee.lt (filed_under e) f.next) (Some (filed_under e)) None)
 
 -- "A hold time below next block time replaces that end."
-unfoldable pub end_by_hold : BlockInfos → MaybeTime → MaybeTime → MaybeTime
-end_by_hold f MaybeTime.Missing e = e
-end_by_hold f (MaybeTime.At c) e = cond (Ieee.lt c f.next) (MaybeTime.At c) e
+unfoldable pub end_by_hold : BlockInfos → Option Float → Option Float → Option Float
+end_by_hold f None e = e
+end_by_hold f (Some c) e = cond (Ieee.lt c f.next) (Some c) e
 
 -- "1e-10 (f32)"
 abbrev pub snap_width : Float
@@ -168,17 +165,17 @@ target_left f w x target v =
     (stop (with_intrinsic v w) x)
 
 -- "Not ended: take the value at next block time" (it fills up to the end place of that time: DECISIONS, reading 1). "Ended: consume with end time and value there."
-unfoldable pub target_run : BlockInfos → Walk → Waiting → Float → (Float → Float) → MaybeTime → Turn
-target_run f w x target sample MaybeTime.Missing =
+unfoldable pub target_run : BlockInfos → Walk → Waiting → Float → (Float → Float) → Option Float → Turn
+target_run f w x target sample None =
     target_left f (fill f (end_place f f.next) sample w) x target (sample f.next)
-target_run f w x target sample (MaybeTime.At end) = on (consumed end (sample end) (fill f (end_place f end) sample w))
+target_run f w x target sample (Some end) = on (consumed end (sample end) (fill f (end_place f end) sample w))
 
 -- "Before the start a sample is the intrinsic value."
 unfoldable pub from_start : Float → Float → (Float → Float) → Float → Float
 from_start start v sample t = cond (Ieee.lt t start) v (sample t)
 
 -- "It uses the last event's value, made as for a ramp where none exists. If its start is after the next block time, fill and stop": it stops, and `ended` fills.
-unfoldable pub target_turn : BlockInfos → Walk → Waiting → Float → Float → Float → MaybeTime → Head → Turn
+unfoldable pub target_turn : BlockInfos → Walk → Waiting → Float → Float → Float → Option Float → Option Event → Turn
 target_turn f w x v t c h n =
     let from = start_of f w in
     cond
@@ -190,7 +187,7 @@ target_turn f w x v t c h n =
 
 -- "Not yet started: as for the target": it stops, and `ended` fills (it makes no last event: DECISIONS, reading 12).
 -- "End is the hold time, else start + duration; fill and stop as for a ramp; a finished curve's value is its last number."
-unfoldable pub curve_turn : BlockInfos → Walk → Waiting → Float → Float → MaybeTime → Turn
+unfoldable pub curve_turn : BlockInfos → Walk → Waiting → Float → Float → Option Float → Turn
 curve_turn f w x s d h =
     cond
     (Ieee.lt f.next s)
@@ -200,7 +197,7 @@ curve_turn f w x s d h =
 -- ---- the walk
 
 -- what the head x does, with n behind it
-unfoldable pub turn_of : BlockInfos → Walk → Waiting → Head → Event → Turn
+unfoldable pub turn_of : BlockInfos → Walk → Waiting → Option Event → Event → Turn
 turn_of f w x n (Event.Step v t) = step_turn f w v t
 turn_of f w x n (Event.Linear v t h) = linear_turn f w x v t h
 turn_of f w x n (Event.Exponential v t h) = exponential_turn f w x v t h
@@ -208,7 +205,7 @@ turn_of f w x n (Event.Target v t c h) = target_turn f w x v t c h n
 turn_of f w x n (Event.Curve s d k h) = curve_turn f w x s d h
 
 -- a head, taken: "each one step"
-unfoldable pub turn : BlockInfos → Walk → Waiting → Head → Turn
+unfoldable pub turn : BlockInfos → Walk → Waiting → Option Event → Turn
 turn f w x n = turn_of f (counted w) x n x.event
 
 -- what a walk leaves: what it carried, and the events that still wait

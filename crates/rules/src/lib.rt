@@ -1,13 +1,6 @@
 // The plain types that document 01's rules speak of. No code: the rules are in specs/.
 #![tactic(auto)]
 
-// A time that may be missing: of the last answered block, of a hold, of a target's end.
-#[derive(Clone, Copy)]
-pub enum MaybeTime {
-    Missing,
-    At(f64),
-}
-
 // A waiting event; a curve's numbers stand in the curve store, `len` of them.
 #[derive(Clone, Copy)]
 pub enum Event {
@@ -18,32 +11,25 @@ pub enum Event {
     Linear {
         value: f32,
         time: f64,
-        hold: MaybeTime,
+        hold: Option<f64>,
     },
     Exponential {
         value: f32,
         time: f64,
-        hold: MaybeTime,
+        hold: Option<f64>,
     },
     Target {
         value: f32,
         time: f64,
         constant: f64,
-        hold: MaybeTime,
+        hold: Option<f64>,
     },
     Curve {
         start: f64,
         duration: f64,
         len: usize,
-        hold: MaybeTime,
+        hold: Option<f64>,
     },
-}
-
-// The first event of a queue, or that none waits.
-#[derive(Clone, Copy)]
-pub enum Head {
-    Event(Event),
-    Empty,
 }
 
 // Whether a block has a value for each sample (A) or one for all (K).
@@ -75,13 +61,6 @@ pub struct Finished {
     pub value: f32,
 }
 
-// The last finished event: none, or its time and value.
-#[derive(Clone, Copy)]
-pub enum LastEvent {
-    None,
-    Done(Finished),
-}
-
 // What a body may know of its block: its time, the sample period, the next block's time, the count of samples, the rate.
 #[derive(Clone, Copy)]
 pub struct BlockInfos {
@@ -92,7 +71,7 @@ pub struct BlockInfos {
     pub rate: AutomationRate,
 }
 
-// Why a call is refused; `number_of` in specs/Refusals.antt gives document 01's numbers, and 02's.
+// Why a call is refused: a call says `Result<(), Refusal>`; `number_of` in specs/Refusals.antt gives document 01's numbers, and 02's.
 #[derive(Clone, Copy)]
 pub enum Refusal {
     Bounds,
@@ -108,11 +87,4 @@ pub enum Refusal {
     Inside,
     UnknownEdition,
     BadStore,
-}
-
-// What a call says: answered, or refused and why.
-#[derive(Clone, Copy)]
-pub enum Verdict {
-    Answered,
-    Refused(Refusal),
 }

@@ -1,8 +1,8 @@
 -- What the calls of a row do, by what the parameter's own calls ensure. Assumes nothing.
+use Rattle.std.proofs.Common.{Ok}
 use mathlib.Core.Path.{◌≡◌, refl, sym, ap, ap₂, ◌∙◌}
 use mathlib.Core.List.{List, [], ◌∷◌}
 use lib.Ieee.{Float}
-use Rattle.rules.specs.declared.Verdict.TheVariants as Verdict
 use Rattle.rules.specs.Block.{Param, made, Called, Command, called, step, linear, exponential, curve, cancel, hold}
 use Rattle.laws.proofs.Answers.{unlent}
 use Rattle.param.specs.declared.AudioParam.{AudioParam}
@@ -20,7 +20,7 @@ abbrev with_store : List Float → Called → Called
 with_store s x = record { verdict = x.verdict; param = x.param; store = s }
 
 module _ {p : AudioParam} {s : List Float} {c : Call} where
-  pub asks_nothing : SoundParam p → c ≡ Call.Nothing → Applies p s c (record { verdict = Verdict.Answered; param = p }) s
+  pub asks_nothing : SoundParam p → c ≡ Call.Nothing → Applies p s c (record { verdict = (Ok tt); param = p }) s
   unfolding applied
   asks_nothing sound h = rw h (record { verdict = refl; param = whole p sound; left = refl; sound = sound })
 

@@ -1,7 +1,6 @@
 -- A row, played: what its calls do to the parameter and the store, by document 01's rules.
-use Rattle.std.specs.Prelude.{◌≡◌, Bool, true, false, List, [], ◌∷◌, pos, Float}
+use Rattle.std.specs.Prelude.{◌≡◌, Bool, true, false, List, [], ◌∷◌, pos, Float, Ok}
 use Rattle.std.specs.Float.{nan, fin}
-use Rattle.rules.specs.declared.Verdict.TheVariants as Verdict
 use Rattle.rules.specs.Block.{Param, Answer, made, answered, Called, called, step, linear, exponential, curve, cancel, hold}
 use Rattle.param.specs.declared.AudioParam.{AudioParam}
 use Rattle.param.specs.declared.Outcome.{Outcome}
@@ -24,7 +23,7 @@ input_of false = []
 
 -- what a call of a row gives back
 unfoldable pub applied : Param → List Float → Call → Called
-applied p s Call.Nothing = record { verdict = Verdict.Answered; param = p; store = s }
+applied p s Call.Nothing = record { verdict = Ok tt; param = p; store = s }
 applied p s (Call.Step v t) = called p s (step v t)
 applied p s (Call.Linear v t) = called p s (linear v t)
 applied p s (Call.Exponential v t) = called p s (exponential v t)

@@ -9,7 +9,7 @@ ghost use Rattle.sheet.specs.Rows.{once, b2, b3, b4, b5, b6, b7, b8, b9, b10, b1
 ghost use Rattle.sheet.specs.Played.{n1, input_of, Applies, SetsUp, PlaysRow};
 
 use param::{AudioParam, Outcome, Processed};
-use rules::{AutomationRate, Bounds, Verdict};
+use rules::{AutomationRate, Bounds};
 use tick::process_by_tick;
 
 // What a row asks for before a block.
@@ -301,7 +301,7 @@ fn ask(p: AudioParam, c: Call, store: &mut [f32]) -> Outcome
 {
     match c {
         Call::Nothing => Outcome {
-            verdict: Verdict::Answered,
+            verdict: Ok(()),
             param: p,
         },
         Call::Step { value, time } => p.set_value_at_time(value, time),

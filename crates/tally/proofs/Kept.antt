@@ -1,4 +1,5 @@
 -- Totals kept up to the largest number: kept after each call they are the whole sum's, and below that number they are the totals themselves. Assumes nothing.
+use Rattle.std.proofs.Common.{Result, Ok, Err}
 use mathlib.Core.Path.{◌≡◌, refl, sym, ap, ◌∙◌}
 use mathlib.Core.Bool.{Bool, true, false, cond}
 use Prim.Native.Nat.{ℕ, suc, ◌+◌, ◌-◌, ◌*◌, ◌≤◌, ◌<◌}
@@ -6,7 +7,6 @@ use native.Mathlib.Omega.{arith}
 use lib.Dec.{leb}
 use borrow.Author.Tests.{leb-true, leb-false, le-leb}
 use Rattle.rules.specs.declared.Refusal.{Refusal}
-use Rattle.rules.specs.declared.Verdict.{Verdict}
 use Rattle.costs.specs.declared.Totals.{Totals}
 use Rattle.costs.specs.Costs.{nothing, plus, most_steps, Sums}
 use Rattle.costs.specs.Seen.{command_seen, block_seen}
@@ -80,14 +80,14 @@ pub command_parts : (before after : ℕ) {stored cancelled : ℕ} → stored ≡
 unfolding command_seen
 command_parts before after s c = rw (s, c)
 
-module _ {v : Verdict} (steps before after : ℕ) where
-  pub answered-parts : {finished further turned : ℕ} → v ≡ Verdict.Answered → finished ≡ before - after → further ≡ steps - 1 → turned ≡ further - finished
+module _ {v : Result Unit Refusal} (steps before after : ℕ) where
+  pub answered-parts : {finished further turned : ℕ} → v ≡ Ok tt → finished ≡ before - after → further ≡ steps - 1 → turned ≡ further - finished
       → record { steps = steps; blocks = 1; stored = 0; finished = finished; cancelled = 0; turned = turned } ≡ block_seen v steps before after
   unfolding block_seen
   answered-parts e f g t =
       let left : steps - 1 - (before - after) ≡ steps - suc (before - after) = omega arith in
       rw (e, t, g, f, left)
 
-  pub refused_parts : {why : Refusal} → v ≡ Verdict.Refused why → nothing ≡ block_seen v steps before after
+  pub refused_parts : {why : Refusal} → v ≡ Err why → nothing ≡ block_seen v steps before after
   unfolding block_seen
   refused_parts e = rw e

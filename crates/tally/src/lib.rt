@@ -9,8 +9,8 @@ ghost use Rattle.costs.specs.Costs as rule;
 ghost use Rattle.costs.specs.Seen.{command_seen, block_seen};
 ghost use Rattle.tally.specs.Tally.{capped, kept, steps_text, events_text, cost_text};
 
+use rules::Refusal;
 use costs::Totals;
-use rules::Verdict;
 use text::write::{put_count, put_word};
 
 // ---- counting
@@ -73,11 +73,11 @@ pub fn after_command(t: Totals, before: usize, after: usize) -> Totals
 }
 
 // Behind a block, by its verdict, the steps that it reports, and how many events wait before and after it.
-pub fn after_block(t: Totals, verdict: Verdict, steps: usize, before: usize, after: usize) -> Totals
+pub fn after_block(t: Totals, verdict: Result<(), Refusal>, steps: usize, before: usize, after: usize) -> Totals
     ensures { result ≡ kept (rule.plus t (block_seen verdict steps before after)) }
 {
     match verdict {
-        Verdict::Answered => {
+        Ok(()) => {
             let finished = more(before as u64, after as u64);
             // one step ended the walk
             let turned = more(more(steps as u64, 1), finished);
@@ -91,7 +91,7 @@ pub fn after_block(t: Totals, verdict: Verdict, steps: usize, before: usize, aft
             };
             plus(t, cost)
         }
-        Verdict::Refused(_) => plus(t, none()),
+        Err(_) => plus(t, none()),
     }
 }
 

@@ -6,13 +6,13 @@ ghost use Rattle.param.specs.Processed.{Processes};
 ghost use Rattle.block.specs.Asked.{asked};
 ghost use Rattle.tick.specs.Ticked.{with_param};
 
+use rules::Refusal;
 use param::{AudioParam, Processed};
-use rules::Verdict;
 
 // What a tick says; the parameter after it lies where the caller lent it.
 #[derive(Clone, Copy)]
 pub struct Ticked {
-    pub verdict: Verdict,
+    pub verdict: Result<(), Refusal>,
     pub steps: usize,
     pub current: f32,
     pub one: bool,

@@ -1,4 +1,5 @@
 -- A queue taken apart at a place: the head there, its numbers, and what waits behind it. Assumes nothing.
+use Rattle.std.proofs.Common.{Option, Some, None}
 use mathlib.Core.Path.{◌≡◌, refl, sym, ap, ◌∙◌}
 use mathlib.Core.List.{List, [], ◌∷◌}
 use Prim.Native.Nat.{ℕ, ◌+◌, ◌-◌, ◌≤◌, ◌<◌}
@@ -7,9 +8,7 @@ use lib.ListN.{length, take, drop, length-drop}
 use lib.Seq.{length-take-le, drop-drop}
 use lib.Ieee.{Float}
 use borrow.Author.Tests.{leb-true}
-use Rattle.rules.specs.declared.MaybeTime.{MaybeTime}
 use Rattle.rules.specs.declared.Event.{Event}
-use Rattle.rules.specs.declared.Head.{Head}
 use Rattle.rules.specs.Numbers.{store_length}
 use Rattle.rules.specs.Queue.{Waiting, head_of, length_of, lengths_of, attached}
 use Rattle.laws.specs.Sound.{is_clear, SoundQueue}
@@ -25,12 +24,12 @@ unfolding head_of attached first_of
 head_attached [] store = refl
 head_attached (e ∷ es) store = refl
 
-first_here : (es : List Event) (e : Event) → first_of es ≡ Head.Event e → es ≡ e ∷ drop 1 es
+first_here : (es : List Event) (e : Event) → first_of es ≡ Some e → es ≡ e ∷ drop 1 es
 unfolding first_of
 first_here [] e h = let z : ◌≡◌ {A = ℕ} 0 1 = cc in absurd (omega arith)
 first_here (x ∷ es) e h = let g : x ≡ e = cc in rw g
 
-first_none : (es : List Event) → first_of es ≡ Head.Empty → es ≡ []
+first_none : (es : List Event) → first_of es ≡ None → es ≡ []
 unfolding first_of
 first_none [] h = refl
 first_none (x ∷ es) h = let z : ◌≡◌ {A = ℕ} 0 1 = cc in absurd (omega arith)
@@ -42,7 +41,7 @@ pub bare : {e : Event} {xs : List Float} → Numbered e xs → (d : Event) → e
 bare {e} {xs} n d is z = no_numbers xs (n.fits ∙ ap length_of is ∙ z)
 
 -- a curve has as many as it says, and at least 2
-module _ {e : Event} {xs : List Float} (n : Numbered e xs) {s d : Float} {k : ℕ} {h : MaybeTime} (is : e ≡ Event.Curve s d k h) where
+module _ {e : Event} {xs : List Float} (n : Numbered e xs) {s d : Float} {k : ℕ} {h : Option Float} (is : e ≡ Event.Curve s d k h) where
   curve_size : length xs ≡ k
   unfolding length_of
   curve_size = n.fits ∙ ap length_of is
@@ -70,12 +69,12 @@ module _ (es : List Event) (store : List Float) (at : ℕ) where
   ws = attached es store
 
   -- none waits there
-  pub none_waits : first_of (drop at es) ≡ Head.Empty → drop at ws ≡ []
+  pub none_waits : first_of (drop at es) ≡ None → drop at ws ≡ []
   unfolding attached
   none_waits h = let z : drop at es ≡ [] = first_none (drop at es) h in sym (attached-drop at es store) ∙ rw z
 
   -- the head e waits there, and its numbers begin at the offset
-  module _ {offset : ℕ} (from : offset ≡ lengths_of (take at es)) {e : Event} (is : first_of (drop at es) ≡ Head.Event e) where
+  module _ {offset : ℕ} (from : offset ≡ lengths_of (take at es)) {e : Event} (is : first_of (drop at es) ≡ Some e) where
     here : drop at es ≡ e ∷ drop (at + 1) es
     here = first_here (drop at es) e is ∙ ap (λ (l : List Event). e ∷ l) (drop-drop 1 at es)
 
@@ -105,5 +104,5 @@ module _ (es : List Event) (store : List Float) (at : ℕ) where
         }
 
   -- what is behind that place is the rules' next head
-  pub behind_is : {n : Head} → n ≡ first_of (drop (at + 1) es) → n ≡ head_of (drop (at + 1) ws)
+  pub behind_is : {n : Option Event} → n ≡ first_of (drop (at + 1) es) → n ≡ head_of (drop (at + 1) ws)
   behind_is h = h ∙ sym (head_attached (drop (at + 1) es) _) ∙ ap head_of (attached-drop (at + 1) es store)

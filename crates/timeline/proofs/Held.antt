@@ -1,4 +1,5 @@
 -- Cancel-and-hold by its events: the last one held, and what the first event later than c decides. Assumes nothing.
+use Rattle.std.proofs.Common.{Some, None}
 use mathlib.Core.Path.{◌≡◌, refl, sym, ap, ◌∙◌}
 use mathlib.Core.Bool.{Bool, true, false, cond, not, ◌&&◌}
 use mathlib.Core.List.{List, [], ◌∷◌, ◌++◌}
@@ -9,7 +10,6 @@ use lib.ListN.{length, take, get_or, set, drop_of_length-le}
 use lib.Seq.{take_all, take-suc, set_split, take-length, drop-length}
 use lib.Ieee.{Float}
 use Rattle.rules.specs.declared.Event.{Event}
-use Rattle.rules.specs.declared.Head.TheVariants as Head
 use Rattle.rules.specs.Queue.{Waiting, is_ramp, put_at, those, events_of, attached, held_event, held_at, runs_at, is_later, is_not_later, any_covers, last_held, holds_ramp, held_by, held}
 use Rattle.laws.specs.Search.{is_later_than}
 use Rattle.laws.proofs.Events.{events_length, events_append, events_attached, events_those}
@@ -68,7 +68,7 @@ none_held c es n =
 -- ---- what is held, by the first event later than c
 
 module _ (c : Float) (ws : List Waiting) where
-  by_none : (xs : List Waiting) → first_of (events_of xs) ≡ Head.Empty → held_by c ws xs ≡ last_held c ws
+  by_none : (xs : List Waiting) → first_of (events_of xs) ≡ None → held_by c ws xs ≡ last_held c ws
   unfolding first_of held_by events_of
   by_none [] f = refl
   by_none (x ∷ xs) f = let z : ◌≡◌ {A = ℕ} 0 1 = cc in absurd (omega arith)
@@ -78,12 +78,12 @@ module _ (c : Float) (ws : List Waiting) where
   ramps e = is_ramp e && not (any_covers c (events_of ws))
 
   module _ (e : Event) where
-    by_ramp : (xs : List Waiting) → first_of (events_of xs) ≡ Head.Event e → ramps e ≡ true → events_of (held_by c ws xs) ≡ events_of ws ++ (held_event c e ∷ [])
+    by_ramp : (xs : List Waiting) → first_of (events_of xs) ≡ Some e → ramps e ≡ true → events_of (held_by c ws xs) ≡ events_of ws ++ (held_event c e ∷ [])
     unfolding first_of held_by holds_ramp events_of held_at
     by_ramp [] f r = let z : ◌≡◌ {A = ℕ} 0 1 = cc in absurd (omega arith)
     by_ramp (x ∷ xs) f r = let k : x.event ≡ e = cc in rw (ap ramps k ∙ r) (events_append ws (held_at c x ∷ []) ∙ ap (λ (d : Event). events_of ws ++ (held_event c d ∷ [])) k)
 
-    by_other : (xs : List Waiting) → first_of (events_of xs) ≡ Head.Event e → ramps e ≡ false → held_by c ws xs ≡ last_held c ws
+    by_other : (xs : List Waiting) → first_of (events_of xs) ≡ Some e → ramps e ≡ false → held_by c ws xs ≡ last_held c ws
     unfolding first_of held_by holds_ramp events_of
     by_other [] f r = let z : ◌≡◌ {A = ℕ} 0 1 = cc in absurd (omega arith)
     by_other (x ∷ xs) f r = let k : x.event ≡ e = cc in rw (ap ramps k ∙ r)
@@ -99,7 +99,7 @@ those_both keep test o (x ∷ xs) = rw (o x) (go (test x) (those_both keep test 
     go true e = omega arith
     go false e = omega arith
 
-first_some : (xs : List Event) (e : Event) → first_of xs ≡ Head.Event e → 0 < length xs
+first_some : (xs : List Event) (e : Event) → first_of xs ≡ Some e → 0 < length xs
 unfolding first_of
 first_some [] e f = let z : ◌≡◌ {A = ℕ} 0 1 = cc in absurd (omega arith)
 first_some (x ∷ xs) e f = omega arith
@@ -127,11 +127,11 @@ module _ (c : Float) (q : List Event) where
   last_early : events_of (last_held c (attached early [])) ≡ events_of (last_held c (those (is_not_later c) ws))
   last_early = last_same c (attached early []) (those (is_not_later c) ws) (events_attached early [] ∙ sym early_are)
 
-  pub held_none : first_of late ≡ Head.Empty → events_of (last_held c (attached early [])) ≡ events_of (held c ws)
+  pub held_none : first_of late ≡ None → events_of (last_held c (attached early [])) ≡ events_of (held c ws)
   unfolding held
   held_none f = last_early ∙ sym (ap events_of (by_none c (those (is_not_later c) ws) (those (is_later c) ws) (ap first_of late_are ∙ f)))
 
-  module _ (e : Event) (f : first_of late ≡ Head.Event e) where
+  module _ (e : Event) (f : first_of late ≡ Some e) where
     asked : {b : Bool} → (is_ramp e && not (any_covers c early)) ≡ b → (is_ramp e && not (any_covers c (events_of (those (is_not_later c) ws)))) ≡ b
     asked r = ap (λ (xs : List Event). is_ramp e && not (any_covers c xs)) early_are ∙ r
 

@@ -1,4 +1,5 @@
 -- The loops over the slots, turn by turn: the search for a place, the insertion at it, and what a cut keeps. Assumes nothing.
+use Rattle.std.proofs.Common.{Some, None}
 use mathlib.Core.Path.{◌≡◌, refl, sym, ap, ap₂, ◌∙◌}
 use mathlib.Core.Bool.{Bool, true, false, cond, ◌||◌}
 use mathlib.Core.List.{List, [], ◌∷◌, ◌++◌, map, map-append, map-map, map-id, append-nil}
@@ -10,34 +11,35 @@ use lib.ListN.{length, take, drop, get_or, set, replicate, length-take, length-m
 use lib.Seq.{paste, take_all, drop-cons, drop-append-add, length-take-le}
 use lib.Ieee as Ieee
 use lib.Ieee.{Float}
+use Rattle.std.specs.List.{find}
+use Rattle.std.specs.Option.{is_some}
 use Rattle.std.proofs.lemmas.List.{take-map, drop-map, drop-replicate}
 use Rattle.rules.specs.declared.Event.{Event}
-use Rattle.rules.specs.declared.Head.{Head}
 use Rattle.rules.specs.Numbers.{most_events}
 use Rattle.rules.specs.Queue.{filed_under, any, has_not_later, place_behind, put_at, those}
 use Rattle.laws.proofs.Events.{put-length}
 use Rattle.laws.proofs.Ordered.{behind_last, behind_others}
 use Rattle.timeline.specs.declared.AudioParamEvent.{AudioParamEvent}
 use Rattle.timeline.specs.declared.AudioParamEventTimeline.{AudioParamEventTimeline}
-use Rattle.timeline.specs.Timeline.{slot_of, blank_event, padded, waiting, Neat, first_of, is_some, stays}
+use Rattle.timeline.specs.Timeline.{slot_of, blank_event, padded, waiting, Neat, first_of, stays}
 use Rattle.timeline.proofs.Lists.{those_snoc, those-length, shifted}
 use Rattle.timeline.proofs.Laws.{nothing, count, full, slots_split, slot_holds, one_more, Filled}
 
 -- ---- the event at a place
 
-pub none_there : (es : List Event) (i : ℕ) → length es ≤ i → Head.Empty ≡ first_of (drop i es)
+pub none_there : (es : List Event) (i : ℕ) → length es ≤ i → None ≡ first_of (drop i es)
 unfolding first_of
 none_there es i h = rw (drop_of_length-le es h)
 
-one_there : (es : List Event) (i : ℕ) → i < length es → Head.Event (get_or es i nothing) ≡ first_of (drop i es)
+one_there : (es : List Event) (i : ℕ) → i < length es → Some (get_or es i nothing) ≡ first_of (drop i es)
 unfolding first_of
 one_there es i h = rw (drop-cons es i nothing h)
 
 -- as code reads it from the slots
-pub slot_there : (q : AudioParamEventTimeline) → Neat q → (i : ℕ) → i < q.len → Head.Event (get_or q.slots i (slot_of nothing)).event ≡ first_of (drop i (waiting q))
+pub slot_there : (q : AudioParamEventTimeline) → Neat q → (i : ℕ) → i < q.len → Some (get_or q.slots i (slot_of nothing)).event ≡ first_of (drop i (waiting q))
 slot_there q h i l =
     let n : length (waiting q) ≡ q.len = count q h in
-    ap (λ (s : AudioParamEvent). Head.Event s.event) (slot_holds q h i l) ∙ one_there (waiting q) i (omega arith)
+    ap (λ (s : AudioParamEvent). Some s.event) (slot_holds q h i l) ∙ one_there (waiting q) i (omega arith)
 
 -- ---- the place behind all of equal or smaller time, searched from the end
 
@@ -120,36 +122,21 @@ module _ (equal : Bool) (c : Float) (es : List Event) where
 
 -- ---- the first event that passes a test
 
-module _ (test : Event → Bool) (q : AudioParamEventTimeline) (h : Neat q) (i : ℕ) (l : i < q.len)
-    (p : first_of (those test (waiting q)) ≡ first_of (those test (drop i (waiting q)))) where
-  ahead : drop i (waiting q) ≡ get_or (waiting q) i nothing ∷ drop (suc i) (waiting q)
-  ahead =
-      let n : length (waiting q) ≡ q.len = count q h in
-      let m : i < length (waiting q) = omega arith in
-      drop-cons (waiting q) i nothing m
-
-  -- as code reads it from its slot
-  seen : {b : Bool} → test (get_or q.slots i (slot_of nothing)).event ≡ b → test (get_or (waiting q) i nothing) ≡ b
-  seen f = ap (λ (s : AudioParamEvent). test s.event) (sym (slot_holds q h i l)) ∙ f
-
-  pub first_here : test (get_or q.slots i (slot_of nothing)).event ≡ true → Head.Event (get_or q.slots i (slot_of nothing)).event ≡ first_of (those test (waiting q))
-  unfolding those first_of
-  first_here f = rw (slot_holds q h i l, p, ahead, seen f)
-
-  pub first_behind : test (get_or q.slots i (slot_of nothing)).event ≡ false → first_of (those test (waiting q)) ≡ first_of (those test (drop (i + 1) (waiting q)))
-  unfolding those
-  first_behind f = rw (p, add-one, ahead, seen f)
-
-pub first_none : (test : Event → Bool) (es : List Event) (i : ℕ) → length es ≤ i → Head.Empty ≡ first_of (those test (drop i es))
-unfolding those first_of
-first_none test es i h = rw (drop_of_length-le es h)
+pub first_is : (test : Event → Bool) (es : List Event) → find test es ≡ first_of (those test es)
+unfolding first_of those
+first_is test [] = refl
+first_is test (e ∷ es) = go (test e) (first_is test es)
+  where
+    go : (b : Bool) → find test es ≡ first_of (those test es) → cond b (Some e) (find test es) ≡ first_of (cond b (e ∷ those test es) (those test es))
+    go true k = unfold first_of in refl
+    go false k = k
 
 -- whether there is one
-pub any_first : (test : Event → Bool) (es : List Event) → is_some (first_of (those test es)) ≡ any test es
-unfolding is_some first_of those any
-any_first test [] = refl
-any_first test (e ∷ es) = go (test e) (any_first test es)
+pub any_find : (test : Event → Bool) (es : List Event) → is_some (find test es) ≡ any test es
+unfolding any
+any_find test [] = refl
+any_find test (e ∷ es) = go (test e) (any_find test es)
   where
-    go : (b : Bool) → is_some (first_of (those test es)) ≡ any test es → is_some (first_of (cond b (e ∷ those test es) (those test es))) ≡ (b || any test es)
-    go true k = unfold is_some first_of in refl
+    go : (b : Bool) → is_some (find test es) ≡ any test es → is_some (cond b (Some e) (find test es)) ≡ (b || any test es)
+    go true k = refl
     go false k = k

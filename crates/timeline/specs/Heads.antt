@@ -1,7 +1,6 @@
 -- An event of the queue with its numbers of the store: how code takes it, and what it may have become.
-use Rattle.std.specs.Prelude.{◌≡◌, true, List, [], ◌∷◌, ℕ, ◌≤◌, length, take, drop, Float}
+use Rattle.std.specs.Prelude.{◌≡◌, true, List, [], ◌∷◌, ℕ, ◌≤◌, length, take, drop, Float, Option, Some, None}
 use Rattle.rules.specs.declared.Event.{Event}
-use Rattle.rules.specs.declared.Head.{Head}
 use Rattle.rules.specs.Numbers.{store_length}
 use Rattle.rules.specs.Queue.{Waiting, length_of}
 use Rattle.laws.specs.Sound.{is_clear}
@@ -21,7 +20,7 @@ pub record Numbered (e : Event) (numbers : List Float) : Type 0 where
   pub clear : is_clear e ≡ true
 
 -- these events, the first of which has become another, with the numbers that it had
-unfoldable pub with_head : Head → List Waiting → List Waiting
-with_head Head.Empty ws = ws
-with_head (Head.Event e) [] = []
-with_head (Head.Event e) (w ∷ ws) = waiting_as e w.numbers ∷ ws
+unfoldable pub with_head : Option Event → List Waiting → List Waiting
+with_head None ws = ws
+with_head (Some e) [] = []
+with_head (Some e) (w ∷ ws) = waiting_as e w.numbers ∷ ws

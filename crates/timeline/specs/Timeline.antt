@@ -1,7 +1,6 @@
 -- The queue of one parameter: which events wait in it, and the one queue in which given events wait.
-use Rattle.std.specs.Prelude.{◌≡◌, Bool, true, false, List, [], ◌∷◌, ◌++◌, map, ◌-◌, ◌≤◌, set, length, take, replicate, Float}
+use Rattle.std.specs.Prelude.{◌≡◌, Bool, true, false, List, [], ◌∷◌, ◌++◌, map, ◌-◌, ◌≤◌, set, length, take, replicate, Float, Option, Some, None}
 use Rattle.rules.specs.declared.Event.{Event}
-use Rattle.rules.specs.declared.Head.{Head}
 use Rattle.rules.specs.Numbers.{most_events, plus_zero}
 use Rattle.rules.specs.Queue.{Waiting, alone, is_before, is_not_later}
 use Rattle.timeline.specs.declared.AudioParamEvent.{AudioParamEvent}
@@ -33,19 +32,14 @@ pub record Neat (q : AudioParamEventTimeline) : Type 0 where
   pub clean : q ≡ made (waiting q)
 
 -- the first of these events
-unfoldable pub first_of : List Event → Head
-first_of [] = Head.Empty
-first_of (e ∷ es) = Head.Event e
-
--- whether there is one
-unfoldable pub is_some : Head → Bool
-is_some Head.Empty = false
-is_some (Head.Event e) = true
+unfoldable pub first_of : List Event → Option Event
+first_of [] = None
+first_of (e ∷ es) = Some e
 
 -- these events, the first of which has become another
-unfoldable pub head_as : Head → List Event → List Event
-head_as Head.Empty es = es
-head_as (Head.Event e) es = set es 0 e
+unfoldable pub head_as : Option Event → List Event → List Event
+head_as None es = es
+head_as (Some e) es = set es 0 e
 
 -- the queue with another first slot
 abbrev pub beginning : AudioParamEvent → AudioParamEventTimeline → AudioParamEventTimeline

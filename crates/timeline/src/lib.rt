@@ -1,14 +1,14 @@
 // The waiting events of one parameter, by value, in the order in which they are walked.
 #![tactic(auto)]
 
-ghost use Rattle.std.specs.Prelude.{◌≡◌, [], ◌≤◌, ◌<◌, ◌^◌, take, drop, set};
+ghost use Rattle.std.specs.Prelude.{◌≡◌, [], ◌≤◌, ◌<◌, ◌^◌, take, drop, set, find};
 ghost use Rattle.rules.specs.Numbers.{most_events};
 ghost use Rattle.rules.specs.Queue.{hold_or, filed_under, is_ramp, curve_end, is_inside, is_filed_inside, any_covers, any_inside, length_of, lengths_of, place_behind, put_at, arrived, those, lasts_to, goes_at, held_event, runs_at, last_held, held, events_of, attached};
 ghost use Rattle.rules.specs.Queue as rule;
 ghost use Rattle.laws.specs.Search.{is_later_than};
-ghost use Rattle.timeline.specs.Timeline.{blank_event, slot_of, made, waiting, Neat, first_of, is_some, head_as, beginning, stays};
+ghost use Rattle.timeline.specs.Timeline.{blank_event, slot_of, made, waiting, Neat, first_of, head_as, beginning, stays};
 
-use rules::{Event, Head, MaybeTime};
+use rules::Event;
 
 // How many events can wait.
 pub const EVENTS: usize = 64;
@@ -28,13 +28,10 @@ pub struct AudioParamEventTimeline {
 
 // The hold time, else the time given.
 #[tactic(auto, unfolding(rules::specs::Queue::hold_or))]
-pub fn hold_or(hold: MaybeTime, time: f64) -> f64
+pub fn hold_or(hold: Option<f64>, time: f64) -> f64
     ensures { result ≡ hold_or hold time }
 {
-    match hold {
-        MaybeTime::Missing => time,
-        MaybeTime::At(c) => c,
-    }
+    hold.unwrap_or(time)
 }
 
 // The time that an event is filed under: a held ramp's hold time, else its own.
@@ -59,7 +56,7 @@ pub fn is_ramp(e: Event) -> bool
 
 // Where a curve ends: at its hold time, else at start + duration.
 #[tactic(auto, unfolding(rules::specs::Queue::curve_end))]
-pub fn curve_end(start: f64, duration: f64, hold: MaybeTime) -> f64
+pub fn curve_end(start: f64, duration: f64, hold: Option<f64>) -> f64
     ensures { result ≡ curve_end start duration hold }
 {
     hold_or(hold, start + duration)
@@ -86,16 +83,6 @@ fn covers(e: Event, time: f64) -> bool
             ..
         } => is_inside(start, curve_end(start, duration, hold), time),
         _ => false,
-    }
-}
-
-// Whether there is an event.
-fn is_some(head: Head) -> bool
-    ensures { result ≡ is_some head }
-{
-    match head {
-        Head::Empty => false,
-        Head::Event(_) => true,
     }
 }
 
@@ -148,18 +135,12 @@ pub fn is_kept(e: Event, c: f64, equal: bool) -> bool
 
 // The hold time c, unless an earlier one is there.
 #[tactic(auto, unfolding(rules::specs::Queue::sooner))]
-fn sooner(h: MaybeTime, c: f64) -> MaybeTime
+fn sooner(h: Option<f64>, c: f64) -> Option<f64>
     ensures { result ≡ rule.sooner h c }
 {
     match h {
-        MaybeTime::Missing => MaybeTime::At(c),
-        MaybeTime::At(t) => {
-            if t < c {
-                MaybeTime::At(t)
-            } else {
-                MaybeTime::At(c)
-            }
-        }
+        Some(t) if t < c => h,
+        _ => Some(c),
     }
 }
 
@@ -245,18 +226,18 @@ impl AudioParamEventTimeline {
     }
 
     // The event at a place of the queue, or that none waits there.
-    pub fn event_at(self, i: usize) -> Head
+    pub fn event_at(self, i: usize) -> Option<Event>
         requires { Neat self }
         ensures { result ≡ first_of (drop i (waiting self)) }
     {
         if self.len <= i {
-            return Head::Empty;
+            return None;
         }
-        Head::Event(self.slots[i].event)
+        Some(self.slots[i].event)
     }
 
     // The first waiting event.
-    pub fn peek(self) -> Head
+    pub fn peek(self) -> Option<Event>
         requires { Neat self }
         ensures { result ≡ first_of (waiting self) }
     {
@@ -264,7 +245,7 @@ impl AudioParamEventTimeline {
     }
 
     // The event behind the first.
-    pub fn next(self) -> Head
+    pub fn next(self) -> Option<Event>
         requires { Neat self }
         ensures { result ≡ first_of (drop 1 (waiting self)) }
     {
@@ -286,39 +267,26 @@ impl AudioParamEventTimeline {
     }
 
     // The first curve inside which the time lies.
-    pub fn covering(self, time: f64) -> Head
+    pub fn covering(self, time: f64) -> Option<Event>
         requires { Neat self }
-        ensures { result ≡ first_of (those (rule.covers time) (waiting self)) }
+        ensures { result ≡ find (rule.covers time) (waiting self) }
     {
-        let n = self.len;
-        let mut i = 0usize;
-        while i < n {
-            let s = self.slots[i];
-            let e = s.event;
-            if covers(e, time) {
-                return Head::Event(e);
-            }
-            i += 1;
-        }
-        Head::Empty
+        self.slots[..self.len]
+            .iter()
+            .map(|slot| slot.event)
+            .find(|e| covers(*e, time))
     }
 
     // The first event that is filed at the start or later, and before the end.
-    pub fn filed_inside(self, start: f64, end: f64) -> Head
+    #[tactic(auto, unfolding(rules::specs::Queue::is_filed_inside))]
+    pub fn filed_inside(self, start: f64, end: f64) -> Option<Event>
         requires { Neat self }
-        ensures { result ≡ first_of (those (is_filed_inside start end) (waiting self)) }
+        ensures { result ≡ find (is_filed_inside start end) (waiting self) }
     {
-        let n = self.len;
-        let mut i = 0usize;
-        while i < n {
-            let s = self.slots[i];
-            let e = s.event;
-            if is_inside(start, end, filed_under(e)) {
-                return Head::Event(e);
-            }
-            i += 1;
-        }
-        Head::Empty
+        self.slots[..self.len]
+            .iter()
+            .map(|slot| slot.event)
+            .find(|e| is_inside(start, end, filed_under(*e)))
     }
 
     // Whether the time lies inside a waiting curve.
@@ -326,7 +294,7 @@ impl AudioParamEventTimeline {
         requires { Neat self }
         ensures { result ≡ any_covers time (waiting self) }
     {
-        is_some(self.covering(time))
+        self.covering(time).is_some()
     }
 
     // Whether an event is filed at the start or later, and before the end.
@@ -334,7 +302,7 @@ impl AudioParamEventTimeline {
         requires { Neat self }
         ensures { result ≡ any_inside start end (waiting self) }
     {
-        is_some(self.filed_inside(start, end))
+        self.filed_inside(start, end).is_some()
     }
 
     // The queue with one event more, at a place.
@@ -379,23 +347,19 @@ impl AudioParamEventTimeline {
     }
 
     // The first slot, where the head becomes another event. With no other, and in an empty queue, it stays.
-    fn first_slot(self, head: Head) -> AudioParamEvent
+    fn first_slot(self, head: Option<Event>) -> AudioParamEvent
         requires { Neat self }
         ensures { beginning result self ≡ made (head_as head (waiting self)) }
     {
         let slot = self.slots[0];
-        let n = self.len;
-        if n == 0 {
+        if self.len == 0 {
             return slot;
         }
-        match head {
-            Head::Empty => slot,
-            Head::Event(event) => AudioParamEvent { event },
-        }
+        head.map_or(slot, |event| AudioParamEvent { event })
     }
 
     // The head becomes another event, if there is one; in an empty queue nothing does. One store for all cases, so that the queue is copied once.
-    pub fn replace_peek(self, head: Head) -> Self
+    pub fn replace_peek(self, head: Option<Event>) -> Self
         requires { Neat self }
         ensures { result ≡ made (head_as head (waiting self)) }
     {
@@ -421,21 +385,15 @@ impl AudioParamEventTimeline {
     }
 
     // The first event later than c.
-    fn first_later(self, c: f64) -> Head
+    #[tactic(auto, unfolding(laws::specs::Search::is_later_than))]
+    fn first_later(self, c: f64) -> Option<Event>
         requires { Neat self }
-        ensures { result ≡ first_of (those (is_later_than c) (waiting self)) }
+        ensures { result ≡ find (is_later_than c) (waiting self) }
     {
-        let n = self.len;
-        let mut i = 0usize;
-        while i < n {
-            let s = self.slots[i];
-            let e = s.event;
-            if c < filed_under(e) {
-                return Head::Event(e);
-            }
-            i += 1;
-        }
-        Head::Empty
+        self.slots[..self.len]
+            .iter()
+            .map(|slot| slot.event)
+            .find(|e| c < filed_under(*e))
     }
 
     // The last event gets hold time c where it runs at c.
@@ -461,7 +419,7 @@ impl AudioParamEventTimeline {
         ensures { result ≡ made (events_of (held c (attached (waiting self) []))) }
     {
         let kept = self.retain(c, true);
-        let Head::Event(e) = self.first_later(c) else {
+        let Some(e) = self.first_later(c) else {
             return kept.hold_last(c);
         };
         let ramp = is_ramp(e) & !kept.any_covers(c);

@@ -5,16 +5,16 @@ use Rattle.text.proofs.Writing.{put-nothing, put_same}
 use Rattle.answers.specs.Answers.{end_text}
 use Rattle.answers.proofs.put_end.Goals as goal
 
-pub returns-in-Missing : goal.returns-in-Missing
+pub returns-in-None : goal.returns-in-None
 unfolding end_text
-returns-in-Missing c = record {
-  put = put_same (ap end_text (sym c.in-Missing.is)) (put-nothing _ _);
+returns-in-None c = record {
+  put = put_same (ap end_text (sym c.in-None.is)) (put-nothing _ _);
   upper_bound = omega arith;
 }
 
-pub returns-in-At : goal.returns-in-At
+pub returns-in-Some : goal.returns-in-Some
 unfolding end_text
-returns-in-At c = record {
-  put = put_same (ap end_text (sym c.in-At.is)) c.put_double_behind.ensures.put;
+returns-in-Some c = record {
+  put = put_same (ap end_text (sym c.in-Some.is)) c.put_double_behind.ensures.put;
   upper_bound = omega arith;
 }

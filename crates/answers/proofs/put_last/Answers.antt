@@ -12,9 +12,9 @@ returns-in-None c = record {
   upper_bound = omega arith;
 }
 
-pub returns-in-Done : goal.returns-in-Done
+pub returns-in-Some : goal.returns-in-Some
 unfolding last_text
-returns-in-Done c = record {
-  put = put_same (ap last_text (sym c.in-Done.is)) (put_then c.put_double_behind-next.ensures.put c.put_single_behind.ensures.put (omega arith));
+returns-in-Some c = record {
+  put = put_same (ap last_text (sym c.in-Some.is)) (put_then c.put_double_behind-next.ensures.put c.put_single_behind.ensures.put (omega arith));
   upper_bound = omega arith;
 }

@@ -64,8 +64,8 @@ take_head-turn-requires c =
       ready p g c.begin-walk.ensures.whole,
       few_steps p g,
       few_turned p g,
-      omega (arith, past_most g c.in-Event.is, p.lent),
-      numbered g c.in-Event.is p.sound p.lent,
+      omega (arith, past_most g c.in-Some.is, p.lent),
+      numbered g c.in-Some.is p.sound p.lent,
     )
 
 pub end-requires-in-Stop : goal.end-requires-in-Stop
@@ -75,19 +75,19 @@ end-requires-in-Stop c =
 pub returns-in-Stop : goal.returns-in-Stop
 returns-in-Stop c =
     walks c.begin-walk.ensures
-    (head_stops c.loop-head.invariant c.in-Event.is (next_is (goal.at.returns-in-Stop c).Joined-behind-timeline) c.take_head-turn.ensures c.in-Stop.is c.end-in-Stop.ensures)
+    (head_stops c.loop-head.invariant c.in-Some.is (next_is (goal.at.returns-in-Stop c).Joined-behind-timeline) c.take_head-turn.ensures c.in-Stop.is c.end-in-Stop.ensures)
 
 pub shape_of-buffer-in-Stop : goal.shape_of-buffer-in-Stop
 shape_of-buffer-in-Stop c = (returns-in-Stop c).whole
 
 pub overflow_add-offset : goal.overflow_add-offset
 overflow_add-offset c =
-    record { fits = omega (arith, c.length_of-offset.ensures, past_most c.loop-head.invariant c.in-Event.is, c.requires.sound.room) }
+    record { fits = omega (arith, c.length_of-offset.ensures, past_most c.loop-head.invariant c.in-Some.is, c.requires.sound.room) }
 
 pub loop-head-smaller : goal.loop-head-smaller
 loop-head-smaller c =
-    omega (arith, inside c.loop-head.invariant c.in-Event.is)
+    omega (arith, inside c.loop-head.invariant c.in-Some.is)
 
 pub loop-head-preserved : goal.loop-head-preserved
 loop-head-preserved c =
-    head_goes c.loop-head.invariant c.in-Event.is (next_is (goal.at.loop-head-preserved c).Joined-behind-timeline) c.take_head-turn.ensures c.in_default-go.is c.length_of-offset.ensures
+    head_goes c.loop-head.invariant c.in-Some.is (next_is (goal.at.loop-head-preserved c).Joined-behind-timeline) c.take_head-turn.ensures c.in_default-go.is c.length_of-offset.ensures

@@ -67,4 +67,4 @@ consume-requires-2 c = span_few (spans (goal.at.consume-requires-2 c).After-with
 
 pub returns : goal.returns
 returns c =
-    rw c.consume-2.ensures (span_held (spans (goal.at.returns c).After-with_filled-w) c.if-end_time-infos.false c.in-At.is c.linear_value-at_end.ensures)
+    rw c.consume-2.ensures (span_held (spans (goal.at.returns c).After-with_filled-w) c.if-end_time-infos.false c.in-Some.is c.linear_value-at_end.ensures)

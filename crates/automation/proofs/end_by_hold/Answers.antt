@@ -8,8 +8,8 @@ returns-in_default c = rw c.in_default.is
 
 pub returns-then-c-infos : goal.returns-then-c-infos
 unfolding end_by_hold
-returns-then-c-infos c = rw (c.in-At.is, c.if-c-infos.true)
+returns-then-c-infos c = rw (c.in-Some.is, c.if-c-infos.true)
 
 pub returns-else-c-infos : goal.returns-else-c-infos
 unfolding end_by_hold
-returns-else-c-infos c = rw (c.in-At.is, c.if-c-infos.false)
+returns-else-c-infos c = rw (c.in-Some.is, c.if-c-infos.false)

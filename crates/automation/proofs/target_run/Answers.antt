@@ -45,4 +45,4 @@ consume-requires c = rw c.with_filled-w.ensures (start (goal.at.consume-requires
 pub returns : goal.returns
 returns c =
     let k = (goal.at.returns c).After-with_filled-w in
-    rw c.consume.ensures (target_ends (targets k) c.fill_target-faded.ensures.1 c.in-At.is _ _)
+    rw c.consume.ensures (target_ends (targets k) c.fill_target-faded.ensures.1 c.in-Some.is _ _)

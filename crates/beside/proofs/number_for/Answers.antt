@@ -2,10 +2,10 @@
 use Rattle.beside.specs.Beside.{number_for}
 use Rattle.beside.proofs.number_for.Goals as goal
 
-pub returns-in-Answered : goal.returns-in-Answered
+pub returns-in-Ok : goal.returns-in-Ok
 unfolding number_for
-returns-in-Answered c = rw c.in-Answered.is
+returns-in-Ok c = rw c.in-Ok.is
 
-pub returns-in-Refused : goal.returns-in-Refused
+pub returns-in-Err : goal.returns-in-Err
 unfolding number_for
-returns-in-Refused c = rw c.in-Refused.is c.number_of.ensures
+returns-in-Err c = rw c.in-Err.is c.number_of.ensures

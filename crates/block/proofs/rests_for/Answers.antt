@@ -2,10 +2,10 @@
 use Rattle.rules.specs.Block.{rests_for}
 use Rattle.block.proofs.rests_for.Goals as goal
 
-pub returns-in-Empty : goal.returns-in-Empty
+pub returns-in-None : goal.returns-in-None
 unfolding rests_for
-returns-in-Empty c = rw c.in-Empty.is
+returns-in-None c = rw c.in-None.is
 
-pub returns-in-Event : goal.returns-in-Event
+pub returns-in-Some : goal.returns-in-Some
 unfolding rests_for
-returns-in-Event c = rw (c.in-Event.is, c.is_ramp.ensures, c.filed_under.ensures)
+returns-in-Some c = rw (c.in-Some.is, c.is_ramp.ensures, c.filed_under.ensures)

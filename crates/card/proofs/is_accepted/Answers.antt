@@ -3,10 +3,10 @@ use borrow.Author.Rules.{rules}
 use Rattle.card.specs.Card.{is_accepted}
 use Rattle.card.proofs.is_accepted.Goals as goal
 
-pub returns-in-Answered : goal.returns-in-Answered
+pub returns-in-Ok : goal.returns-in-Ok
 unfolding is_accepted
-returns-in-Answered c = search rules
+returns-in-Ok c = search rules
 
-pub returns-in-Refused : goal.returns-in-Refused
+pub returns-in-Err : goal.returns-in-Err
 unfolding is_accepted
-returns-in-Refused c = search rules
+returns-in-Err c = search rules

@@ -6,4 +6,4 @@ pub returns-in_default : goal.returns-in_default
 returns-in_default c = writes_bad c.decode-d.ensures c.in_default.is
 
 pub returns : goal.returns
-returns c = writes c.decode-d.ensures c.in-Answered.is c.write-said.ensures c.verdict_number.ensures
+returns c = writes c.decode-d.ensures c.in-Ok.is c.write-said.ensures c.verdict_number.ensures

@@ -2,10 +2,10 @@
 use Rattle.card.specs.Card.{has_hold}
 use Rattle.card_writer.proofs.has_hold.Goals as goal
 
-pub returns-in-Missing : goal.returns-in-Missing
+pub returns-in-None : goal.returns-in-None
 unfolding has_hold
-returns-in-Missing c = rw c.in-Missing.is
+returns-in-None c = rw c.in-None.is
 
-pub returns-in-At : goal.returns-in-At
+pub returns-in-Some : goal.returns-in-Some
 unfolding has_hold
-returns-in-At c = rw c.in-At.is
+returns-in-Some c = rw c.in-Some.is

@@ -5,10 +5,10 @@ use Rattle.clashes.specs.declared.Clash.TheVariants as Clash
 use Rattle.clashes.specs.Clashes.{event_in}
 use Rattle.clashes.proofs.event_in.Goals as goal
 
-pub returns-in-Empty : goal.returns-in-Empty
+pub returns-in-None : goal.returns-in-None
 unfolding event_in
-returns-in-Empty c = sym (ap event_in c.in-Empty.is)
+returns-in-None c = sym (ap event_in c.in-None.is)
 
-pub returns-in-Event : goal.returns-in-Event
+pub returns-in-Some : goal.returns-in-Some
 unfolding event_in
-returns-in-Event c = ap (λ (t : Float). Clash.Event t) c.filed_under.ensures ∙ sym (ap event_in c.in-Event.is)
+returns-in-Some c = ap (λ (t : Float). Clash.Event t) c.filed_under.ensures ∙ sym (ap event_in c.in-Some.is)

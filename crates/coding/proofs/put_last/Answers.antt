@@ -7,9 +7,9 @@ pub returns-in-None : goal.returns-in-None
 unfolding last_in last_flag last_time last_value
 returns-in-None c = rw c.in-None.is (record { is = refl; back = refl })
 
-pub returns-in-Done : goal.returns-in-Done
+pub returns-in-Some : goal.returns-in-Some
 unfolding last_in last_flag last_time last_value
-returns-in-Done c =
+returns-in-Some c =
     let t = c.double_bits.ensures in
     let v = c.single_bits.ensures in
-    rw c.in-Done.is (record { is = rw (t.is, v.is); back = rw (t.back, v.back) })
+    rw c.in-Some.is (record { is = rw (t.is, v.is); back = rw (t.back, v.back) })

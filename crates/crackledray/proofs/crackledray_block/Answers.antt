@@ -8,7 +8,7 @@ pub returns-in_default : goal.returns-in_default
 returns-in_default c = plays_bad c.decode-d.ensures _ c.in_default.is refl
 
 pub close-requires : goal.close-requires
-close-requires c = (c.process-r.ensures.sound, answered_long c.decode-d.ensures c.in-Answered.is)
+close-requires c = (c.process-r.ensures.sound, answered_long c.decode-d.ensures c.in-Ok.is)
 
 pub returns : goal.returns
-returns c = plays c.decode-d.ensures _ c.in-Answered.is c.process-r.ensures c.close.ensures
+returns c = plays c.decode-d.ensures _ c.in-Ok.is c.process-r.ensures c.close.ensures

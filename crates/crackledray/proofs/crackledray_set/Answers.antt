@@ -7,7 +7,7 @@ pub returns-in_default : goal.returns-in_default
 returns-in_default c = tells_bad c.decode-d.ensures c.in_default.is
 
 pub close-requires : goal.close-requires
-close-requires c = (c.set_value-r.ensures.sound, answered_long c.decode-d.ensures c.in-Answered.is)
+close-requires c = (c.set_value-r.ensures.sound, answered_long c.decode-d.ensures c.in-Ok.is)
 
 pub returns : goal.returns
-returns c = tells c.decode-d.ensures c.in-Answered.is c.set_value-r.ensures c.close.ensures
+returns c = tells c.decode-d.ensures c.in-Ok.is c.set_value-r.ensures c.close.ensures

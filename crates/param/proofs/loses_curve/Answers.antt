@@ -2,10 +2,10 @@
 use Rattle.rules.specs.Queue.{loses_curve}
 use Rattle.param.proofs.loses_curve.Goals as goal
 
-pub returns-in-Empty : goal.returns-in-Empty
+pub returns-in-None : goal.returns-in-None
 unfolding loses_curve
-returns-in-Empty c = rw c.in-Empty.is
+returns-in-None c = rw c.in-None.is
 
-pub returns-in-Event : goal.returns-in-Event
+pub returns-in-Some : goal.returns-in-Some
 unfolding loses_curve
-returns-in-Event c = rw (c.in-Event.is, c.has_started.ensures, c.filed_under.ensures)
+returns-in-Some c = rw (c.in-Some.is, c.has_started.ensures, c.filed_under.ensures)

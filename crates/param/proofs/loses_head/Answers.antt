@@ -2,10 +2,10 @@
 use Rattle.rules.specs.Queue.{loses_head}
 use Rattle.param.proofs.loses_head.Goals as goal
 
-pub returns-in-Empty : goal.returns-in-Empty
+pub returns-in-None : goal.returns-in-None
 unfolding loses_head
-returns-in-Empty c = rw c.in-Empty.is
+returns-in-None c = rw c.in-None.is
 
-pub returns-in-Event : goal.returns-in-Event
+pub returns-in-Some : goal.returns-in-Some
 unfolding loses_head
-returns-in-Event c = rw (c.in-Event.is, c.has_started.ensures, c.is_ramp.ensures, c.goes_at.ensures)
+returns-in-Some c = rw (c.in-Some.is, c.has_started.ensures, c.is_ramp.ensures, c.goes_at.ensures)

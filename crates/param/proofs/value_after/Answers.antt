@@ -6,6 +6,6 @@ pub returns-in-None : goal.returns-in-None
 unfolding returned
 returns-in-None c = rw (c.if-lost.true, c.in-None.is)
 
-pub returns-in-Done : goal.returns-in-Done
+pub returns-in-Some : goal.returns-in-Some
 unfolding returned
-returns-in-Done c = rw (c.if-lost.true, c.in-Done.is)
+returns-in-Some c = rw (c.if-lost.true, c.in-Some.is)

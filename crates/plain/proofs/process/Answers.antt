@@ -29,7 +29,7 @@ fits : (c : After-infos_of-infos)
     → Playable a.param c.infos_of-infos.result a.input.now a.output.now a.store.now
 fits c told =
     let a = c.args in
-    playable a.param a.store.now (asked a.block_time a.period a.count a.input.now a.output.now) c.requires told c.in-Answered.is (infos c)
+    playable a.param a.store.now (asked a.block_time a.period a.count a.input.now a.output.now) c.requires told c.in-Ok.is (infos c)
 
 pub returns-in_default : goal.returns-in_default
 returns-in_default c = let a = c.args in
@@ -37,7 +37,7 @@ returns-in_default c = let a = c.args in
 
 pub infos_of-infos-requires : goal.infos_of-infos-requires
 infos_of-infos-requires c = let a = c.args in
-    few a.param a.store.now (asked a.block_time a.period a.count a.input.now a.output.now) c.requires (verdict (goal.at.infos_of-infos-requires c).After-verdict-verdict) c.in-Answered.is
+    few a.param a.store.now (asked a.block_time a.period a.count a.input.now a.output.now) c.requires (verdict (goal.at.infos_of-infos-requires c).After-verdict-verdict) c.in-Ok.is
 
 pub render-requires : goal.render-requires
 render-requires c = fits (goal.at.render-requires c).After-infos_of-infos (verdict (goal.at.render-requires c).After-verdict-verdict)
@@ -47,4 +47,4 @@ carry_on-requires c = lookable (fits (goal.at.carry_on-requires c).After-infos_o
 
 pub returns : goal.returns
 returns c = let a = c.args in
-    c.carry_on.ensures (asked a.block_time a.period a.count a.input.now a.output.now) (infos (goal.at.returns c).After-infos_of-infos) (sym (verdict (goal.at.returns c).After-verdict-verdict) ∙ c.in-Answered.is) refl _ c.render.ensures
+    c.carry_on.ensures (asked a.block_time a.period a.count a.input.now a.output.now) (infos (goal.at.returns c).After-infos_of-infos) (sym (verdict (goal.at.returns c).After-verdict-verdict) ∙ c.in-Ok.is) refl _ c.render.ensures

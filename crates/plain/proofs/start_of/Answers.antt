@@ -8,4 +8,4 @@ returns-in_default c = rw c.in_default.is
 
 pub returns : goal.returns
 unfolding last_or
-returns c = rw c.in-Done.is
+returns c = rw c.in-Some.is

@@ -32,12 +32,12 @@ returns-then-filed_under-next c = λ f n w e.
     let a = c.args in
     target_waits f n w (waiting_as a.event a.numbers.now) a.value (sample_of a.event a.numbers.now f w) a.end (rw (c.filed_under.ensures, infos_is f n w e) at c.if-filed_under-next.true) e
 
-pub returns-in-At : goal.returns-in-At
-returns-in-At c = λ f n w e.
+pub returns-in-Some : goal.returns-in-Some
+returns-in-Some c = λ f n w e.
     let a = c.args in
     let early = rw (c.filed_under.ensures, infos_is f n w e) at c.if-filed_under-next.false in
     rw (c.value_at-at_end.ensures ∙ sample_is f n w e a.event a.numbers.now _) at (c.run.ensures f n w e)
-    ∙ ap (seen_turn f n) (target_ends f n w (waiting_as a.event a.numbers.now) a.value (sample_of a.event a.numbers.now f w) early c.in-At.is)
+    ∙ ap (seen_turn f n) (target_ends f n w (waiting_as a.event a.numbers.now) a.value (sample_of a.event a.numbers.now f w) early c.in-Some.is)
 
 pub returns-then-not-magnitude : goal.returns-then-not-magnitude
 unfolding Ieee.of_bits

@@ -49,7 +49,7 @@ module _ (l : At-loop-event) where
 module _ (m : After-length_of) where
   past : m.offset_of-from.result + m.length_of.result ≤ lengths_of (param_of m.args.param).queue
   past =
-      omega (arith, m.length_of.ensures, past_most (param_of m.args.param).queue m.args.store.now m.loop-event.at m.offset_of-from.ensures (sym m.event_at.ensures ∙ m.in-Event.is))
+      omega (arith, m.length_of.ensures, past_most (param_of m.args.param).queue m.args.store.now m.loop-event.at m.offset_of-from.ensures (sym m.event_at.ensures ∙ m.in-Some.is))
 
   most : lengths_of (param_of m.args.param).queue ≤ 4096
   most = m.requires.0.param.sound.waiting.room
@@ -104,14 +104,14 @@ take_head-turn-requires c = let l = (goal.at.take_head-turn-requires c).At-loop-
     rw c.counted-in-loop-event.ensures (
       rw (same_infos (f l) (es l) (store l) (n l) (first l) c.loop-event.invariant) c.requires.0.few,
       omega (arith, steps_few l),
-      rw (lent_is (store l) c.offset_of-from.result c.in-Event.event c.length_of.ensures) (numbered (es l) (store l) c.loop-event.at c.offset_of-from.ensures (sym c.event_at.ensures ∙ c.in-Event.is) c.requires.0.param.sound.waiting (room l)),
+      rw (lent_is (store l) c.offset_of-from.result c.in-Some.event c.length_of.ensures) (numbered (es l) (store l) c.loop-event.at c.offset_of-from.ensures (sym c.event_at.ensures ∙ c.in-Some.is) c.requires.0.param.sound.waiting (room l)),
     )
 
 pub returns-in-Stop : goal.returns-in-Stop
 returns-in-Stop c = let l = (goal.at.returns-in-Stop c).At-loop-event in
     let inv = c.loop-event.invariant in
     rw c.ended-in-Stop.ensures
-    (head_stops (f l) (es l) (store l) (n l) (first l) inv (sym c.event_at.ensures ∙ c.in-Event.is) c.offset_of-from.ensures c.length_of.ensures c.event_at-next.ensures (c.take_head-turn.ensures (f l) (n l) _ (c.counted-in-loop-event.ensures ∙ counted_is (f l) (n l) inv.walk inv.is)) c.requires.1 c.requires.0.param.sound.waiting (room l) c.in-Stop.is)
+    (head_stops (f l) (es l) (store l) (n l) (first l) inv (sym c.event_at.ensures ∙ c.in-Some.is) c.offset_of-from.ensures c.length_of.ensures c.event_at-next.ensures (c.take_head-turn.ensures (f l) (n l) _ (c.counted-in-loop-event.ensures ∙ counted_is (f l) (n l) inv.walk inv.is)) c.requires.1 c.requires.0.param.sound.waiting (room l) c.in-Stop.is)
 
 pub overflow_add-at-in-loop-event : goal.overflow_add-at-in-loop-event
 overflow_add-at-in-loop-event c = let l = (goal.at.overflow_add-at-in-loop-event c).At-loop-event in
@@ -119,9 +119,9 @@ overflow_add-at-in-loop-event c = let l = (goal.at.overflow_add-at-in-loop-event
 
 pub loop-event-smaller : goal.loop-event-smaller
 loop-event-smaller c = let l = (goal.at.loop-event-smaller c).At-loop-event in
-    omega (arith, inside (es l) (store l) c.loop-event.at c.offset_of-from.ensures (sym c.event_at.ensures ∙ c.in-Event.is))
+    omega (arith, inside (es l) (store l) c.loop-event.at c.offset_of-from.ensures (sym c.event_at.ensures ∙ c.in-Some.is))
 
 pub loop-event-preserved : goal.loop-event-preserved
 loop-event-preserved c = let l = (goal.at.loop-event-preserved c).At-loop-event in
     let inv = c.loop-event.invariant in
-    head_goes (f l) (es l) (store l) (n l) (first l) inv (sym c.event_at.ensures ∙ c.in-Event.is) c.offset_of-from.ensures c.length_of.ensures c.event_at-next.ensures (c.take_head-turn.ensures (f l) (n l) _ (c.counted-in-loop-event.ensures ∙ counted_is (f l) (n l) inv.walk inv.is)) c.in-On.is
+    head_goes (f l) (es l) (store l) (n l) (first l) inv (sym c.event_at.ensures ∙ c.in-Some.is) c.offset_of-from.ensures c.length_of.ensures c.event_at-next.ensures (c.take_head-turn.ensures (f l) (n l) _ (c.counted-in-loop-event.ensures ∙ counted_is (f l) (n l) inv.walk inv.is)) c.in-On.is

@@ -6,15 +6,15 @@ use Rattle.tally.specs.Tally.{kept}
 use Rattle.tally.proofs.Kept.{answered-parts, refused_parts}
 use Rattle.tally.proofs.after_block.Goals as goal
 
-pub returns-in-Answered : goal.returns-in-Answered
-returns-in-Answered c =
+pub returns-in-Ok : goal.returns-in-Ok
+returns-in-Ok c =
     let a = c.args in
     c.plus.ensures
     ∙ ap (λ (u : Totals). kept (plus a.t u))
-    (answered-parts a.steps a.before a.after c.in-Answered.is c.more-finished.ensures c.more.ensures c.more-turned.ensures)
+    (answered-parts a.steps a.before a.after c.in-Ok.is c.more-finished.ensures c.more.ensures c.more-turned.ensures)
 
-pub returns-in-Refused : goal.returns-in-Refused
-returns-in-Refused c =
+pub returns-in-Err : goal.returns-in-Err
+returns-in-Err c =
     let a = c.args in
-    c.plus-in-Refused.ensures
-    ∙ ap (λ (u : Totals). kept (plus a.t u)) (c.none.ensures ∙ refused_parts a.steps a.before a.after c.in-Refused.is)
+    c.plus-in-Err.ensures
+    ∙ ap (λ (u : Totals). kept (plus a.t u)) (c.none.ensures ∙ refused_parts a.steps a.before a.after c.in-Err.is)

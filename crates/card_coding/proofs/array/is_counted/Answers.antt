@@ -6,4 +6,4 @@ pub returns-in_default : goal.returns-in_default
 returns-in_default c = uncounted _ c.decode-d.ensures c.in_default.is
 
 pub returns : goal.returns
-returns c = counted _ c.decode-d.ensures c.in-Answered.is c.len.ensures c.bytes_counted.ensures
+returns c = counted _ c.decode-d.ensures c.in-Ok.is c.len.ensures c.bytes_counted.ensures

@@ -3,10 +3,10 @@ use native.Mathlib.Omega.{arith}
 use Rattle.card_coding.specs.Array.{verdict_number}
 use Rattle.card_coding.proofs.array.verdict_number.Goals as goal
 
-pub returns-in-Answered : goal.returns-in-Answered
+pub returns-in-Ok : goal.returns-in-Ok
 unfolding verdict_number
-returns-in-Answered c = record { is = rw c.in-Answered.is; small = omega arith }
+returns-in-Ok c = record { is = rw c.in-Ok.is; small = omega arith }
 
-pub returns-in-Refused : goal.returns-in-Refused
+pub returns-in-Err : goal.returns-in-Err
 unfolding verdict_number
-returns-in-Refused c = record { is = rw c.in-Refused.is c.number_of.ensures; small = omega arith }
+returns-in-Err c = record { is = rw c.in-Err.is c.number_of.ensures; small = omega arith }

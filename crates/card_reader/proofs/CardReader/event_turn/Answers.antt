@@ -26,15 +26,15 @@ pub kept-requires : goal.kept-requires
 kept-requires c =
     omega (arith, counted c.requires.0 c.requires.3, c.field_length.ensures.1)
 
-pub returns-in-Answered : goal.returns-in-Answered
-returns-in-Answered c =
-    let e = (goal.at.returns-in-Answered c).Else-is_out_of_turn in
-    does_event c.args.bytes.now c.requires.0 c.field_length.ensures c.requires.3 c.requires.2 (due e) c.schedule-called.ensures c.schedule-called.auto.store c.in-Answered.is c.time_in.ensures
+pub returns-in-Ok : goal.returns-in-Ok
+returns-in-Ok c =
+    let e = (goal.at.returns-in-Ok c).Else-is_out_of_turn in
+    does_event c.args.bytes.now c.requires.0 c.field_length.ensures c.requires.3 c.requires.2 (due e) c.schedule-called.ensures c.schedule-called.auto.store c.in-Ok.is c.time_in.ensures
     c.kept.ensures
 
-pub returns-in-Refused : goal.returns-in-Refused
-returns-in-Refused c =
-    let e = (goal.at.returns-in-Refused c).Else-is_out_of_turn in
+pub returns-in-Err : goal.returns-in-Err
+returns-in-Err c =
+    let e = (goal.at.returns-in-Err c).Else-is_out_of_turn in
     let answer = c.schedule-called.ensures in
-    rw (refused_same c.requires.0.param answer c.in-Refused.is).1
-    (refuses c.requires.0 (event_refused _ _ c.requires.2 (due e) (sym answer.verdict ∙ c.in-Refused.is)) c.refused-in-Refused.ensures)
+    rw (refused_same c.requires.0.param answer c.in-Err.is).1
+    (refuses c.requires.0 (event_refused _ _ c.requires.2 (due e) (sym answer.verdict ∙ c.in-Err.is)) c.refused-in-Err.ensures)

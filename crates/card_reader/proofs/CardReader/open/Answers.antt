@@ -1,4 +1,5 @@
 -- `CardReader::open` meets its contract: nothing is made, and the numbers are zeros. Assumes nothing.
+use Rattle.std.proofs.Common.{None, Ok}
 use mathlib.Core.Path.{◌≡◌, refl, ap, ap₂, ◌∙◌}
 use mathlib.Core.Bool.{Bool, true, false, not}
 use mathlib.Core.List.{List, [], ◌∷◌}
@@ -7,7 +8,6 @@ use native.Mathlib.Nat.{sub-zero}
 use native.Mathlib.Omega.{arith}
 use lib.ListN.{length, replicate, length-replicate}
 use lib.Ieee.{Float}
-use Rattle.rules.specs.declared.MaybeTime.TheVariants as MaybeTime
 use Rattle.rules.specs.declared.Bounds.{Bounds}
 use Rattle.rules.specs.declared.AutomationRate.{AutomationRate}
 use Rattle.rules.specs.declared.Refusal.TheVariants as Refusal
@@ -16,7 +16,6 @@ use Rattle.rules.specs.Refusals.{row, lowest, making_rows, is_edition, are_bound
 use Rattle.rules.specs.Block.{Param, made, made_as, edition_of}
 use Rattle.param.specs.Param.{param_of, nothing_made}
 use Rattle.param.proofs.Calls.{struct_back}
-use Rattle.card.specs.declared.CardVerdict.TheVariants as CardVerdict
 use Rattle.card.specs.Card.{Reader}
 use Rattle.card_reader.proofs.CardReader.open.Goals as goal
 
@@ -38,9 +37,9 @@ first rate n p numbers =
       ranged = false;
       param = p;
       store = numbers;
-      before = MaybeTime.Missing;
+      before = None;
       offset = 0;
-      verdict = CardVerdict.Answered;
+      verdict = (Ok tt);
     }
 
 pub returns : goal.returns

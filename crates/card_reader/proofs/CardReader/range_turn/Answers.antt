@@ -14,11 +14,11 @@ field_length-requires c = (whole_parts c.args.bytes.now c.requires.1.whole).0
 pub kept-requires : goal.kept-requires
 kept-requires c = omega (arith, at_start c.requires.0 c.requires.3, c.field_length.ensures.1)
 
-pub returns-in-Answered : goal.returns-in-Answered
-returns-in-Answered c =
-    does_range c.args.bytes.now c.requires.0 c.field_length.ensures c.requires.3 c.requires.2 c.bounds_in.ensures c.with_edition-made.ensures c.in-Answered.is
+pub returns-in-Ok : goal.returns-in-Ok
+returns-in-Ok c =
+    does_range c.args.bytes.now c.requires.0 c.field_length.ensures c.requires.3 c.requires.2 c.bounds_in.ensures c.with_edition-made.ensures c.in-Ok.is
     c.kept.ensures
 
-pub returns-in-Refused : goal.returns-in-Refused
-returns-in-Refused c =
-    refuses c.requires.0 (range_refused _ _ c.requires.2 (rw c.bounds_in.ensures at (sym c.with_edition-made.ensures.verdict ∙ c.in-Refused.is))) c.refused.ensures
+pub returns-in-Err : goal.returns-in-Err
+returns-in-Err c =
+    refuses c.requires.0 (range_refused _ _ c.requires.2 (rw c.bounds_in.ensures at (sym c.with_edition-made.ensures.verdict ∙ c.in-Err.is))) c.refused.ensures

@@ -2,10 +2,10 @@
 use Rattle.coding.specs.Coding.{flag_of}
 use Rattle.coding.proofs.event.flag_of.Goals as goal
 
-pub returns-in-Missing : goal.returns-in-Missing
+pub returns-in-None : goal.returns-in-None
 unfolding flag_of
-returns-in-Missing c = rw c.in-Missing.is
+returns-in-None c = rw c.in-None.is
 
-pub returns-in-At : goal.returns-in-At
+pub returns-in-Some : goal.returns-in-Some
 unfolding flag_of
-returns-in-At c = rw c.in-At.is
+returns-in-Some c = rw c.in-Some.is

@@ -2,8 +2,8 @@
 use Rattle.coding.proofs.Words.{missing_bits, time_bits}
 use Rattle.coding.proofs.event.time_bits.Goals as goal
 
-pub returns-in-Missing : goal.returns-in-Missing
-returns-in-Missing c = rw c.in-Missing.is missing_bits
+pub returns-in-None : goal.returns-in-None
+returns-in-None c = rw c.in-None.is missing_bits
 
-pub returns-in-At : goal.returns-in-At
-returns-in-At c = rw c.in-At.is (time_bits c.double_bits.ensures)
+pub returns-in-Some : goal.returns-in-Some
+returns-in-Some c = rw c.in-Some.is (time_bits c.double_bits.ensures)

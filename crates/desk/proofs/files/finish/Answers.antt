@@ -16,15 +16,15 @@ slice_bounds-finish-end-2 c = sym (length-take-le 4096 c.args.store.now (omega (
 pub put_word-next-requires : goal.put_word-next-requires
 put_word-next-requires c = omega (arith, c.requires.4)
 
-pub returns-in-Answered : goal.returns-in-Answered
-returns-in-Answered c =
+pub returns-in-Ok : goal.returns-in-Ok
+returns-in-Ok c =
     let f = c.finish-loaded in
     let store = c.args.store.now in
     let lent = length-take-le 4096 store (omega (arith, c.requires.3)) in
-    answered_load _ c.args.desk store c.requires.0 f.ensures c.in-Answered.is refl
+    answered_load _ c.args.desk store c.requires.0 f.ensures c.in-Ok.is refl
     (c.after_command-totals.ensures ∙ ap (λ (t : Totals). kept (plus t (command_seen 0 c.len.result))) c.none.ensures) c.len.ensures
     (cleared_behind f.new.store (drop 4096 store) _ (f.auto.store ∙ lent) (length-drop 4096 store ∙ omega (arith, c.requires.3)) c.clear.ensures) c.put_word-next.ensures
 
-pub returns-in-Refused : goal.returns-in-Refused
-returns-in-Refused c =
-    refused_load _ c.args.desk c.args.store.now c.requires.0 c.finish-loaded.ensures c.in-Refused.is refl c.number_of.ensures refl c.put_fault-next.ensures.put c.put_fault-next.ensures.upper_bound
+pub returns-in-Err : goal.returns-in-Err
+returns-in-Err c =
+    refused_load _ c.args.desk c.args.store.now c.requires.0 c.finish-loaded.ensures c.in-Err.is refl c.number_of.ensures refl c.put_fault-next.ensures.put c.put_fault-next.ensures.upper_bound

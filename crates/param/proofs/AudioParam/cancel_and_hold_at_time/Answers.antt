@@ -1,11 +1,12 @@
 -- `cancel_and_hold_at_time` meets its contract. Assumes nothing.
+use Rattle.std.proofs.Common.{Option}
+use Rattle.rules.specs.declared.Event.{Event}
 use mathlib.Core.Bool.{Bool, cond}
 use mathlib.Core.List.{List}
 use mathlib.Core.Path.{◌≡◌, refl, sym, ap, ◌∙◌}
 use Prim.Native.Nat.{◌≤◌}
 use native.Mathlib.Omega.{arith}
 use lib.Ieee.{Float}
-use Rattle.rules.specs.declared.Head.{Head}
 use Rattle.rules.specs.Numbers.{store_length, taken_time}
 use Rattle.rules.specs.Queue.{lengths_of, attached, held, loses_curve, returned, value_after_hold}
 use Rattle.rules.specs.Refusals.{lowest, cancel_rows}
@@ -29,30 +30,30 @@ pub hold-q-requires : goal.hold-q-requires
 hold-q-requires c =
     let start = (goal.at.hold-q-requires c).Start in
     let r : lengths_of (param_of c.args.self).queue ≤ store_length = c.requires.sound.waiting.room in
-    (c.requires.neat, omega (arith, (cancel_answered (lent start) c.args.cancel_time (sym (verdict (goal.at.hold-q-requires c).After-cancel-verdict) ∙ c.in-Answered.is)).lent))
+    (c.requires.neat, omega (arith, (cancel_answered (lent start) c.args.cancel_time (sym (verdict (goal.at.hold-q-requires c).After-cancel-verdict) ∙ c.in-Ok.is)).lent))
 
-pub returns-in-Answered : goal.returns-in-Answered
+pub returns-in-Ok : goal.returns-in-Ok
 unfolding called value_after_hold
-returns-in-Answered c =
-    let start = (goal.at.returns-in-Answered c).Start in
+returns-in-Ok c =
+    let start = (goal.at.returns-in-Ok c).Start in
     let p = c.args.self in
     let time = taken_time c.args.cancel_time in
     let ws = attached (param_of p).queue (lent start) in
-    let lost = c.loses_curve.ensures ∙ ap (λ (h : Head). loses_curve c.taken_time-c.result p.end h) (c.peek.ensures ∙ sym (head_attached (param_of p).queue (lent start))) in
+    let lost = c.loses_curve.ensures ∙ ap (λ (h : Option Event). loses_curve c.taken_time-c.result p.end h) (c.peek.ensures ∙ sym (head_attached (param_of p).queue (lent start))) in
     let value = c.value_after-value.ensures ∙ ap (λ (b : Bool). cond b (returned p.last p.intrinsic) p.intrinsic) lost in
     leaves
     c.requires
     (held time ws)
     (value_after_hold time p.end ws p.last p.intrinsic)
-    (rw (sym (verdict (goal.at.returns-in-Answered c).After-cancel-verdict) ∙ c.in-Answered.is))
-    (cancel_answered (lent start) c.args.cancel_time (sym (verdict (goal.at.returns-in-Answered c).After-cancel-verdict) ∙ c.in-Answered.is)).lent
+    (rw (sym (verdict (goal.at.returns-in-Ok c).After-cancel-verdict) ∙ c.in-Ok.is))
+    (cancel_answered (lent start) c.args.cancel_time (sym (verdict (goal.at.returns-in-Ok c).After-cancel-verdict) ∙ c.in-Ok.is)).lent
     (rw c.taken_time-c.ensures at c.hold-q.ensures)
     (rw (value, c.taken_time-c.ensures) at c.answered.ensures)
 
-pub returns-in-Refused : goal.returns-in-Refused
+pub returns-in-Err : goal.returns-in-Err
 unfolding called
-returns-in-Refused c =
+returns-in-Err c =
     keeps
     c.requires
-    (refused_called _ _ _ _ _ _ (sym (verdict (goal.at.returns-in-Refused c).After-cancel-verdict) ∙ c.in-Refused.is))
-    (rw c.in-Refused.is)
+    (refused_called _ _ _ _ _ _ (sym (verdict (goal.at.returns-in-Err c).After-cancel-verdict) ∙ c.in-Err.is))
+    (rw c.in-Err.is)

@@ -33,29 +33,29 @@ returns-in_default c =
 pub infos_of-infos-requires : goal.infos_of-infos-requires
 infos_of-infos-requires c =
     let start = (goal.at.infos_of-infos-requires c).Start in
-    omega (arith, few c.args.self (store start) (call start) c.requires (verdict (goal.at.infos_of-infos-requires c).After-verdict-verdict) c.in-Answered.is)
+    omega (arith, few c.args.self (store start) (call start) c.requires (verdict (goal.at.infos_of-infos-requires c).After-verdict-verdict) c.in-Ok.is)
 
 pub play-played-requires : goal.play-played-requires
 play-played-requires c =
     let start = (goal.at.play-played-requires c).Start in
-    playable c.args.self (store start) (call start) c.requires (verdict (goal.at.play-played-requires c).After-verdict-verdict) c.in-Answered.is (c.infos_of-infos.ensures _ _)
+    playable c.args.self (store start) (call start) c.requires (verdict (goal.at.play-played-requires c).After-verdict-verdict) c.in-Ok.is (c.infos_of-infos.ensures _ _)
 
 pub staying-requires : goal.staying-requires
 staying-requires c =
     let start = (goal.at.staying-requires c).Start in
-    (c.requires.neat, (playable c.args.self (store start) (call start) c.requires (verdict (goal.at.staying-requires c).After-verdict-verdict) c.in-Answered.is (c.infos_of-infos.ensures _ _)).room, c.if-played-eq0.true)
+    (c.requires.neat, (playable c.args.self (store start) (call start) c.requires (verdict (goal.at.staying-requires c).After-verdict-verdict) c.in-Ok.is (c.infos_of-infos.ensures _ _)).room, c.if-played-eq0.true)
 
 pub returns-then-played-eq0 : goal.returns-then-played-eq0
 returns-then-played-eq0 c =
     let start = (goal.at.returns-then-played-eq0 c).Start in
-    plays c.args.self (store start) (call start) c.requires (verdict (goal.at.returns-then-played-eq0 c).After-verdict-verdict) c.in-Answered.is (c.infos_of-infos.ensures _ _) c.play-played.ensures c.staying.ensures
+    plays c.args.self (store start) (call start) c.requires (verdict (goal.at.returns-then-played-eq0 c).After-verdict-verdict) c.in-Ok.is (c.infos_of-infos.ensures _ _) c.play-played.ensures c.staying.ensures
 
 pub leaving-requires : goal.leaving-requires
 leaving-requires c =
     let start = (goal.at.leaving-requires c).Start in
-    (c.requires.neat, (playable c.args.self (store start) (call start) c.requires (verdict (goal.at.leaving-requires c).After-verdict-verdict) c.in-Answered.is (c.infos_of-infos.ensures _ _)).room)
+    (c.requires.neat, (playable c.args.self (store start) (call start) c.requires (verdict (goal.at.leaving-requires c).After-verdict-verdict) c.in-Ok.is (c.infos_of-infos.ensures _ _)).room)
 
 pub returns : goal.returns
 returns c =
     let start = (goal.at.returns c).Start in
-    plays c.args.self (store start) (call start) c.requires (verdict (goal.at.returns c).After-verdict-verdict) c.in-Answered.is (c.infos_of-infos.ensures _ _) c.play-played.ensures c.leaving.ensures
+    plays c.args.self (store start) (call start) c.requires (verdict (goal.at.returns c).After-verdict-verdict) c.in-Ok.is (c.infos_of-infos.ensures _ _) c.play-played.ensures c.leaving.ensures

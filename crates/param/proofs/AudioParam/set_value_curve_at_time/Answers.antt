@@ -1,9 +1,10 @@
 -- `set_value_curve_at_time` meets its contract. Assumes nothing.
+use Rattle.std.proofs.Common.{Result}
+use Rattle.rules.specs.declared.Refusal.{Refusal}
 use mathlib.Core.List.{List}
 use mathlib.Core.Path.{◌≡◌, refl, sym, ◌∙◌}
 use native.Mathlib.Omega.{arith}
 use lib.Ieee.{Float}
-use Rattle.rules.specs.declared.Verdict.{Verdict}
 use Rattle.rules.specs.declared.Event.{Event}
 use Rattle.rules.specs.Numbers.{taken_time}
 use Rattle.rules.specs.Queue.{attached, inserted}
@@ -28,7 +29,7 @@ abbrev numbers : Start → List Float
 numbers c = c.args.values.now
 
 -- its verdict
-abbrev Said : Start → Verdict → Type 0
+abbrev Said : Start → Result Unit Refusal → Type 0
 Said c v = v ≡ lowest (curve_rows (queue c) (lent c) c.args.start_time c.args.duration (numbers c))
 
 verdict : (c : After-curve-verdict) → Said c.before.before.before.before.before.before.before.before.before c.curve-verdict.result
@@ -41,14 +42,14 @@ verdict c =
 pub insert-q-requires : goal.insert-q-requires
 insert-q-requires c =
     let start = (goal.at.insert-q-requires c).Start in
-    let given = curve_answered (queue start) (lent start) _ _ (numbers start) (sym (sym c.in-Answered.is ∙ verdict (goal.at.insert-q-requires c).After-curve-verdict)) in
+    let given = curve_answered (queue start) (lent start) _ _ (numbers start) (sym (sym c.in-Ok.is ∙ verdict (goal.at.insert-q-requires c).After-curve-verdict)) in
     (c.requires.neat, omega (arith, given.scheduled.few, counted c.args.self c.requires), omega (arith, given.room, given.lent))
 
-pub returns-in-Answered : goal.returns-in-Answered
+pub returns-in-Ok : goal.returns-in-Ok
 unfolding called
-returns-in-Answered c =
-    let start = (goal.at.returns-in-Answered c).Start in
-    let given = sym (sym c.in-Answered.is ∙ verdict (goal.at.returns-in-Answered c).After-curve-verdict) in
+returns-in-Ok c =
+    let start = (goal.at.returns-in-Ok c).Start in
+    let given = sym (sym c.in-Ok.is ∙ verdict (goal.at.returns-in-Ok c).After-curve-verdict) in
     leaves
     c.requires
     (inserted (curve_of (taken_time c.args.start_time) c.args.duration (numbers start)) (attached (queue start) (lent start)))
@@ -58,10 +59,10 @@ returns-in-Answered c =
     (rw c.taken_time-start.ensures at c.insert-q.ensures)
     c.answered.ensures
 
-pub returns-in-Refused : goal.returns-in-Refused
+pub returns-in-Err : goal.returns-in-Err
 unfolding called
-returns-in-Refused c =
+returns-in-Err c =
     keeps
     c.requires
-    (refused_called _ _ _ _ _ _ (sym (verdict (goal.at.returns-in-Refused c).After-curve-verdict) ∙ c.in-Refused.is))
-    (rw c.in-Refused.is)
+    (refused_called _ _ _ _ _ _ (sym (verdict (goal.at.returns-in-Err c).After-curve-verdict) ∙ c.in-Err.is))
+    (rw c.in-Err.is)

@@ -3,10 +3,10 @@ use mathlib.Core.Path.{refl}
 use Rattle.param.specs.Processed.{length_of_head}
 use Rattle.param.proofs.process.length_of_head.Goals as goal
 
-pub returns-in-Empty : goal.returns-in-Empty
+pub returns-in-None : goal.returns-in-None
 unfolding length_of_head
-returns-in-Empty c = rw c.in-Empty.is refl
+returns-in-None c = rw c.in-None.is refl
 
-pub returns-in-Event : goal.returns-in-Event
+pub returns-in-Some : goal.returns-in-Some
 unfolding length_of_head
-returns-in-Event c = rw c.in-Event.is c.length_of.ensures
+returns-in-Some c = rw c.in-Some.is c.length_of.ensures

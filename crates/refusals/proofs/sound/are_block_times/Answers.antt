@@ -2,19 +2,19 @@
 use Rattle.laws.specs.Sound.{are_block_times}
 use Rattle.refusals.proofs.sound.are_block_times.Goals as goal
 
-pub returns-in-Missing-end : goal.returns-in-Missing-end
+pub returns-in-None-end : goal.returns-in-None-end
 unfolding are_block_times
-returns-in-Missing-end c = rw (c.in-Missing.is, c.in-Missing-end.is)
+returns-in-None-end c = rw (c.in-None.is, c.in-None-end.is)
 
-pub returns-in-At-end : goal.returns-in-At-end
+pub returns-in-Some-end : goal.returns-in-Some-end
 unfolding are_block_times
-returns-in-At-end c = rw (c.in-Missing.is, c.in-At-end.is)
+returns-in-Some-end c = rw (c.in-None.is, c.in-Some-end.is)
 
-pub returns-in-Missing-end-2 : goal.returns-in-Missing-end-2
+pub returns-in-None-end-2 : goal.returns-in-None-end-2
 unfolding are_block_times
-returns-in-Missing-end-2 c = rw (c.in-At.is, c.in-Missing-end-2.is)
+returns-in-None-end-2 c = rw (c.in-Some.is, c.in-None-end-2.is)
 
-pub returns-in-At-end-2 : goal.returns-in-At-end-2
+pub returns-in-Some-end-2 : goal.returns-in-Some-end-2
 unfolding are_block_times
-returns-in-At-end-2 c =
-    rw (c.in-At.is, c.in-At-end-2.is, c.is_end_of.ensures, c.before.is_taken.ensures)
+returns-in-Some-end-2 c =
+    rw (c.in-Some.is, c.in-Some-end-2.is, c.is_end_of.ensures, c.before.is_taken.ensures)

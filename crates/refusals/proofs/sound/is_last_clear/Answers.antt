@@ -6,6 +6,6 @@ pub returns-in-None : goal.returns-in-None
 unfolding is_last_clear
 returns-in-None c = rw c.in-None.is
 
-pub returns-in-Done : goal.returns-in-Done
+pub returns-in-Some : goal.returns-in-Some
 unfolding is_last_clear
-returns-in-Done c = rw c.in-Done.is c.is_number.ensures
+returns-in-Some c = rw c.in-Some.is c.is_number.ensures
