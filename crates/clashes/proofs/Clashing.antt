@@ -1,6 +1,6 @@
 -- There is something in the way exactly where refusal 11 applies: the test of its row, for an event and for a curve. Assumes nothing.
 use Rattle.std.proofs.Common.{Option, Some, None}
-use mathlib.Core.Path.{◌≡◌, refl, ◌∙◌}
+use mathlib.Core.Path.{◌≡◌, refl, sym, ap, ◌∙◌}
 use mathlib.Core.Bool.{Bool, true, false, cond, ◌||◌}
 use mathlib.Core.List.{List, [], ◌∷◌}
 use Prim.Native.Nat.{ℕ}
@@ -9,8 +9,9 @@ use Rattle.rules.specs.declared.Event.{Event}
 use Rattle.rules.specs.Numbers.{taken_time}
 use Rattle.rules.specs.Queue.{curve_end, is_inside, covers, is_filed_inside, any, any_covers, any_inside, those}
 use Rattle.rules.specs.Refusals.{is_crossed}
-use Rattle.timeline.specs.Timeline.{first_of, is_some}
-use Rattle.timeline.proofs.Steps.{any_first}
+use Rattle.std.specs.Option.{is_some}
+use Rattle.timeline.specs.Timeline.{first_of}
+use Rattle.timeline.proofs.Steps.{first_is, any_find}
 use Rattle.calls.specs.declared.Call.{Call}
 use Rattle.clashes.specs.declared.Clash.{Clash}
 use Rattle.clashes.specs.Clashes.{span_of, curve_in, event_in, or_else, covered_by, holding, clash_of}
@@ -73,7 +74,7 @@ unfolding covered_by any_covers
 event_clashes q t = first_is_curve (taken_time t) q
 
 event_is_some : (h : Option Event) → is_clash (event_in h) ≡ is_some h
-unfolding is_clash event_in is_some
+unfolding is_clash event_in
 event_is_some None = refl
 event_is_some (Some e) = refl
 
@@ -81,7 +82,7 @@ event_inside : (q : List Event) (t d : Float) → is_clash (holding q t d) ≡ a
 unfolding holding any_inside
 event_inside q t d =
     let test : Event → Bool = is_filed_inside (taken_time t) (curve_end (taken_time t) d None) in
-    event_is_some (first_of (those test q)) ∙ any_first test q
+    event_is_some (first_of (those test q)) ∙ ap is_some (sym (first_is test q)) ∙ any_find test q
 
 either : (a b : Clash) → is_clash (or_else a b) ≡ (is_clash a || is_clash b)
 unfolding is_clash or_else

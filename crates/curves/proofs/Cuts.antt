@@ -11,11 +11,10 @@ use Rattle.rules.specs.declared.Event.{Event}
 use Rattle.rules.specs.Numbers.{plus_zero}
 use Rattle.rules.specs.Queue.{Waiting, length_of, lengths_of, numbers_of, attached, those, is_before, is_later, is_not_later}
 use Rattle.laws.proofs.Store.{numbers-append, attached-append}
-use Rattle.timeline.specs.declared.AudioParamEvent.{AudioParamEvent}
 use Rattle.timeline.specs.declared.AudioParamEventTimeline.{AudioParamEventTimeline}
-use Rattle.timeline.specs.Timeline.{slot_of, waiting, Neat, is_kept, stays}
+use Rattle.timeline.specs.Timeline.{waiting, is_kept, stays}
 use Rattle.timeline.proofs.Lists.{those_snoc}
-use Rattle.timeline.proofs.Laws.{nothing, count, slot_holds, one_more, offset_more, offset_most}
+use Rattle.timeline.proofs.Laws.{nothing, one_more, offset_more, offset_most}
 use Rattle.curves.specs.Curves.{moved, packed_in}
 
 -- the test reads the event alone
@@ -62,13 +61,13 @@ module _ (equal : Bool) (c : Float) (q : AudioParamEventTimeline) (o : List Floa
   unfolding lengths_of attached those numbers_of
   closed_none = record { passed = refl; kept = refl; behind = omega arith; long = refl; front = refl; back = refl }
 
-  module _ (h : Neat q) (fits : lengths_of (waiting q) ≤ length o) (part : List Float) (from to i : ℕ) (l : i < q.len) (s : Closed part from to i)
-      (k : ℕ) (g : k ≡ length_of (get_or q.slots i (slot_of nothing)).event) where
+  module _ (fits : lengths_of (waiting q) ≤ length o) (part : List Float) (from to i : ℕ) (l : i < length (waiting q)) (s : Closed part from to i)
+      (k : ℕ) (g : k ≡ length_of (get_or (waiting q) i nothing)) where
     abbrev this : Event
     this = get_or (waiting q) i nothing
 
     passes : from + k ≡ lengths_of (take (i + 1) (waiting q))
-    passes = rw (offset_more q h i l k g, s.passed)
+    passes = rw (offset_more (waiting q) i l, s.passed, g)
 
     pub closed_room : from + k ≤ length o
     closed_room = omega (arith, passes, offset_most (waiting q) (i + 1))
@@ -77,22 +76,21 @@ module _ (equal : Bool) (c : Float) (q : AudioParamEventTimeline) (o : List Floa
     numbers_are : take (length_of this) (drop (lengths_of (take i (waiting q))) o) ≡ take k (drop from o)
     numbers_are =
         ap (λ (n : ℕ). take (length_of this) (drop n o)) (sym s.passed)
-        ∙ ap (λ (n : ℕ). take n (drop from o)) (sym (g ∙ ap (λ (x : AudioParamEvent). length_of x.event) (slot_holds q h i l)))
+        ∙ ap (λ (n : ℕ). take n (drop from o)) (sym g)
 
-    cut_more : {b : Bool} → b ≡ stays equal c (get_or q.slots i (slot_of nothing)).event
+    cut_more : {b : Bool} → b ≡ stays equal c this
         → Cut equal c (take (i + 1) (waiting q)) o ≡ Cut equal c (take i (waiting q)) o ++ cond b (take k (drop from o)) []
     cut_more {b} e =
-        let f : stays equal c this ≡ b = sym (e ∙ ap (λ (x : AudioParamEvent). stays equal c x.event) (slot_holds q h i l)) in
-        ap (λ (es : List Event). Cut equal c es o) (one_more q h i l)
+        ap (λ (es : List Event). Cut equal c es o) (one_more (waiting q) i l)
         ∙ cut_snoc equal c (take i (waiting q)) this o
         ∙ ap (λ (xs : List Float). Cut equal c (take i (waiting q)) o ++ cond (stays equal c this) xs []) numbers_are
-        ∙ ap (λ (v : Bool). Cut equal c (take i (waiting q)) o ++ cond v (take k (drop from o)) []) f
+        ∙ ap (λ (v : Bool). Cut equal c (take i (waiting q)) o ++ cond v (take k (drop from o)) []) (sym e)
 
     untouched : (p : List Float) → drop from p ≡ drop from o → drop (from + k) p ≡ drop (from + k) o
     untouched p e = sym (drop-drop k from p) ∙ ap (drop k) e ∙ drop-drop k from o
 
     -- its numbers go
-    pub closed_skip : false ≡ stays equal c (get_or q.slots i (slot_of nothing)).event → Closed part (from + k) to (i + 1)
+    pub closed_skip : false ≡ stays equal c this → Closed part (from + k) to (i + 1)
     closed_skip e =
         let m : Cut equal c (take (i + 1) (waiting q)) o ≡ Cut equal c (take i (waiting q)) o = cut_more e ∙ append-nil (Cut equal c (take i (waiting q)) o) in
         record {
@@ -105,7 +103,7 @@ module _ (equal : Bool) (c : Float) (q : AudioParamEventTimeline) (o : List Floa
         }
 
     -- its numbers stay
-    pub closed_take : true ≡ stays equal c (get_or q.slots i (slot_of nothing)).event → Closed (moved part from to k) (from + k) (to + k) (i + 1)
+    pub closed_take : true ≡ stays equal c this → Closed (moved part from to k) (from + k) (to + k) (i + 1)
     closed_take e =
         let b : to ≤ from = s.behind in
         let r : from + k ≤ length o = closed_room in
@@ -132,12 +130,11 @@ module _ (equal : Bool) (c : Float) (q : AudioParamEventTimeline) (o : List Floa
         }
 
   -- all are passed, and zeros stand behind
-  pub closed_all : Neat q → (part : List Float) (from to i : ℕ) → Closed part from to i → q.len ≤ i
+  pub closed_all : (part : List Float) (from to i : ℕ) → Closed part from to i → length (waiting q) ≤ i
       → take to part ++ replicate (length part - to) plus_zero ≡ packed_in (length o) (those (is_kept equal c) (attached (waiting q) o))
   unfolding packed_in
-  closed_all h part from to i s l =
-      let n : length (waiting q) ≡ q.len = count q h in
-      let a : Cut equal c (take i (waiting q)) o ≡ Cut equal c (waiting q) o = ap (λ (es : List Event). Cut equal c es o) (take_all i (waiting q) (omega arith)) in
+  closed_all part from to i s l =
+      let a : Cut equal c (take i (waiting q)) o ≡ Cut equal c (waiting q) o = ap (λ (es : List Event). Cut equal c es o) (take_all i (waiting q) l) in
       let f : take to part ≡ Cut equal c (waiting q) o = s.front ∙ a in
       let m : to ≡ length (Cut equal c (waiting q) o) = s.kept ∙ ap length a in
       rw (f, s.long) (ap (λ (k : ℕ). Cut equal c (waiting q) o ++ replicate (length o - k) plus_zero) m)

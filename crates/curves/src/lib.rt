@@ -6,44 +6,16 @@ ghost use Rattle.std.proofs.Math.Seq.{paste};
 ghost use Rattle.rules.specs.Numbers.{most_events, plus_zero};
 ghost use Rattle.rules.specs.Queue.{lengths_of, attached, those, inserted, cancelled, held};
 ghost use Rattle.timeline.specs.Timeline.{Neat, waiting, is_kept};
-ghost use Rattle.curves.specs.Curves.{moved, packed_in, Leaves, curve_of};
+ghost use Rattle.curves.specs.Curves.{packed_in, Leaves, curve_of};
 
 use rules::Event;
 use timeline::AudioParamEventTimeline;
-
-// Numbers go to an earlier place: from the first on, so that none is overwritten before it is read.
-fn move_down(part: &mut [f32], from: usize, to: usize, n: usize)
-    requires { (to ≤ from) × (from + n ≤ length part.old) }
-    ensures { part.new ≡ moved part.old from to n }
-{
-    let mut i = 0usize;
-    while i < n {
-        part[to + i] = part[from + i];
-        i += 1;
-    }
-}
-
-// Numbers go to a later place: from the last on.
-fn move_up(part: &mut [f32], from: usize, to: usize, n: usize)
-    requires { (from ≤ to) × (to + n ≤ length part.old) }
-    ensures { part.new ≡ moved part.old from to n }
-{
-    let mut i = n;
-    while 0 < i {
-        i -= 1;
-        part[to + i] = part[from + i];
-    }
-}
 
 pub fn write(part: &mut [f32], at: usize, values: &[f32])
     requires { at + length values.now ≤ length part.old }
     ensures { part.new ≡ paste part.old at values.now (length values.now) }
 {
-    let mut i = 0usize;
-    while i < values.len() {
-        part[at + i] = values[i];
-        i += 1;
-    }
+    part[at..at + values.len()].copy_from_slice(values);
 }
 
 // What stands behind the numbers in use becomes 0.
@@ -51,11 +23,7 @@ pub fn zero_behind(part: &mut [f32], used: usize)
     requires { used ≤ length part.old }
     ensures { part.new ≡ take used part.old ++ replicate (length part.old - used) plus_zero }
 {
-    let mut i = used;
-    while i < part.len() {
-        part[i] = 0.0;
-        i += 1;
-    }
+    part[used..].fill(0.0);
 }
 
 // The numbers of the events that a cut at c leaves close up; the others' go.
@@ -63,20 +31,15 @@ fn cut(q: AudioParamEventTimeline, c: f64, equal: bool, part: &mut [f32])
     requires { Neat q × (lengths_of (waiting q) ≤ length part.old) }
     ensures { part.new ≡ packed_in (length part.old) (those (is_kept equal c) (attached (waiting q) part.old)) }
 {
-    let n = q.len;
-    let mut from = 0usize;
-    let mut to = 0usize;
-    let mut i = 0usize;
-    while i < n {
-        let s = q.slots[i];
-        let e = s.event;
-        let k = timeline::length_of(e);
-        if timeline::is_kept(e, c, equal) {
-            move_down(part, from, to, k);
-            to += k;
+    let mut from = 0;
+    let mut to = 0;
+    for slot in &q.slots[..q.len] {
+        let size = timeline::length_of(slot.event);
+        if timeline::is_kept(slot.event, c, equal) {
+            part.copy_within(from..from + size, to);
+            to += size;
         }
-        from += k;
-        i += 1;
+        from += size;
     }
     zero_behind(part, to);
 }
@@ -96,7 +59,7 @@ pub fn insert(
     let used = q.lengths();
     let place = q.place_behind(start);
     let at = q.offset_of(place);
-    move_up(part, at, at + len, used - at);
+    part.copy_within(at..used, at + len);
     write(part, at, values);
     zero_behind(part, used + len);
     let hold = None;
@@ -142,8 +105,7 @@ pub fn consume(q: AudioParamEventTimeline, n: usize, part: &mut [f32]) -> AudioP
     }
     let used = q.lengths();
     let from = q.offset_of(n);
-    let left = used - from;
-    move_down(part, from, 0, left);
-    zero_behind(part, left);
+    part.copy_within(from..used, 0);
+    zero_behind(part, used - from);
     q.drop_heads(n)
 }

@@ -36,11 +36,6 @@ unfoldable pub first_of : List Event → Option Event
 first_of [] = None
 first_of (e ∷ es) = Some e
 
--- whether there is one
-unfoldable pub is_some : Option Event → Bool
-is_some None = false
-is_some (Some e) = true
-
 -- these events, the first of which has become another
 unfoldable pub head_as : Option Event → List Event → List Event
 head_as None es = es

@@ -1,12 +1,12 @@
 // The waiting events of one parameter, by value, in the order in which they are walked.
 #![tactic(auto)]
 
-ghost use Rattle.std.specs.Prelude.{◌≡◌, [], ◌≤◌, ◌<◌, ◌^◌, take, drop, set};
+ghost use Rattle.std.specs.Prelude.{◌≡◌, [], ◌≤◌, ◌<◌, ◌^◌, take, drop, set, find};
 ghost use Rattle.rules.specs.Numbers.{most_events};
 ghost use Rattle.rules.specs.Queue.{hold_or, filed_under, is_ramp, curve_end, is_inside, is_filed_inside, any_covers, any_inside, length_of, lengths_of, place_behind, put_at, arrived, those, lasts_to, goes_at, held_event, runs_at, last_held, held, events_of, attached};
 ghost use Rattle.rules.specs.Queue as rule;
 ghost use Rattle.laws.specs.Search.{is_later_than};
-ghost use Rattle.timeline.specs.Timeline.{blank_event, slot_of, made, waiting, Neat, first_of, is_some, head_as, beginning, stays};
+ghost use Rattle.timeline.specs.Timeline.{blank_event, slot_of, made, waiting, Neat, first_of, head_as, beginning, stays};
 
 use rules::Event;
 
@@ -27,41 +27,35 @@ pub struct AudioParamEventTimeline {
 }
 
 // The hold time, else the time given.
+#[tactic(auto, unfolding(rules::specs::Queue::hold_or))]
 pub fn hold_or(hold: Option<f64>, time: f64) -> f64
     ensures { result ≡ hold_or hold time }
 {
-    match hold {
-        None => time,
-        Some(c) => c,
-    }
+    hold.unwrap_or(time)
 }
 
 // The time that an event is filed under: a held ramp's hold time, else its own.
+#[tactic(auto, unfolding(rules::specs::Queue::filed_under))]
 pub fn filed_under(e: Event) -> f64
     ensures { result ≡ filed_under e }
 {
     match e {
-        Event::Step { time, .. } => time,
+        Event::Step { time, .. } | Event::Target { time, .. } => time,
         Event::Linear { time, hold, .. } => hold_or(hold, time),
         Event::Exponential { time, hold, .. } => hold_or(hold, time),
-        Event::Target { time, .. } => time,
         Event::Curve { start, .. } => start,
     }
 }
 
+#[tactic(auto, unfolding(rules::specs::Queue::is_ramp))]
 pub fn is_ramp(e: Event) -> bool
     ensures { result ≡ is_ramp e }
 {
-    match e {
-        Event::Step { .. } => false,
-        Event::Linear { .. } => true,
-        Event::Exponential { .. } => true,
-        Event::Target { .. } => false,
-        Event::Curve { .. } => false,
-    }
+    matches!(e, Event::Linear { .. } | Event::Exponential { .. })
 }
 
 // Where a curve ends: at its hold time, else at start + duration.
+#[tactic(auto, unfolding(rules::specs::Queue::curve_end))]
 pub fn curve_end(start: f64, duration: f64, hold: Option<f64>) -> f64
     ensures { result ≡ curve_end start duration hold }
 {
@@ -69,6 +63,7 @@ pub fn curve_end(start: f64, duration: f64, hold: Option<f64>) -> f64
 }
 
 // At the start or later, and before the end.
+#[tactic(auto, unfolding(rules::specs::Queue::is_inside))]
 fn is_inside(start: f64, end: f64, time: f64) -> bool
     ensures { result ≡ is_inside start end time }
 {
@@ -76,65 +71,50 @@ fn is_inside(start: f64, end: f64, time: f64) -> bool
 }
 
 // Whether the time lies inside the event, which is a curve.
+#[tactic(auto, unfolding(rules::specs::Queue::covers))]
 fn covers(e: Event, time: f64) -> bool
     ensures { result ≡ rule.covers time e }
 {
     match e {
-        Event::Step { .. } => false,
-        Event::Linear { .. } => false,
-        Event::Exponential { .. } => false,
-        Event::Target { .. } => false,
         Event::Curve {
             start,
             duration,
             hold,
             ..
         } => is_inside(start, curve_end(start, duration, hold), time),
-    }
-}
-
-// Whether there is an event.
-fn is_some(head: Option<Event>) -> bool
-    ensures { result ≡ is_some head }
-{
-    match head {
-        None => false,
-        Some(_) => true,
+        _ => false,
     }
 }
 
 // How many numbers of the curve store are the event's.
+#[tactic(auto, unfolding(rules::specs::Queue::length_of))]
 pub fn length_of(e: Event) -> usize
     ensures { result ≡ length_of e }
 {
     match e {
-        Event::Step { .. } => 0,
-        Event::Linear { .. } => 0,
-        Event::Exponential { .. } => 0,
-        Event::Target { .. } => 0,
         Event::Curve { len, .. } => len,
+        _ => 0,
     }
 }
 
 // Whether the event is a curve that ends at c or later.
+#[tactic(auto, unfolding(rules::specs::Queue::lasts_to))]
 fn lasts_to(e: Event, c: f64) -> bool
     ensures { result ≡ lasts_to c e }
 {
     match e {
-        Event::Step { .. } => false,
-        Event::Linear { .. } => false,
-        Event::Exponential { .. } => false,
-        Event::Target { .. } => false,
         Event::Curve {
             start,
             duration,
             hold,
             ..
         } => c <= curve_end(start, duration, hold),
+        _ => false,
     }
 }
 
 // Whether a cancel at c takes the event: it is filed at c or later, or is a curve that lasts to c.
+#[tactic(auto, unfolding(rules::specs::Queue::goes_at))]
 pub fn goes_at(e: Event, c: f64) -> bool
     ensures { result ≡ goes_at c e }
 {
@@ -142,6 +122,7 @@ pub fn goes_at(e: Event, c: f64) -> bool
 }
 
 // Whether a cut at c leaves the event: a cancel's does not take it or, where those at c stay, it is no later.
+#[tactic(auto, unfolding(crate::specs::Timeline::is_kept, rules::specs::Queue::is_before, rules::specs::Queue::is_not_later, rules::specs::Queue::is_later))]
 pub fn is_kept(e: Event, c: f64, equal: bool) -> bool
     ensures { result ≡ stays equal c e }
 {
@@ -153,16 +134,18 @@ pub fn is_kept(e: Event, c: f64, equal: bool) -> bool
 }
 
 // The hold time c, unless an earlier one is there.
+#[tactic(auto, unfolding(rules::specs::Queue::sooner))]
 fn sooner(h: Option<f64>, c: f64) -> Option<f64>
     ensures { result ≡ rule.sooner h c }
 {
     match h {
-        None => Some(c),
-        Some(t) => { if t < c { Some(t) } else { Some(c) } }
+        Some(t) if t < c => h,
+        _ => Some(c),
     }
 }
 
 // The event with hold time c; a step has none.
+#[tactic(auto, unfolding(rules::specs::Queue::held_event))]
 fn held_event(e: Event, c: f64) -> Event
     ensures { result ≡ held_event c e }
 {
@@ -204,19 +187,18 @@ fn held_event(e: Event, c: f64) -> Event
 }
 
 // Whether the event is a target, or a curve that has not ended at c.
+#[tactic(auto, unfolding(rules::specs::Queue::runs_at))]
 fn runs_at(e: Event, c: f64) -> bool
     ensures { result ≡ runs_at c e }
 {
     match e {
-        Event::Step { .. } => false,
-        Event::Linear { .. } => false,
-        Event::Exponential { .. } => false,
         Event::Target { .. } => true,
         Event::Curve {
             start,
             duration,
             ..
         } => c < start + duration,
+        _ => false,
     }
 }
 
@@ -248,13 +230,10 @@ impl AudioParamEventTimeline {
         requires { Neat self }
         ensures { result ≡ first_of (drop i (waiting self)) }
     {
-        let n = self.len;
-        if n <= i {
+        if self.len <= i {
             return None;
         }
-        let s = self.slots[i];
-        let e = s.event;
-        Some(e)
+        Some(self.slots[i].event)
     }
 
     // The first waiting event.
@@ -278,16 +257,11 @@ impl AudioParamEventTimeline {
         requires { Neat self }
         ensures { result ≡ place_behind time (waiting self) }
     {
-        let mut i = self.len;
-        while 0 < i {
-            let last = i - 1;
-            let s = self.slots[last];
-            let e = s.event;
-            let t = filed_under(e);
+        for i in (0..self.len).rev() {
+            let t = filed_under(self.slots[i].event);
             if t <= time {
-                return i;
+                return i + 1;
             }
-            i = last;
         }
         0
     }
@@ -295,37 +269,24 @@ impl AudioParamEventTimeline {
     // The first curve inside which the time lies.
     pub fn covering(self, time: f64) -> Option<Event>
         requires { Neat self }
-        ensures { result ≡ first_of (those (rule.covers time) (waiting self)) }
+        ensures { result ≡ find (rule.covers time) (waiting self) }
     {
-        let n = self.len;
-        let mut i = 0usize;
-        while i < n {
-            let s = self.slots[i];
-            let e = s.event;
-            if covers(e, time) {
-                return Some(e);
-            }
-            i += 1;
-        }
-        None
+        self.slots[..self.len]
+            .iter()
+            .map(|slot| slot.event)
+            .find(|e| covers(*e, time))
     }
 
     // The first event that is filed at the start or later, and before the end.
+    #[tactic(auto, unfolding(rules::specs::Queue::is_filed_inside))]
     pub fn filed_inside(self, start: f64, end: f64) -> Option<Event>
         requires { Neat self }
-        ensures { result ≡ first_of (those (is_filed_inside start end) (waiting self)) }
+        ensures { result ≡ find (is_filed_inside start end) (waiting self) }
     {
-        let n = self.len;
-        let mut i = 0usize;
-        while i < n {
-            let s = self.slots[i];
-            let e = s.event;
-            if is_inside(start, end, filed_under(e)) {
-                return Some(e);
-            }
-            i += 1;
-        }
-        None
+        self.slots[..self.len]
+            .iter()
+            .map(|slot| slot.event)
+            .find(|e| is_inside(start, end, filed_under(*e)))
     }
 
     // Whether the time lies inside a waiting curve.
@@ -333,7 +294,7 @@ impl AudioParamEventTimeline {
         requires { Neat self }
         ensures { result ≡ any_covers time (waiting self) }
     {
-        is_some(self.covering(time))
+        self.covering(time).is_some()
     }
 
     // Whether an event is filed at the start or later, and before the end.
@@ -341,7 +302,7 @@ impl AudioParamEventTimeline {
         requires { Neat self }
         ensures { result ≡ any_inside start end (waiting self) }
     {
-        is_some(self.filed_inside(start, end))
+        self.filed_inside(start, end).is_some()
     }
 
     // The queue with one event more, at a place.
@@ -349,20 +310,11 @@ impl AudioParamEventTimeline {
         requires { Neat self × (self.len < most_events) × (place ≤ self.len) }
         ensures { result ≡ made (put_at place e (waiting self)) }
     {
-        let n = self.len;
-        let mut s = self.slots;
-        let mut carried = AudioParamEvent { event: e };
-        let mut i = place;
-        while i <= n {
-            let x = s[i];
-            s[i] = carried;
-            carried = x;
-            i += 1;
-        }
-        Self {
-            slots: s,
-            len: n + 1,
-        }
+        let mut q = self;
+        q.slots.copy_within(place..self.len, place + 1);
+        q.slots[place].event = e;
+        q.len += 1;
+        q
     }
 
     // An event arrives: it goes behind all of equal or smaller time.
@@ -379,21 +331,11 @@ impl AudioParamEventTimeline {
         requires { Neat self }
         ensures { result ≡ made (drop n (waiting self)) }
     {
-        let b = blank();
-        let mut out = [b; EVENTS];
-        let len = self.len;
-        let mut i = n;
-        let mut kept = 0usize;
-        while i < len {
-            let x = self.slots[i];
-            out[kept] = x;
-            kept += 1;
-            i += 1;
-        }
-        Self {
-            slots: out,
-            len: kept,
-        }
+        let left = &self.slots[n.min(self.len)..self.len];
+        let len = left.len();
+        let mut slots = Self::new().slots;
+        slots[..len].copy_from_slice(left);
+        Self { slots, len }
     }
 
     // The queue without its head.
@@ -410,14 +352,10 @@ impl AudioParamEventTimeline {
         ensures { beginning result self ≡ made (head_as head (waiting self)) }
     {
         let slot = self.slots[0];
-        let n = self.len;
-        if n == 0 {
+        if self.len == 0 {
             return slot;
         }
-        match head {
-            None => slot,
-            Some(event) => AudioParamEvent { event },
-        }
+        head.map_or(slot, |event| AudioParamEvent { event })
     }
 
     // The head becomes another event, if there is one; in an empty queue nothing does. One store for all cases, so that the queue is copied once.
@@ -436,42 +374,26 @@ impl AudioParamEventTimeline {
         requires { Neat self }
         ensures { result ≡ made (those (stays equal c) (waiting self)) }
     {
-        let b = blank();
-        let mut out = [b; EVENTS];
-        let n = self.len;
-        let mut kept = 0usize;
-        let mut i = 0usize;
-        while i < n {
-            let x = self.slots[i];
-            let e = x.event;
-            if is_kept(e, c, equal) {
-                out[kept] = x;
-                kept += 1;
+        let mut kept = Self::new();
+        for slot in &self.slots[..self.len] {
+            if is_kept(slot.event, c, equal) {
+                kept.slots[kept.len] = *slot;
+                kept.len += 1;
             }
-            i += 1;
         }
-        Self {
-            slots: out,
-            len: kept,
-        }
+        kept
     }
 
     // The first event later than c.
+    #[tactic(auto, unfolding(laws::specs::Search::is_later_than))]
     fn first_later(self, c: f64) -> Option<Event>
         requires { Neat self }
-        ensures { result ≡ first_of (those (is_later_than c) (waiting self)) }
+        ensures { result ≡ find (is_later_than c) (waiting self) }
     {
-        let n = self.len;
-        let mut i = 0usize;
-        while i < n {
-            let s = self.slots[i];
-            let e = s.event;
-            if c < filed_under(e) {
-                return Some(e);
-            }
-            i += 1;
-        }
-        None
+        self.slots[..self.len]
+            .iter()
+            .map(|slot| slot.event)
+            .find(|e| c < filed_under(*e))
     }
 
     // The last event gets hold time c where it runs at c.
@@ -479,21 +401,15 @@ impl AudioParamEventTimeline {
         requires { Neat self }
         ensures { result ≡ made (events_of (last_held c (attached (waiting self) []))) }
     {
-        let n = self.len;
-        if n == 0 {
+        let Some(last) = self.len.checked_sub(1) else {
             return self;
-        }
-        let last = n - 1;
-        let s = self.slots[last];
-        let e = s.event;
+        };
+        let mut q = self;
+        let e = q.slots[last].event;
         if runs_at(e, c) {
-            let h = held_event(e, c);
-            let mut q = self;
-            q.slots[last] = AudioParamEvent { event: h };
-            q
-        } else {
-            self
+            q.slots[last].event = held_event(e, c);
         }
+        q
     }
 
     // Cancel-and-hold at c. A ramp that is the first event later than c is held, and stays, where c is inside no curve; otherwise the last of the others is held where
@@ -520,17 +436,9 @@ impl AudioParamEventTimeline {
         requires { Neat self × (lengths_of (waiting self) < 2 ^ 64) }
         ensures { result ≡ lengths_of (take place (waiting self)) }
     {
-        let n = self.len;
-        let mut offset = 0usize;
-        let mut i = 0usize;
-        while i < n {
-            if place <= i {
-                return offset;
-            }
-            let s = self.slots[i];
-            let e = s.event;
-            offset += length_of(e);
-            i += 1;
+        let mut offset = 0;
+        for slot in &self.slots[..place.min(self.len)] {
+            offset += length_of(slot.event);
         }
         offset
     }
@@ -540,7 +448,6 @@ impl AudioParamEventTimeline {
         requires { Neat self × (lengths_of (waiting self) < 2 ^ 64) }
         ensures { result ≡ lengths_of (waiting self) }
     {
-        let n = self.len;
-        self.offset_of(n)
+        self.offset_of(self.len)
     }
 }

@@ -23,13 +23,11 @@ returns-then-len-n c =
       part = c.zero_behind.ensures ∙ emptied_part q a.part.now c.requires.1 a.n h;
     }
 
-pub overflow_sub-left : goal.overflow_sub-left
-overflow_sub-left c = let a = c.args in omega (arith, offset_most (waiting a.q) a.n)
+pub copy_within-requires-clause-start_le_end : goal.copy_within-requires-clause-start_le_end
+copy_within-requires-clause-start_le_end c = let a = c.args in omega (arith, offset_most (waiting a.q) a.n)
 
-pub move_down-requires : goal.move_down-requires
-move_down-requires c =
-    let a = c.args in
-    (omega arith, omega (arith, offset_most (waiting a.q) a.n))
+pub overflow_sub-used : goal.overflow_sub-used
+overflow_sub-used c = let a = c.args in omega (arith, offset_most (waiting a.q) a.n)
 
 pub returns : goal.returns
 returns c =
@@ -42,6 +40,6 @@ returns c =
       queue = c.drop_heads.ensures ∙ ap made (consumed_events q o c.requires.1 a.n);
       part =
           c.zero_behind-2.ensures
-          ∙ consumed-part q o c.requires.1 a.n c.move_down.new.part left u
-          (c.move_down.ensures ∙ ap (λ (k : ℕ). moved o k 0 left) c.offset_of-from.ensures);
+          ∙ consumed-part q o c.requires.1 a.n c.copy_within.new.self left u
+          (c.copy_within.ensures.after ∙ ap (λ (k : ℕ). moved o k 0 left) c.offset_of-from.ensures);
     }

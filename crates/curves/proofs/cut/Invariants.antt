@@ -1,10 +1,6 @@
--- `cut` meets its contract: what it leaves of the numbers of the first i events is closed up. Assumes nothing.
-use Prim.Native.Nat.{◌-◌, ◌≤◌}
+-- `cut` meets its contract: what it leaves of the numbers of the events looked at is closed up. Assumes nothing.
 use Rattle.curves.proofs.Cuts.{Closed}
 use Rattle.curves.proofs.cut.Given as goal
 
-abbrev pub invariant-loop-i : goal.invariant-loop-i
-invariant-loop-i l = (l.i ≤ l.n) × Closed l.equal l.c l.q l.initial.part l.part l.from l.to l.i
-
-abbrev pub decreases-loop-i : goal.decreases-loop-i
-decreases-loop-i l = l.n - l.i
+abbrev pub invariant-loop-slot : goal.invariant-loop-slot
+invariant-loop-slot l = Closed l.equal l.c l.fn.q l.initial.part l.part l.from l.to l.slot-index

@@ -7,11 +7,11 @@ use Rattle.timeline.proofs.Laws.{count}
 use Rattle.timeline.proofs.Steps.{none_there, slot_there}
 use Rattle.timeline.proofs.AudioParamEventTimeline.event_at.Goals as goal
 
-pub returns-then-n-i : goal.returns-then-n-i
-returns-then-n-i c =
+pub returns-then-self-i : goal.returns-then-self-i
+returns-then-self-i c =
     let a = c.args in
     let n : length (waiting a.self) ≡ a.self.len = count a.self c.requires in
     none_there (waiting a.self) a.i (omega arith)
 
 pub returns : goal.returns
-returns c = slot_there c.args.self c.requires c.args.i c.if-n-i.false
+returns c = slot_there c.args.self c.requires c.args.i c.if-self-i.false

@@ -6,14 +6,20 @@ use Prim.Native.Nat.{ℕ, ◌≤◌, ◌<◌}
 use native.Mathlib.Omega.{arith}
 use lib.ListN.{length}
 use lib.Ieee.{Float}
+use Rattle.std.specs.Prelude.{Option, find}
+use Rattle.laws.specs.Search.{is_later_than}
+use Rattle.timeline.proofs.Steps.{first_is}
 use Rattle.rules.specs.declared.Event.{Event}
 use Rattle.rules.specs.Queue.{is_ramp, any_covers, put_at, those, events_of, attached, held_event, last_held}
 use Rattle.timeline.specs.declared.AudioParamEventTimeline.{AudioParamEventTimeline}
-use Rattle.timeline.specs.Timeline.{Neat, made, waiting, stays}
+use Rattle.timeline.specs.Timeline.{Neat, made, waiting, first_of, stays}
 use Rattle.timeline.proofs.Lists.{those-length}
 use Rattle.timeline.proofs.Laws.{count, neat_of, waits_of}
 use Rattle.timeline.proofs.Held.{held_none, held_other, held_ramp, early_fewer}
 use Rattle.timeline.proofs.AudioParamEventTimeline.hold.Goals as goal
+
+later_is : (c : Float) (q : AudioParamEventTimeline) {e : Option Event} → e ≡ find (is_later_than c) (waiting q) → e ≡ first_of (those (is_later_than c) (waiting q))
+later_is c q h = h ∙ first_is (is_later_than c) (waiting q)
 
 module _ (c : Float) (q : AudioParamEventTimeline) where
   -- what the cut leaves
@@ -46,7 +52,7 @@ returns-in_default c =
     let a = c.args in
     c.hold_last.ensures
     ∙ last_of a.c a.self c.retain-kept.result c.retain-kept.ensures
-    ∙ ap made (held_none a.c (waiting a.self) (sym c.first_later.ensures ∙ c.in_default.is))
+    ∙ ap made (held_none a.c (waiting a.self) (sym (later_is c.args.c c.args.self c.first_later.ensures) ∙ c.in_default.is))
 
 pub any_covers-requires : goal.any_covers-requires
 any_covers-requires c =
@@ -63,7 +69,7 @@ put_at-requires c =
     let w : length (waiting k) ≡ length (early a.c a.self) = ap length (waits_of k _ c.retain-kept.ensures) in
     let few : a.self.len ≤ 64 = c.requires.few in
     let f : length (early a.c a.self) < length (waiting a.self) =
-    early_fewer a.c (waiting a.self) c.in-Some.e (sym c.first_later.ensures ∙ c.in-Some.is) in
+    early_fewer a.c (waiting a.self) c.in-Some.e (sym (later_is c.args.c c.args.self c.first_later.ensures) ∙ c.in-Some.is) in
     (h, omega arith, omega arith)
 
 pub hold_last-requires-else-ramp : goal.hold_last-requires-else-ramp
@@ -80,7 +86,7 @@ returns-then-ramp c =
     c.put_at.ensures
     ∙ ap made (put_end a.c a.self k c.retain-kept.ensures k.len m c.held_event.result e c.held_event.ensures)
     ∙ ap made
-    (held_ramp a.c (waiting a.self) e (sym c.first_later.ensures ∙ c.in-Some.is)
+    (held_ramp a.c (waiting a.self) e (sym (later_is c.args.c c.args.self c.first_later.ensures) ∙ c.in-Some.is)
     (ramps a.c a.self k c.retain-kept.ensures e c.is_ramp.ensures c.any_covers.ensures c.if-ramp.true))
 
 pub returns-else-ramp : goal.returns-else-ramp
@@ -92,5 +98,5 @@ returns-else-ramp c =
     c.hold_last-else-ramp.ensures
     ∙ last_of a.c a.self c.retain-kept.result c.retain-kept.ensures
     ∙ ap made
-    (held_other a.c (waiting a.self) e (sym c.first_later.ensures ∙ c.in-Some.is)
+    (held_other a.c (waiting a.self) e (sym (later_is c.args.c c.args.self c.first_later.ensures) ∙ c.in-Some.is)
     (ramps a.c a.self c.retain-kept.result c.retain-kept.ensures e c.is_ramp.ensures c.any_covers.ensures c.if-ramp.false))

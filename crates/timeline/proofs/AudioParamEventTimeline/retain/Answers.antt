@@ -1,59 +1,58 @@
--- `retain` meets its contract: the slots made so far hold what the cut leaves of the first i. Assumes nothing.
-use mathlib.Core.Path.{sym, ap, ◌∙◌}
+-- `retain` meets its contract: what the cut leaves of the events looked at waits in a queue of its own. Assumes nothing.
+use mathlib.Core.Path.{◌≡◌, sym, ap, ◌∙◌}
+use mathlib.Core.Bool.{Bool}
+use mathlib.Core.List.{[]}
 use Prim.Native.Nat.{◌≤◌, ◌<◌}
 use native.Mathlib.Omega.{arith}
+use lib.ListN.{length, get_or}
 use Rattle.rules.specs.Queue.{those}
-use Rattle.timeline.specs.declared.AudioParamEvent.{AudioParamEvent}
-use Rattle.timeline.specs.Timeline.{stays}
-use Rattle.timeline.proofs.Laws.{filled_none, filled_more, filled-same, filled-made, slot_holds}
+use Rattle.timeline.specs.Timeline.{made, slot_of, stays, waiting}
+use Rattle.timeline.proofs.Laws.{nothing, count, in_use, in_slot, filled_of, filled_more, filled-same, filled-made}
 use Rattle.timeline.proofs.Steps.{kept_one, kept_none, kept-all}
 use Rattle.timeline.proofs.AudioParamEventTimeline.retain.Goals as goal
-use Rattle.timeline.proofs.AudioParamEventTimeline.retain.Goals.{then-is_kept, else-is_kept}
+use Rattle.timeline.proofs.AudioParamEventTimeline.retain.Goals.{After-is_kept, then-is_kept, else-is_kept}
 
-pub loop-i-init : goal.loop-i-init
+pub loop-slot-init : goal.loop-slot-init
 unfolding those
-loop-i-init c = (omega arith, omega arith, filled_none c.blank-b.result c.blank-b.ensures)
+loop-slot-init c = let f = filled_of c.new-kept.result [] c.new-kept.ensures in (omega (arith, f.many), f)
 
-pub offset_bounds-self-i : goal.offset_bounds-self-i
-offset_bounds-self-i c = omega arith
+module _ (c : After-is_kept) where
+  inside : c.loop-slot.slot-index < length (waiting c.args.self)
+  inside = omega (arith, c.loop-slot-test.true, in_use c.args.self)
 
-pub bounds-self-i : goal.bounds-self-i
-bounds-self-i c = omega arith
+  pub room : c.loop-slot.kept.len < 64
+  room = let few : c.args.self.len ≤ 64 = c.requires.few in omega (arith, inside, count c.args.self c.requires, c.loop-slot.invariant.0)
 
-pub offset_bounds-out-kept : goal.offset_bounds-out-kept
-offset_bounds-out-kept c = omega arith
+  asked : {b : Bool} → c.is_kept.result ≡ b → stays c.args.equal c.args.c (get_or (waiting c.args.self) c.loop-slot.slot-index nothing) ≡ b
+  asked f = ap (stays c.args.equal c.args.c) (sym (in_slot c.args.self c.loop-slot.slot-index)) ∙ sym c.is_kept.ensures ∙ f
 
-pub bounds-out-kept : goal.bounds-out-kept
-bounds-out-kept c = omega arith
+pub offset_bounds-kept-kept : goal.offset_bounds-kept-kept
+offset_bounds-kept-kept c = record { fits = omega (arith, room (goal.at.offset_bounds-kept-kept c).After-is_kept) }
+
+pub bounds-kept-kept : goal.bounds-kept-kept
+bounds-kept-kept c = room (goal.at.bounds-kept-kept c).After-is_kept
 
 pub overflow_add-kept : goal.overflow_add-kept
-overflow_add-kept c = omega arith
+overflow_add-kept c = record { fits = omega (arith, room (goal.at.overflow_add-kept c).After-is_kept) }
 
-pub overflow_add-i : goal.overflow_add-i
-overflow_add-i c = omega arith
-
-pub loop-i-smaller : goal.loop-i-smaller
-loop-i-smaller c = omega arith
-
-pub loop-i-preserved : goal.loop-i-preserved
-loop-i-preserved c =
+pub loop-slot-preserved : goal.loop-slot-preserved
+loop-slot-preserved c =
+    let k = (goal.at.loop-slot-preserved c).After-is_kept in
     let a = c.args in
-    let q = a.self in
-    let l = c.loop-i in
-    let b : l.i < q.len = c.loop-i-test.true in
-    let few : q.len ≤ 64 = c.requires.few in
-    let s = slot_holds q c.requires l.i b in
-    let k = c.is_kept.ensures ∙ ap (λ (x : AudioParamEvent). stays a.equal a.c x.event) s in
+    let l = c.loop-slot in
+    let es = waiting a.self in
+    let s = ap slot_of (in_slot a.self l.slot-index) in
     elim c.if-is_kept.branch [
       | then-is_kept w ↦
-          let f = filled_more l.invariant.2 (omega arith) s (kept_one a.equal a.c q c.requires l.i b (sym k ∙ w.if-is_kept.true)) in
-          (omega arith, omega (arith, w.kept-is), rw (w.out-is, w.kept-is) f)
+          let f = filled_more l.invariant.1 (room k) s (kept_one a.equal a.c es l.slot-index (inside k) (asked k w.if-is_kept.true)) in
+          rw w.kept-is (omega arith, f)
       | else-is_kept w ↦
-          let f = filled-same l.invariant.2 (kept_none a.equal a.c q c.requires l.i b (sym k ∙ w.if-is_kept.false)) in
-          (omega arith, omega (arith, w.kept-is), rw (w.out-is, w.kept-is) f)
+          let f = filled-same l.invariant.1 (kept_none a.equal a.c es l.slot-index (inside k) (asked k w.if-is_kept.false)) in
+          rw w.kept-is (omega arith, f)
     ]
 
 pub returns : goal.returns
 returns c =
-    let l = c.loop-i in
-    filled-made (filled-same l.invariant.2 (kept-all c.args.equal c.args.c c.args.self c.requires l.i (omega arith)))
+    let a = c.args in
+    let l = c.loop-slot in
+    filled-made l.invariant.1 ∙ ap made (kept-all a.equal a.c (waiting a.self) l.slot-index (omega (arith, c.loop-slot-test.false, in_use a.self)))

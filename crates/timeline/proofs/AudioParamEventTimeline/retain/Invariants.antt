@@ -1,14 +1,9 @@
--- `retain` meets its contract: the slots made so far hold what the cut leaves of the first i. Assumes nothing.
-use Prim.Native.Nat.{◌-◌, ◌≤◌}
-use lib.ListN.{take}
-use Rattle.rules.specs.Queue.{those}
-use Rattle.timeline.specs.Timeline.{waiting, stays}
+-- `retain` meets its contract: what the cut leaves of the events looked at waits in a queue of its own. Assumes nothing.
+use Prim.Native.Nat.{◌≤◌}
+use Rattle.timeline.specs.Timeline.{waiting}
 use Rattle.timeline.proofs.Laws.{Filled}
+use Rattle.timeline.proofs.Steps.{Kept}
 use Rattle.timeline.proofs.AudioParamEventTimeline.retain.Given as goal
 
-abbrev pub invariant-loop-i : goal.invariant-loop-i
-invariant-loop-i l =
-    (l.i ≤ l.n) × (l.kept ≤ l.i) × Filled l.out l.kept (those (stays l.equal l.c) (take l.i (waiting l.self)))
-
-abbrev pub decreases-loop-i : goal.decreases-loop-i
-decreases-loop-i l = l.n - l.i
+abbrev pub invariant-loop-slot : goal.invariant-loop-slot
+invariant-loop-slot l = (l.kept.len ≤ l.slot-index) × Filled l.kept.slots l.kept.len (Kept l.equal l.c (waiting l.fn.self) l.slot-index)
