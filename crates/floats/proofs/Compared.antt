@@ -1,5 +1,5 @@
 -- The kinds of a float, by comparisons: finite lies between the infinities, and a magnitude is a float without its sign. Assumes nothing.
-use mathlib.Core.Path.{◌≡◌, refl}
+use mathlib.Core.Path.{◌≡◌, refl, sym, ◌∙◌}
 use mathlib.Core.Bool.{Bool, true, false, not, ◌&&◌, true≢false, false≢true}
 use Prim.Native.Nat.{ℕ, zero, suc, ◌+◌, ◌*◌, ◌<◌}
 use native.Mathlib.Omega.{arith}
@@ -36,6 +36,10 @@ unfolding is_finite
 finite_is nan = refl
 finite_is (inf s) = refl
 finite_is (fin s m e) = refl
+
+-- so of a float that was tested
+pub tested : (x : Float) {r t : Bool} → r ≡ is_finite x → r ≡ t → finite x ≡ t
+tested x e h = sym (finite_is x) ∙ sym e ∙ h
 
 pub finite_of : (x : Float) → is_finite x ≡ true → T (finite x)
 unfolding is_finite
