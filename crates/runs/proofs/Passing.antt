@@ -53,6 +53,14 @@ module _ (f : Float → Float) where
   each_last (x ∷ xs) zero h d = refl
   each_last (x ∷ xs) (suc i) h d = ap (λ (l : List Float). f x ∷ l) (each_last xs i (le_of_suc-le-suc h) d)
 
+  -- a list that has f of each number in its place is that
+  pub each_told : (xs ys : List Float) → length ys ≡ length xs → ((k : ℕ) → k < length xs → get_or ys k nan ≡ f (get_or xs k nan)) → ys ≡ each f xs
+  unfolding each
+  each_told [] [] e h = refl
+  each_told [] (y ∷ ys) e h = absurd (omega arith)
+  each_told (x ∷ xs) [] e h = absurd (omega arith)
+  each_told (x ∷ xs) (y ∷ ys) e h = λ j. h 0 (omega arith) j ∷ each_told xs ys (omega (arith, e)) (λ k m. h (suc k) (omega arith)) j
+
   pub each-run : (g : Float → Float) (dt : Float) (n : ℕ) (t : Float) → each f (run g dt n t) ≡ run (λ u. f (g u)) dt n t
   unfolding each run
   each-run g dt zero t = refl
