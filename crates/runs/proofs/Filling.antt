@@ -121,3 +121,16 @@ module _ (s : Float → Float) (dt : Float) where
         let first : Filled o (set o 0 v) 1 (add binary64 time dt) = one_more (none_filled o) some v e in
         let long = filled-length first in
         all-filled (rest_filled first p q) (omega (arith, long))
+
+    -- a turn of k places more
+    pub turn_filled : {o₀ o : List Float} {i : ℕ} {t : Float} → Filled o₀ o i t → (k m j : ℕ) → m ≡ k → j ≡ i + k → i + k ≤ length o₀ → (p : List Float) → p ≡ run s dt k t → (u : Float) → u ≡ after dt k t
+        → Filled o₀ (put_mid i m o p) j u
+    turn_filled {o₀} {o} {i} {t} f k m j e q h p r u n = rw (e, q, n) (some_more f k h p r)
+
+    -- and what is left behind the turns
+    pub left_filled : {o₀ o : List Float} {i : ℕ} {t : Float} → Filled o₀ o i t → (j : ℕ) → j ≡ i → (p : List Float) → p ≡ run s dt (length (mid_of j (length o - j) o)) t
+        → put_mid j (length o - j) o p ≡ run s dt (length o₀) time
+    left_filled {o₀} {o} {i} {t} f j q p r =
+        let g : Filled o₀ o j t = rw q f in
+        let long = filled-length f in
+        all-filled (rest_filled g p r) (omega (arith, long, g.within))

@@ -3,7 +3,6 @@ pub mod Ascent
 pub mod Begun
 pub mod Climb
 pub mod Eaching
-pub mod Factors
 pub mod Telling
 pub mod Placing
 pub mod Lifting

@@ -16,7 +16,7 @@ ghost use Rattle.decays.specs.Cell.{Lifts, Middle};
 ghost use Rattle.decays.specs.Told.{Steps, shown, Shows};
 ghost use Rattle.runs.specs.After.{after};
 ghost use Rattle.runs.specs.Each.{Each, Maps};
-ghost use Rattle.runs.specs.Passes.{each, timed, phase_sum, Every, begun, held_at};
+ghost use Rattle.runs.specs.Passes.{each, phase_sum};
 ghost use Rattle.runs.specs.Placed.{Placed, Listed, Left, Factor, InLifts, InGrown, Grows, Celled, Ordered, OneCell, Grew};
 ghost use Rattle.runs.specs.Rising.{Plain, Steady, Started, Rises, Spans, Between, Climbs, position_of, at_position};
 
@@ -228,12 +228,11 @@ fn linear_once(
     ensures { out.new ≡ run (linear_at start_time duration c a) dt (length out.old) time }
 {
     let steady = is_steady_for(out.len(), start_time, duration, dt);
-    let mut i = 0usize;
     let mut t = time;
-    while out.len() - i >= 16 {
-        let e = i + 16;
+    for turn in 0..out.len() / 16 {
+        let i = turn * 16;
         t = linear_sixteen(
-            &mut out[i..e],
+            &mut out[i..i + 16],
             steady,
             start_time,
             duration,
@@ -243,9 +242,9 @@ fn linear_once(
             t,
             dt,
         );
-        i = e;
     }
-    linear_rest(&mut out[i..], start_time, duration, c, a, bx, t, dt);
+    let left = out.len() / 16 * 16;
+    linear_rest(&mut out[left..], start_time, duration, c, a, bx, t, dt);
 }
 
 pub fn compute_linear_ramp_samples(
@@ -609,16 +608,16 @@ fn exponential_parts(
     requires { T (finite from) }
     ensures { out.new ≡ run (exponential_over start duration «from» l) dt (length out.old) time }
 {
-    let mut i = 0usize;
+    let before = out.len().saturating_sub(1) / 128;
     let mut t = time;
-    while out.len() - i > 128 {
-        let e = i + 128;
+    for part in 0..before {
+        let i = part * 128;
         let next = part_later(t, dt);
-        exponential_finite(&mut out[i..e], start, duration, from, l, t, dt);
+        exponential_finite(&mut out[i..i + 128], start, duration, from, l, t, dt);
         t = next;
-        i = e;
     }
-    exponential_finite(&mut out[i..], start, duration, from, l, t, dt);
+    let last = before * 128;
+    exponential_finite(&mut out[last..], start, duration, from, l, t, dt);
 }
 
 pub fn compute_exponential_ramp_samples(
@@ -945,16 +944,36 @@ fn target_parts(
     requires { T (fits binary32 a) × T (fits binary32 c) × T (finite a) × T (finite c) }
     ensures { (out.new ≡ run (from_start start intrinsic (target_at start constant c a)) dt (length out.old) time) × (result ≡ from_start start intrinsic (target_at start constant c a) end) }
 {
-    let mut i = 0usize;
+    let before = out.len().saturating_sub(1) / 128;
     let mut t = time;
-    while out.len() - i > 128 {
-        let e = i + 128;
+    for part in 0..before {
+        let i = part * 128;
         let next = part_later(t, dt);
-        target_finite(&mut out[i..e], start, constant, c, a, intrinsic, t, dt, end);
+        target_finite(
+            &mut out[i..i + 128],
+            start,
+            constant,
+            c,
+            a,
+            intrinsic,
+            t,
+            dt,
+            end,
+        );
         t = next;
-        i = e;
     }
-    target_finite(&mut out[i..], start, constant, c, a, intrinsic, t, dt, end)
+    let last = before * 128;
+    target_finite(
+        &mut out[last..],
+        start,
+        constant,
+        c,
+        a,
+        intrinsic,
+        t,
+        dt,
+        end,
+    )
 }
 
 // A target's run, and its value at `end`: the table is at hand for both.
@@ -1053,20 +1072,15 @@ fn sums_seen(out: &mut [f32], xs: &[f64; 16], c: f64, a: f64) -> bool
     requires out_len { (length out.old ≡ 16) × (length xs.now ≡ 16) × ((i : ℕ) → i < 16 → Within (898 * 2 ^ 52) (slice_index_or xs.now i nan)) }
     ensures { result ≡ true → out.new ≡ each (phase_sum c a) xs.now }
 {
-    let mut i = 0usize;
-    let mut seen = 0usize;
-    while i < 16 {
-        let n = phases::phase_sum_seen(a, xs[i], c);
-        out[i] = f64::from_bits(n) as f32;
-        if n != 0 {
-            seen += 1;
+    let mut seen = true;
+    for (i, x) in xs.iter().enumerate() {
+        let n = phases::phase_sum_seen(a, *x, c);
+        if n == 0 {
+            seen = false;
         }
-        i += 1;
+        out[i] = f64::from_bits(n) as f32;
     }
-    if seen == 16 {
-        return true;
-    }
-    false
+    seen
 }
 
 // The same with nothing to test, where all sums are exact.
@@ -1177,12 +1191,11 @@ fn curve_turns(
     requires { (2 ≤ length values.now) × (length values.now ≤ store_length) }
     ensures { out.new ≡ run (from_start start_time intrinsic (curve_sample values.now start_time duration)) dt (length out.old) time }
 {
-    let mut i = 0usize;
     let mut t = time;
-    while out.len() - i >= 16 {
-        let e = i + 16;
+    for turn in 0..out.len() / 16 {
+        let i = turn * 16;
         t = curve_sixteen(
-            &mut out[i..e],
+            &mut out[i..i + 16],
             start_time,
             duration,
             values,
@@ -1190,10 +1203,10 @@ fn curve_turns(
             t,
             dt,
         );
-        i = e;
     }
+    let left = out.len() / 16 * 16;
     curve_run(
-        &mut out[i..],
+        &mut out[left..],
         start_time,
         duration,
         values,
