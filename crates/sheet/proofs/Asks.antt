@@ -2,6 +2,7 @@
 use Rattle.std.proofs.Common.{Ok}
 use mathlib.Core.Path.{◌≡◌, refl, sym, ap, ap₂, ◌∙◌}
 use mathlib.Core.List.{List, [], ◌∷◌}
+use Rattle.std.specs.Prelude.{Option, None, Some}
 use lib.Ieee.{Float}
 use Rattle.rules.specs.Block.{Param, made, Called, Command, called, step, linear, exponential, curve, cancel, hold}
 use Rattle.laws.proofs.Answers.{unlent}
@@ -19,8 +20,8 @@ use Rattle.sheet.specs.Played.{applied, set_up, Applies, SetsUp}
 abbrev with_store : List Float → Called → Called
 with_store s x = record { verdict = x.verdict; param = x.param; store = s }
 
-module _ {p : AudioParam} {s : List Float} {c : Call} where
-  pub asks_nothing : SoundParam p → c ≡ Call.Nothing → Applies p s c (record { verdict = (Ok tt); param = p }) s
+module _ {p : AudioParam} {s : List Float} {c : Option Call} where
+  pub asks_nothing : SoundParam p → c ≡ None → Applies p s c (record { verdict = (Ok tt); param = p }) s
   unfolding applied
   asks_nothing sound h = rw h (record { verdict = refl; param = whole p sound; left = refl; sound = sound })
 
@@ -44,35 +45,35 @@ module _ {p : AudioParam} {s : List Float} {c : Call} where
         }
 
   module _ {v t : Float} {r : Outcome} where
-    pub asks_step : c ≡ Call.Step v t → Answers p [] (step v t) r [] → Applies p s c r s
+    pub asks_step : c ≡ Some (Call.Step v t) → Answers p [] (step v t) r [] → Applies p s c r s
     unfolding applied called
     asks_step h a = scheduled (rw h (unlent _ (param_of p) s _)) a
 
-    pub asks_linear : c ≡ Call.Linear v t → Answers p [] (linear v t) r [] → Applies p s c r s
+    pub asks_linear : c ≡ Some (Call.Linear v t) → Answers p [] (linear v t) r [] → Applies p s c r s
     unfolding applied called
     asks_linear h a = scheduled (rw h (unlent _ (param_of p) s _)) a
 
-    pub asks_exponential : c ≡ Call.Exponential v t → Answers p [] (exponential v t) r [] → Applies p s c r s
+    pub asks_exponential : c ≡ Some (Call.Exponential v t) → Answers p [] (exponential v t) r [] → Applies p s c r s
     unfolding applied called
     asks_exponential h a = scheduled (rw h (unlent _ (param_of p) s _)) a
 
   module _ {t : Float} {r : Outcome} {after : List Float} where
-    pub asks_curve : {x y z d : Float} → c ≡ Call.Curve x y z t d → Answers p s (curve t d (x ∷ y ∷ z ∷ [])) r after → Applies p s c r after
+    pub asks_curve : {x y z d : Float} → c ≡ Some (Call.Curve x y z t d) → Answers p s (curve t d (x ∷ y ∷ z ∷ [])) r after → Applies p s c r after
     unfolding applied
     asks_curve h a = lent (rw h refl) a
 
-    pub asks_hold : c ≡ Call.Hold t → Answers p s (hold t) r after → Applies p s c r after
+    pub asks_hold : c ≡ Some (Call.Hold t) → Answers p s (hold t) r after → Applies p s c r after
     unfolding applied
     asks_hold h a = lent (rw h refl) a
 
-    pub asks_cancel : c ≡ Call.Cancel t → Answers p s (cancel t) r after → Applies p s c r after
+    pub asks_cancel : c ≡ Some (Call.Cancel t) → Answers p s (cancel t) r after → Applies p s c r after
     unfolding applied
     asks_cancel h a = lent (rw h refl) a
 
 -- ---- a row's calls
 
 -- a call behind others, by what these leave
-pub after-calls : {p : AudioParam} {q : Param} {s t after : List Float} {c : Call} {r : Outcome} → Applies p s c r after → param_of p ≡ q → s ≡ t
+pub after-calls : {p : AudioParam} {q : Param} {s t after : List Float} {c : Option Call} {r : Outcome} → Applies p s c r after → param_of p ≡ q → s ≡ t
     → (param_of r.param ≡ (applied q t c).param) × (after ≡ (applied q t c).store)
 after-calls {c = c} a here there =
     (ap param_of a.param ∙ struct_back _ ∙ ap₂ (λ (x : Param) (y : List Float). (applied x y c).param) here there, a.left ∙ ap₂ (λ (x : Param) (y : List Float). (applied x y c).store) here there)

@@ -2,6 +2,7 @@
 use mathlib.Core.Path.{◌≡◌, refl}
 use mathlib.Core.Bool.{cond}
 use mathlib.Core.List.{List, [], ◌∷◌, ◌++◌, map}
+use Rattle.std.specs.Prelude.{Option, None, Some}
 use Prim.Native.Nat.{ℕ, zero, suc}
 use Rattle.rules.specs.Block.{step, linear, exponential, curve, cancel, hold}
 use Rattle.rules.proofs.Table.{Act, make, ask, play, intrinsic, Case, n0, n4}
@@ -11,14 +12,14 @@ use Rattle.sheet.specs.declared.Row.{Row}
 use Rattle.sheet.specs.Rows.{row_of}
 use Rattle.sheet.specs.Played.{input_of}
 
-unfoldable pub asking : Call → List Act
-asking Call.Nothing = []
-asking (Call.Step v t) = ask (step v t) ∷ []
-asking (Call.Linear v t) = ask (linear v t) ∷ []
-asking (Call.Exponential v t) = ask (exponential v t) ∷ []
-asking (Call.Curve a b c t d) = ask (curve t d (a ∷ b ∷ c ∷ [])) ∷ []
-asking (Call.Hold t) = ask (hold t) ∷ []
-asking (Call.Cancel t) = ask (cancel t) ∷ []
+unfoldable pub asking : Option Call → List Act
+asking None = []
+asking (Some (Call.Step v t)) = ask (step v t) ∷ []
+asking (Some (Call.Linear v t)) = ask (linear v t) ∷ []
+asking (Some (Call.Exponential v t)) = ask (exponential v t) ∷ []
+asking (Some (Call.Curve a b c t d)) = ask (curve t d (a ∷ b ∷ c ∷ [])) ∷ []
+asking (Some (Call.Hold t)) = ask (hold t) ∷ []
+asking (Some (Call.Cancel t)) = ask (cancel t) ∷ []
 
 -- a second block at time 4
 unfoldable pub second : ℕ → List Act

@@ -1,5 +1,5 @@
 -- A row, played: what its calls do to the parameter and the store, by document 01's rules.
-use Rattle.std.specs.Prelude.{◌≡◌, Bool, true, false, List, [], ◌∷◌, pos, Float, Ok}
+use Rattle.std.specs.Prelude.{◌≡◌, Bool, true, false, ℕ, List, [], ◌∷◌, replicate, pos, Float, Option, None, Some, Ok}
 use Rattle.std.specs.Float.{nan, fin}
 use Rattle.rules.specs.Block.{Param, Answer, made, answered, Called, called, step, linear, exponential, curve, cancel, hold}
 use Rattle.param.specs.declared.AudioParam.{AudioParam}
@@ -16,20 +16,24 @@ use Rattle.sheet.specs.Rows.{n0, n4}
 abbrev pub n1 : Float
 n1 = fin false 1 (pos 0)
 
+-- a buffer of n zeros
+abbrev pub zeros : ℕ → List Float
+zeros n = replicate n n0
+
 -- "input NaN 0", or silence
 unfoldable pub input_of : Bool → List Float
 input_of true = nan ∷ fin false 0 (pos 0) ∷ []
 input_of false = []
 
 -- what a call of a row gives back
-unfoldable pub applied : Param → List Float → Call → Called
-applied p s Call.Nothing = record { verdict = Ok tt; param = p; store = s }
-applied p s (Call.Step v t) = called p s (step v t)
-applied p s (Call.Linear v t) = called p s (linear v t)
-applied p s (Call.Exponential v t) = called p s (exponential v t)
-applied p s (Call.Curve a b c t d) = called p s (curve t d (a ∷ b ∷ c ∷ []))
-applied p s (Call.Hold t) = called p s (hold t)
-applied p s (Call.Cancel t) = called p s (cancel t)
+unfoldable pub applied : Param → List Float → Option Call → Called
+applied p s None = record { verdict = Ok tt; param = p; store = s }
+applied p s (Some (Call.Step v t)) = called p s (step v t)
+applied p s (Some (Call.Linear v t)) = called p s (linear v t)
+applied p s (Some (Call.Exponential v t)) = called p s (exponential v t)
+applied p s (Some (Call.Curve a b c t d)) = called p s (curve t d (a ∷ b ∷ c ∷ []))
+applied p s (Some (Call.Hold t)) = called p s (hold t)
+applied p s (Some (Call.Cancel t)) = called p s (cancel t)
 
 -- the parameter of a row after the calls before its first block, and the store
 unfoldable pub set_up : Row → List Float → Called
@@ -53,7 +57,7 @@ second_block row s output later =
 
 -- ---- what the code ensures
 
-pub record Applies (p : AudioParam) (s : List Float) (c : Call) (r : Outcome) (after : List Float) : Type 0 where
+pub record Applies (p : AudioParam) (s : List Float) (c : Option Call) (r : Outcome) (after : List Float) : Type 0 where
   pub verdict : r.verdict ≡ (applied (param_of p) s c).verdict
   pub param : r.param ≡ struct_of (applied (param_of p) s c).param
   pub left : after ≡ (applied (param_of p) s c).store

@@ -1,5 +1,5 @@
 -- Document 01's bench sheet: the set-up of each row, B2 to B12.
-use Rattle.std.specs.Prelude.{Bool, true, false, cond, ℕ, eqb, pos, negsuc, Float}
+use Rattle.std.specs.Prelude.{Bool, true, false, cond, ℕ, eqb, pos, negsuc, Float, Option, None, Some}
 use Rattle.std.specs.Float.{fin}
 use Rattle.rules.specs.declared.Bounds.{Bounds}
 use Rattle.rules.specs.declared.AutomationRate.TheVariants as Rate
@@ -36,7 +36,7 @@ abbrev within : Float → Bounds
 within max = record { min = fin true 5 (pos 1); default = n0; max = max }
 
 -- one block, with silence
-abbrev pub once : Float → Call → Call → Call → ℕ → Bool → Row
+abbrev pub once : Float → Option Call → Option Call → Option Call → ℕ → Bool → Row
 once max c d e count shows =
     record {
       bounds = within max;
@@ -47,41 +47,41 @@ once max c d e count shows =
       count = count;
       noisy = false;
       shows = shows;
-      between = Call.Nothing;
+      between = None;
       again = 0;
     }
 
 -- "step 5 at 2"
 abbrev pub b2 : Row
-b2 = once n10 (Call.Step n5 n2) Call.Nothing Call.Nothing 4 false
+b2 = once n10 (Some (Call.Step n5 n2)) None None 4 false
 
 -- "step 5 at 2.5"
 abbrev pub b3 : Row
-b3 = once n10 (Call.Step n5 (fin false 5 (negsuc 0))) Call.Nothing Call.Nothing 4 false
+b3 = once n10 (Some (Call.Step n5 (fin false 5 (negsuc 0)))) None None 4 false
 
 -- "step 5 at 4", "intrinsic 5"
 abbrev pub b4 : Row
-b4 = once n10 (Call.Step n5 n4) Call.Nothing Call.Nothing 4 true
+b4 = once n10 (Some (Call.Step n5 n4)) None None 4 true
 
 -- "step 0 at 0, linear 8 at 8"
 abbrev pub b5 : Row
-b5 = once n10 (Call.Step n0 n0) (Call.Linear n8 n8) Call.Nothing 10 false
+b5 = once n10 (Some (Call.Step n0 n0)) (Some (Call.Linear n8 n8)) None 10 false
 
 -- "B5 with hold at 2"
 abbrev pub b6 : Row
-b6 = once n10 b5.first b5.second (Call.Hold n2) 4 false
+b6 = once n10 b5.first b5.second (Some (Call.Hold n2)) 4 false
 
 -- "curve 0 4 0 from 0 for 4"
 abbrev pub b7 : Row
-b7 = once n10 (Call.Curve n0 n4 n0 n0 n4) Call.Nothing Call.Nothing 6 false
+b7 = once n10 (Some (Call.Curve n0 n4 n0 n0 n4)) None None 6 false
 
 -- "step 0 at 0, exponential 5 at 3"
 abbrev pub b8 : Row
-b8 = once n10 (Call.Step n0 n0) (Call.Exponential n5 n3) Call.Nothing 5 false
+b8 = once n10 (Some (Call.Step n0 n0)) (Some (Call.Exponential n5 n3)) None 5 false
 
 -- "range −10..3, step 5 at 2"
 abbrev pub b9 : Row
-b9 = once n3 (Call.Step n5 n2) Call.Nothing Call.Nothing 4 false
+b9 = once n3 (Some (Call.Step n5 n2)) None None 4 false
 
 -- "K-rate, step 5 at 0, 4 and 4"
 abbrev pub b10 : Row
@@ -89,13 +89,13 @@ b10 =
     record {
       bounds = within n10;
       rate = Rate.K;
-      first = Call.Step n5 n0;
-      second = Call.Nothing;
-      third = Call.Nothing;
+      first = Some (Call.Step n5 n0);
+      second = None;
+      third = None;
       count = 4;
       noisy = false;
       shows = false;
-      between = Call.Nothing;
+      between = None;
       again = 4;
     }
 
@@ -105,13 +105,13 @@ b11 =
     record {
       bounds = record { min = fin true 1 (pos 0); default = fin false 1 (negsuc 0); max = fin false 1 (pos 0) };
       rate = Rate.A;
-      first = Call.Nothing;
-      second = Call.Nothing;
-      third = Call.Nothing;
+      first = None;
+      second = None;
+      third = None;
       count = 2;
       noisy = true;
       shows = false;
-      between = Call.Nothing;
+      between = None;
       again = 0;
     }
 
@@ -123,11 +123,11 @@ b12 =
       rate = Rate.A;
       first = b5.first;
       second = b5.second;
-      third = Call.Nothing;
+      third = None;
       count = 4;
       noisy = false;
       shows = false;
-      between = Call.Cancel n5;
+      between = Some (Call.Cancel n5);
       again = 4;
     }
 

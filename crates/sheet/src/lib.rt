@@ -5,8 +5,9 @@ ghost use Rattle.std.specs.Prelude.{◌≡◌};
 ghost use Rattle.block.specs.Asked.{asked};
 ghost use Rattle.param.specs.Param.{SoundParam};
 ghost use Rattle.param.specs.Processed.{Processes};
-ghost use Rattle.sheet.specs.Rows.{once, b2, b3, b4, b5, b6, b7, b8, b9, b10, b11, b12, row_of};
-ghost use Rattle.sheet.specs.Played.{n1, input_of, Applies, SetsUp, PlaysRow};
+ghost use Rattle.sheet.specs.declared.Call.{Call};
+ghost use Rattle.sheet.specs.Rows.{n0, once, b2, b3, b4, b5, b6, b7, b8, b9, b10, b11, b12, row_of};
+ghost use Rattle.sheet.specs.Played.{n1, zeros, input_of, Applies, SetsUp, PlaysRow};
 
 use param::{AudioParam, Outcome, Processed};
 use rules::{AutomationRate, Bounds};
@@ -15,7 +16,6 @@ use tick::process_by_tick;
 // What a row asks for before a block.
 #[derive(Clone, Copy)]
 pub enum Call {
-    Nothing,
     Step {
         value: f32,
         time: f64,
@@ -48,30 +48,36 @@ pub enum Call {
 pub struct Row {
     pub bounds: Bounds,
     pub rate: AutomationRate,
-    pub first: Call,
-    pub second: Call,
-    pub third: Call,
+    pub first: Option<Call>,
+    pub second: Option<Call>,
+    pub third: Option<Call>,
     pub count: usize,
     // the block's input is NaN 0; else silence
     pub noisy: bool,
     // the sheet gives the intrinsic value, too
     pub shows: bool,
     // a call, and a second block of so many samples at time 4; 0 where there is none
-    pub between: Call,
+    pub between: Option<Call>,
     pub again: usize,
 }
 
 // A row of one block, at A-rate and with silence: "range −10..10, default 0 unless said", here −10..max.
-fn once(max: f32, first: Call, second: Call, third: Call, count: usize, shows: bool) -> Row
+fn once(
+    max: f32,
+    first: Option<Call>,
+    second: Option<Call>,
+    third: Option<Call>,
+    count: usize,
+    shows: bool,
+) -> Row
     ensures { result ≡ once max first second third count shows }
 {
-    let bounds = Bounds {
-        min: -10.0,
-        default: 0.0,
-        max,
-    };
     Row {
-        bounds,
+        bounds: Bounds {
+            min: -10.0,
+            default: 0.0,
+            max,
+        },
         rate: AutomationRate::A,
         first,
         second,
@@ -79,72 +85,59 @@ fn once(max: f32, first: Call, second: Call, third: Call, count: usize, shows: b
         count,
         noisy: false,
         shows,
-        between: Call::Nothing,
+        between: None,
         again: 0,
     }
+}
+
+fn step(value: f32, time: f64) -> Option<Call>
+    ensures { result ≡ Some (Call.Step value time) }
+{
+    Some(Call::Step { value, time })
 }
 
 // step 5 at 2
 fn b2() -> Row
     ensures { result ≡ b2 }
 {
-    let step = Call::Step {
-        value: 5.0,
-        time: 2.0,
-    };
-    once(10.0, step, Call::Nothing, Call::Nothing, 4, false)
+    once(10.0, step(5.0, 2.0), None, None, 4, false)
 }
 
 // step 5 at 2.5
 fn b3() -> Row
     ensures { result ≡ b3 }
 {
-    let step = Call::Step {
-        value: 5.0,
-        time: 2.5,
-    };
-    once(10.0, step, Call::Nothing, Call::Nothing, 4, false)
+    once(10.0, step(5.0, 2.5), None, None, 4, false)
 }
 
 // step 5 at 4
 fn b4() -> Row
     ensures { result ≡ b4 }
 {
-    let step = Call::Step {
-        value: 5.0,
-        time: 4.0,
-    };
-    once(10.0, step, Call::Nothing, Call::Nothing, 4, true)
+    once(10.0, step(5.0, 4.0), None, None, 4, true)
 }
 
 // step 0 at 0, linear 8 at 8
 fn b5() -> Row
     ensures { result ≡ b5 }
 {
-    let step = Call::Step {
-        value: 0.0,
-        time: 0.0,
-    };
     let linear = Call::Linear {
         value: 8.0,
         time: 8.0,
     };
-    once(10.0, step, linear, Call::Nothing, 10, false)
+    once(10.0, step(0.0, 0.0), Some(linear), None, 10, false)
 }
 
 // B5 with hold at 2
 fn b6() -> Row
     ensures { result ≡ b6 }
 {
-    let step = Call::Step {
-        value: 0.0,
-        time: 0.0,
-    };
-    let linear = Call::Linear {
-        value: 8.0,
-        time: 8.0,
-    };
-    once(10.0, step, linear, Call::Hold { time: 2.0 }, 4, false)
+    let hold = Call::Hold { time: 2.0 };
+    Row {
+        third: Some(hold),
+        count: 4,
+        ..b5()
+    }
 }
 
 // curve 0 4 0 from 0 for 4
@@ -158,58 +151,35 @@ fn b7() -> Row
         start: 0.0,
         duration: 4.0,
     };
-    once(10.0, curve, Call::Nothing, Call::Nothing, 6, false)
+    once(10.0, Some(curve), None, None, 6, false)
 }
 
 // step 0 at 0, exponential 5 at 3
 fn b8() -> Row
     ensures { result ≡ b8 }
 {
-    let step = Call::Step {
-        value: 0.0,
-        time: 0.0,
-    };
     let exponential = Call::Exponential {
         value: 5.0,
         time: 3.0,
     };
-    once(10.0, step, exponential, Call::Nothing, 5, false)
+    once(10.0, step(0.0, 0.0), Some(exponential), None, 5, false)
 }
 
 // range −10..3, step 5 at 2
 fn b9() -> Row
     ensures { result ≡ b9 }
 {
-    let step = Call::Step {
-        value: 5.0,
-        time: 2.0,
-    };
-    once(3.0, step, Call::Nothing, Call::Nothing, 4, false)
+    once(3.0, step(5.0, 2.0), None, None, 4, false)
 }
 
 // K-rate, step 5 at 0, two blocks
 fn b10() -> Row
     ensures { result ≡ b10 }
 {
-    let bounds = Bounds {
-        min: -10.0,
-        default: 0.0,
-        max: 10.0,
-    };
     Row {
-        bounds,
         rate: AutomationRate::K,
-        first: Call::Step {
-            value: 5.0,
-            time: 0.0,
-        },
-        second: Call::Nothing,
-        third: Call::Nothing,
-        count: 4,
-        noisy: false,
-        shows: false,
-        between: Call::Nothing,
         again: 4,
+        ..once(10.0, step(5.0, 0.0), None, None, 4, false)
     }
 }
 
@@ -224,15 +194,8 @@ fn b11() -> Row
     };
     Row {
         bounds,
-        rate: AutomationRate::A,
-        first: Call::Nothing,
-        second: Call::Nothing,
-        third: Call::Nothing,
-        count: 2,
         noisy: true,
-        shows: false,
-        between: Call::Nothing,
-        again: 0,
+        ..once(1.0, None, None, None, 2, false)
     }
 }
 
@@ -240,28 +203,12 @@ fn b11() -> Row
 fn b12() -> Row
     ensures { result ≡ b12 }
 {
-    let bounds = Bounds {
-        min: -10.0,
-        default: 0.0,
-        max: 10.0,
-    };
+    let cancel = Call::Cancel { time: 5.0 };
     Row {
-        bounds,
-        rate: AutomationRate::A,
-        first: Call::Step {
-            value: 0.0,
-            time: 0.0,
-        },
-        second: Call::Linear {
-            value: 8.0,
-            time: 8.0,
-        },
-        third: Call::Nothing,
         count: 4,
-        noisy: false,
-        shows: false,
-        between: Call::Cancel { time: 5.0 },
+        between: Some(cancel),
         again: 4,
+        ..b5()
     }
 }
 
@@ -269,41 +216,33 @@ fn b12() -> Row
 pub fn row_of(n: u64) -> Row
     ensures { result ≡ row_of n }
 {
-    if n == 2 {
-        b2()
-    } else if n == 3 {
-        b3()
-    } else if n == 4 {
-        b4()
-    } else if n == 5 {
-        b5()
-    } else if n == 6 {
-        b6()
-    } else if n == 7 {
-        b7()
-    } else if n == 8 {
-        b8()
-    } else if n == 9 {
-        b9()
-    } else if n == 10 {
-        b10()
-    } else if n == 11 {
-        b11()
-    } else {
-        b12()
+    match n {
+        2 => b2(),
+        3 => b3(),
+        4 => b4(),
+        5 => b5(),
+        6 => b6(),
+        7 => b7(),
+        8 => b8(),
+        9 => b9(),
+        10 => b10(),
+        11 => b11(),
+        _ => b12(),
     }
 }
 
 // A call of a row, made on a parameter.
-fn ask(p: AudioParam, c: Call, store: &mut [f32]) -> Outcome
+fn ask(p: AudioParam, call: Option<Call>, store: &mut [f32]) -> Outcome
     requires { SoundParam p }
-    ensures { Applies p store.old c result store.new }
+    ensures { Applies p store.old call result store.new }
 {
-    match c {
-        Call::Nothing => Outcome {
+    let Some(call) = call else {
+        return Outcome {
             verdict: Ok(()),
             param: p,
-        },
+        };
+    };
+    match call {
         Call::Step { value, time } => p.set_value_at_time(value, time),
         Call::Linear { value, time } => p.linear_ramp_to_value_at_time(value, time),
         Call::Exponential { value, time } => p.exponential_ramp_to_value_at_time(value, time),
@@ -326,66 +265,91 @@ fn ask(p: AudioParam, c: Call, store: &mut [f32]) -> Outcome
 fn set_up(row: Row, store: &mut [f32]) -> AudioParam
     ensures { SetsUp row store.old result store.new }
 {
-    let bounds = row.bounds;
-    let rate = row.rate;
-    let made = AudioParam::new(bounds, rate);
-    let p = made.param;
-    let c = row.first;
-    let r = ask(p, c, store);
-    let p = r.param;
-    let c = row.second;
-    let r = ask(p, c, store);
-    let p = r.param;
-    let c = row.third;
-    let r = ask(p, c, store);
-    r.param
+    let made = AudioParam::new(row.bounds, row.rate);
+    let one = ask(made.param, row.first, store);
+    let two = ask(one.param, row.second, store);
+    let three = ask(two.param, row.third, store);
+    three.param
 }
 
-// What renders a block: all three have one contract.
-#[derive(Clone, Copy)]
-pub enum Renderer {
-    Process,
-    Tick,
-    Plain,
+// What renders a block of period 1: all meet one contract.
+pub trait Renderer {
+    fn render(
+        &self,
+        p: AudioParam,
+        time: f64,
+        count: usize,
+        input: &[f32],
+        output: &mut [f32],
+        store: &mut [f32],
+    ) -> Processed
+        requires { SoundParam p }
+        ensures { Processes p store.old (asked «time» n1 count input.now output.old) result output.new store.new };
 }
 
-fn render(
-    by: Renderer,
-    p: AudioParam,
-    time: f64,
-    count: usize,
-    input: &[f32],
-    output: &mut [f32],
-    store: &mut [f32],
-) -> Processed
-    requires { SoundParam p }
-    ensures { Processes p store.old (asked «time» n1 count input.now output.old) result output.new store.new }
-{
-    match by {
-        Renderer::Process => p.process(time, 1.0, count, input, output, store),
-        Renderer::Tick => process_by_tick(p, time, 1.0, count, input, output, store),
-        Renderer::Plain => plain::process(p, time, 1.0, count, input, output, store),
+pub struct ByProcess;
+
+impl Renderer for ByProcess {
+    fn render(
+        &self,
+        p: AudioParam,
+        time: f64,
+        count: usize,
+        input: &[f32],
+        output: &mut [f32],
+        store: &mut [f32],
+    ) -> Processed {
+        p.process(time, 1.0, count, input, output, store)
     }
 }
 
-// A block of a row: "Period 1", the input NaN 0 or silence.
-fn block(
-    by: Renderer,
+pub struct ByTick;
+
+impl Renderer for ByTick {
+    fn render(
+        &self,
+        p: AudioParam,
+        time: f64,
+        count: usize,
+        input: &[f32],
+        output: &mut [f32],
+        store: &mut [f32],
+    ) -> Processed {
+        process_by_tick(p, time, 1.0, count, input, output, store)
+    }
+}
+
+pub struct ByPlain;
+
+impl Renderer for ByPlain {
+    fn render(
+        &self,
+        p: AudioParam,
+        time: f64,
+        count: usize,
+        input: &[f32],
+        output: &mut [f32],
+        store: &mut [f32],
+    ) -> Processed {
+        plain::process(p, time, 1.0, count, input, output, store)
+    }
+}
+
+// The first block of a row: its input is NaN 0 or silence.
+fn first_block<R: Renderer>(
+    by: &R,
     p: AudioParam,
-    time: f64,
-    count: usize,
-    noisy: bool,
+    row: Row,
     output: &mut [f32],
     store: &mut [f32],
 ) -> Processed
     requires { SoundParam p }
-    ensures { Processes p store.old (asked «time» n1 count (input_of noisy) output.old) result output.new store.new }
+    ensures { Processes p store.old (asked n0 n1 row.count (input_of row.noisy) output.old) result output.new store.new }
 {
-    let input = [0.0f32 / 0.0, 0.0];
-    if noisy {
-        render(by, p, time, count, &input, output, store)
+    if row.noisy {
+        by.render(p, 0.0, row.count, &[0.0 / 0.0, 0.0], output, store)
     } else {
-        render(by, p, time, count, &input[..0], output, store)
+        by.render(p, 0.0, row.count, &[], output, store)
     }
 }
 
@@ -397,8 +361,8 @@ pub struct Blocks {
 }
 
 // A row, played: its samples stand in `first` and `second`. Where the sheet has no second block, its count of 0 is refused.
-pub fn play(
-    by: Renderer,
+pub fn play<R: Renderer>(
+    by: &R,
     row: Row,
     first: &mut [f32],
     second: &mut [f32],
@@ -407,14 +371,36 @@ pub fn play(
     ensures { PlaysRow row store.old first.old second.old result first.new second.new store.new }
 {
     let p = set_up(row, store);
-    let before = block(by, p, 0.0, row.count, row.noisy, first, store);
-    let p = before.param;
-    let c = row.between;
-    let asked = ask(p, c, store);
-    let p = asked.param;
-    let after = block(by, p, 4.0, row.again, false, second, store);
+    let before = first_block(by, p, row, first, store);
+    let asked = ask(before.param, row.between, store);
+    let after = by.render(asked.param, 4.0, row.again, &[], second, store);
     Blocks {
         first: before,
         second: after,
+    }
+}
+
+// The same with buffers of its own: room for ten samples a block, and the store.
+#[derive(Clone, Copy)]
+pub struct Played {
+    pub blocks: Blocks,
+    pub first: [f32; 10],
+    pub second: [f32; 10],
+    pub store: [f32; AudioParam::STORE],
+}
+
+// A row, played from zeros.
+pub fn play_from_zeros<R: Renderer>(by: &R, row: Row) -> Played
+    ensures { PlaysRow row (zeros AudioParam.STORE) (zeros 10) (zeros 10) result.blocks result.first result.second result.store }
+{
+    let mut first = [0.0f32; 10];
+    let mut second = [0.0f32; 10];
+    let mut store = [0.0f32; AudioParam::STORE];
+    let blocks = play(by, row, &mut first, &mut second, &mut store);
+    Played {
+        blocks,
+        first,
+        second,
+        store,
     }
 }

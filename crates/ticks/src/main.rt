@@ -2,34 +2,18 @@
 #![tactic(auto)]
 
 use beside::{same_answer, same_values};
-use param::AudioParam;
-use sheet::{Renderer, Row};
+use sheet::{ByProcess, ByTick, Row};
 use std::io;
 use std::io::Stdout;
 
 // A row by either, each with a parameter and a store of its own.
 fn is_same(row: Row) -> bool {
-    let mut store = [0.0f32; AudioParam::STORE];
-    let mut first = [0.0f32; 10];
-    let mut second = [0.0f32; 10];
-    let mut tick_store = [0.0f32; AudioParam::STORE];
-    let mut tick_first = [0.0f32; 10];
-    let mut tick_second = [0.0f32; 10];
-    let r = sheet::play(Renderer::Process, row, &mut first, &mut second, &mut store);
-    let t = sheet::play(
-        Renderer::Tick,
-        row,
-        &mut tick_first,
-        &mut tick_second,
-        &mut tick_store,
-    );
-    let samples = same_values(&first, &tick_first) & same_values(&second, &tick_second);
-    let before = r.first;
-    let after = r.second;
-    let tick_before = t.first;
-    let tick_after = t.second;
-    let answers = same_answer(before, tick_before) & same_answer(after, tick_after);
-    samples & answers & same_values(&store, &tick_store)
+    let r = sheet::play_from_zeros(&ByProcess, row);
+    let t = sheet::play_from_zeros(&ByTick, row);
+    let samples = same_values(&r.first, &t.first) & same_values(&r.second, &t.second);
+    let answers = same_answer(r.blocks.first, t.blocks.first)
+        & same_answer(r.blocks.second, t.blocks.second);
+    samples & answers & same_values(&r.store, &t.store)
 }
 
 fn say_row(stdout: Stdout, n: u64) -> io::Result<()> {
@@ -42,10 +26,8 @@ fn say_row(stdout: Stdout, n: u64) -> io::Result<()> {
 
 fn main(rt: HostRuntime) -> io::Result<()> {
     let stdout = rt.stdout();
-    let mut n = 2u64;
-    while n <= 12 {
+    for n in 2..=12 {
         say_row(stdout, n)?;
-        n += 1;
     }
     Ok(())
 }

@@ -1,17 +1,10 @@
 // The outside vectors: each line of standard input is worked out and compared; a line that does not hold is named, then the lines are counted.
 #![tactic(auto)]
 
-ghost use Rattle.std.specs.Prelude.{◌+◌, ◌≤◌, ◌<◌, length, IfOk, MatchResult, ◌≡◌};
+ghost use Rattle.std.specs.Prelude.{◌≤◌, length, MatchResult, ◌≡◌};
 
 use std::io;
 use std::io::{Read, Stdin, Stdout};
-
-#[derive(Clone, Copy)]
-struct Tally {
-    lines: u64,
-    wrong: u64,
-    more: bool,
-}
 
 // Reads until the buffer is full or the input ends; how many bytes came.
 fn read_full(mut stdin: Stdin, buf: &mut [u8]) -> io::Result<usize>
@@ -28,57 +21,35 @@ fn read_full(mut stdin: Stdin, buf: &mut [u8]) -> io::Result<usize>
     Ok(done)
 }
 
-// One line more.
-fn turn(stdin: Stdin, stdout: Stdout, t: Tally) -> io::Result<Tally>
-    requires { (t.lines < 1000000) × (t.wrong ≤ t.lines) }
-    ensures { IfOk result (λ r. (r.lines ≤ t.lines + 1) × (r.wrong ≤ r.lines)) }
-{
+// The next line, or none where the input has ended.
+fn next_line(stdin: Stdin) -> io::Result<Option<[u8; 70]>> {
     let mut line = [0u8; 70];
     let n = read_full(stdin, &mut line)?;
-    if n == 0 {
-        return Ok(Tally {
-            lines: t.lines,
-            wrong: t.wrong,
-            more: false,
-        });
-    }
-    let at = t.lines + 1;
-    if vector_line::holds(&line) {
-        return Ok(Tally {
-            lines: at,
-            wrong: t.wrong,
-            more: true,
-        });
-    }
-    println!(stdout; "line {at} does not hold")?;
-    Ok(Tally {
-        lines: at,
-        wrong: t.wrong + 1,
-        more: true,
-    })
+    Ok(if n == 0 { None } else { Some(line) })
 }
 
-fn summary(stdout: Stdout, t: Tally) -> io::Result<()> {
-    let lines = t.lines;
-    let wrong = t.wrong;
-    println!(stdout; "{lines} lines, {wrong} do not hold")
+// Whether a line holds; where it does not, that is said by its number.
+fn check(stdout: Stdout, line: &[u8; 70], number: u64) -> io::Result<bool> {
+    let holds = vector_line::holds(line);
+    if !holds {
+        println!(stdout; "line {number} does not hold")?;
+    }
+    Ok(holds)
 }
 
 fn main(rt: HostRuntime) -> io::Result<()> {
     let stdin = rt.stdin();
     let stdout = rt.stdout();
-    let mut t = Tally {
-        lines: 0,
-        wrong: 0,
-        more: true,
-    };
-    let mut turns = 1000000u64;
-    while turns > 0 {
-        if !t.more {
+    let mut lines = 0u64;
+    let mut wrong = 0u64;
+    for passed in 0..1000000u64 {
+        let Some(line) = next_line(stdin)? else {
             break;
+        };
+        lines = passed + 1;
+        if !check(stdout, &line, lines)? {
+            wrong += 1;
         }
-        t = turn(stdin, stdout, t)?;
-        turns -= 1;
     }
-    summary(stdout, t)
+    println!(stdout; "{lines} lines, {wrong} do not hold")
 }

@@ -1,8 +1,8 @@
 -- `sheet::b10` meets its contract. Assumes nothing.
-use mathlib.Core.Path.{refl}
+use Rattle.std.proofs.Common.{refl}
 use lib.Ieee.{neg, of_bits}
 use Rattle.sheet.proofs.b10.Goals as goal
 
 pub returns : goal.returns
 unfolding neg of_bits
-returns c = refl
+returns c = rw (c.once.ensures, c.step.ensures) refl

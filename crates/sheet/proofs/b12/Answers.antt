@@ -1,8 +1,8 @@
 -- `sheet::b12` meets its contract. Assumes nothing.
-use mathlib.Core.Path.{refl}
+use Rattle.std.proofs.Common.{refl}
 use lib.Ieee.{neg, of_bits}
 use Rattle.sheet.proofs.b12.Goals as goal
 
 pub returns : goal.returns
 unfolding neg of_bits
-returns c = refl
+returns c = rw c.b5.ensures refl

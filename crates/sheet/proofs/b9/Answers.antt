@@ -1,8 +1,8 @@
 -- `sheet::b9` meets its contract. Assumes nothing.
-use lib.Ieee.{of_bits}
-use borrow.Author.Rules.{rules}
+use Rattle.std.proofs.Common.{refl}
+use lib.Ieee.{neg, of_bits}
 use Rattle.sheet.proofs.b9.Goals as goal
 
 pub returns : goal.returns
-unfolding of_bits
-returns c = search rules
+unfolding neg of_bits
+returns c = rw (c.once.ensures, c.step.ensures) refl

@@ -1,49 +1,52 @@
 -- `sheet::row_of` meets its contract. Assumes nothing.
 use mathlib.Core.Path.{refl, ◌∙◌}
+use native.Mathlib.Omega.{arith}
 use borrow.Author.Tests.{ne_eqb}
 use Rattle.sheet.specs.Rows.{row_of}
 use Rattle.sheet.proofs.row_of.Goals as goal
 
-pub returns-then-n-eq2 : goal.returns-then-n-eq2
+pub returns-in-2 : goal.returns-in-2
 unfolding row_of
-returns-then-n-eq2 c = c.b2.ensures ∙ rw c.if-n-eq2.true refl
+returns-in-2 c = c.b2.ensures ∙ rw c.in-2.is refl
 
-pub returns-then-n-eq3 : goal.returns-then-n-eq3
+pub returns-in-3 : goal.returns-in-3
 unfolding row_of
-returns-then-n-eq3 c = c.b3.ensures ∙ rw c.if-n-eq3.true refl
+returns-in-3 c = c.b3.ensures ∙ rw c.in-3.is refl
 
-pub returns-then-n-eq4 : goal.returns-then-n-eq4
+pub returns-in-4 : goal.returns-in-4
 unfolding row_of
-returns-then-n-eq4 c = c.b4.ensures ∙ rw c.if-n-eq4.true refl
+returns-in-4 c = c.b4.ensures ∙ rw c.in-4.is refl
 
-pub returns-then-n-eq5 : goal.returns-then-n-eq5
+pub returns-in-5 : goal.returns-in-5
 unfolding row_of
-returns-then-n-eq5 c = c.b5.ensures ∙ rw c.if-n-eq5.true refl
+returns-in-5 c = c.b5.ensures ∙ rw c.in-5.is refl
 
-pub returns-then-n-eq6 : goal.returns-then-n-eq6
+pub returns-in-6 : goal.returns-in-6
 unfolding row_of
-returns-then-n-eq6 c = c.b6.ensures ∙ rw c.if-n-eq6.true refl
+returns-in-6 c = c.b6.ensures ∙ rw c.in-6.is refl
 
-pub returns-then-n-eq7 : goal.returns-then-n-eq7
+pub returns-in-7 : goal.returns-in-7
 unfolding row_of
-returns-then-n-eq7 c = c.b7.ensures ∙ rw c.if-n-eq7.true refl
+returns-in-7 c = c.b7.ensures ∙ rw c.in-7.is refl
 
-pub returns-then-n-eq8 : goal.returns-then-n-eq8
+pub returns-in-8 : goal.returns-in-8
 unfolding row_of
-returns-then-n-eq8 c = c.b8.ensures ∙ rw c.if-n-eq8.true refl
+returns-in-8 c = c.b8.ensures ∙ rw c.in-8.is refl
 
-pub returns-then-n-eq9 : goal.returns-then-n-eq9
+pub returns-in-9 : goal.returns-in-9
 unfolding row_of
-returns-then-n-eq9 c = c.b9.ensures ∙ rw c.if-n-eq9.true refl
+returns-in-9 c = c.b9.ensures ∙ rw c.in-9.is refl
 
-pub returns-then-n-eq10 : goal.returns-then-n-eq10
+pub returns-in-10 : goal.returns-in-10
 unfolding row_of
-returns-then-n-eq10 c = c.b10.ensures ∙ rw c.if-n-eq10.true refl
+returns-in-10 c = c.b10.ensures ∙ rw c.in-10.is refl
 
-pub returns-then-n-eq11 : goal.returns-then-n-eq11
+pub returns-in-11 : goal.returns-in-11
 unfolding row_of
-returns-then-n-eq11 c = c.b11.ensures ∙ rw c.if-n-eq11.true refl
+returns-in-11 c = c.b11.ensures ∙ rw c.in-11.is refl
 
-pub returns-else-n-eq11 : goal.returns-else-n-eq11
+pub returns-in_default : goal.returns-in_default
 unfolding row_of
-returns-else-n-eq11 c = c.b12.ensures ∙ rw (ne_eqb _ _ c.if-n-eq11.false, ne_eqb _ _ c.if-n-eq10.false, ne_eqb _ _ c.if-n-eq9.false, ne_eqb _ _ c.if-n-eq8.false, ne_eqb _ _ c.if-n-eq7.false, ne_eqb _ _ c.if-n-eq6.false, ne_eqb _ _ c.if-n-eq5.false, ne_eqb _ _ c.if-n-eq4.false, ne_eqb _ _ c.if-n-eq3.false, ne_eqb _ _ c.if-n-eq2.false) refl
+returns-in_default c =
+    let n = c.args.n in
+    c.b12.ensures ∙ rw (ne_eqb n 11 (omega arith), ne_eqb n 10 (omega arith), ne_eqb n 9 (omega arith), ne_eqb n 8 (omega arith), ne_eqb n 7 (omega arith), ne_eqb n 6 (omega arith), ne_eqb n 5 (omega arith), ne_eqb n 4 (omega arith), ne_eqb n 3 (omega arith), ne_eqb n 2 (omega arith)) refl

@@ -4,4 +4,4 @@ use Rattle.sheet.proofs.set_up.Goals as goal
 
 pub returns : goal.returns
 returns c =
-    sets_up c.new-made.ensures c.ask-r.ensures c.ask-r-2.ensures c.ask-r-3.ensures
+    sets_up c.new-made.ensures c.ask-one.ensures c.ask-two.ensures c.ask-three.ensures
