@@ -157,6 +157,7 @@ fn sticky(d: u64, rest: bool) -> u64
 }
 
 // Twice the sum of a and b. What is cut leaves the digits odd. A difference keeps one digit more, since its leading ones can cancel.
+#[inline(always)]
 fn added(a: Parts, b: Parts) -> Parts
     requires { (a.m < 2 ^ 63) × (b.m < 2 ^ 63) × (b.j ≤ a.j) × (a.j < 4096) }
     ensures { Added a.neg a.m a.j b.neg b.m b.j result.neg result.m result.j }
@@ -189,6 +190,7 @@ fn added(a: Parts, b: Parts) -> Parts
 }
 
 // Twice the sum of a and b, over 2^64. h is how far the digits of b may be shifted to the left.
+#[inline(always)]
 fn total(a: Parts, b: Parts, h: u64) -> Parts
     requires { (0 < a.m) × (a.m < 2 ^ 63) × (b.m * 2 ^ h < 2 ^ 63) × (a.j < 2048) × (b.j < 2048) × (h < 64) }
     ensures { (result.j < 4096) × Sums a.neg a.m a.j b.neg b.m b.j h result.neg result.m result.j }
