@@ -163,7 +163,7 @@ fn start_of(infos: BlockInfos, walk: Walk) -> Finished
 fn is_ratio(ratio: f32) -> bool
     ensures { result ≡ is_ratio ratio }
 {
-    floats::is_finite32(ratio) && floats::is_positive32(ratio)
+    floats::is_finite(ratio) && floats::is_positive(ratio)
 }
 
 // Where the next event ends a target.

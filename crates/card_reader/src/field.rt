@@ -8,7 +8,7 @@ ghost use Rattle.words.specs.Words.{singles_at};
 ghost use Rattle.card.specs.Card.{tag_of, is_range, has_head, length_in, field_length, is_whole, is_tag, fits_tag, is_wrong, is_misplaced, bounds_in, event_in, time_of, is_minus_zero, has_no_constant, is_out_of_turn};
 ghost use Rattle.card_reader.specs.Reader.{FieldFits};
 
-use floats::{is_finite32, is_zero64};
+use floats::{is_finite, is_zero};
 use param::{AudioParam, Outcome};
 use refusals::sound::is_from_zero;
 use rules::{Bounds, MaybeTime};
@@ -122,7 +122,7 @@ fn is_earlier(before: MaybeTime, time: f64) -> bool
 fn is_minus_zero(time: f64) -> bool
     ensures { result ≡ is_minus_zero time }
 {
-    is_zero64(time) & !is_from_zero(time)
+    is_zero(time) & !is_from_zero(time)
 }
 
 // A target whose time constant is 0.
@@ -131,7 +131,7 @@ fn has_no_constant(bytes: &[u8]) -> bool
     ensures { result ≡ has_no_constant (event_in bytes.now) }
 {
     if bytes[0] == 4 {
-        is_zero64(double_at(bytes, 15))
+        is_zero(double_at(bytes, 15))
     } else {
         false
     }
@@ -166,7 +166,7 @@ fn worst_of(bytes: &[u8], at: usize, n: usize) -> f32
     let mut i = 0;
     while i < n {
         let x = single_at(bytes, at + 4 * i);
-        if !is_finite32(x) {
+        if !is_finite(x) {
             return x;
         }
         i += 1;

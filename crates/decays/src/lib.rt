@@ -20,7 +20,7 @@ fn decay_by(y: f64) -> f32
     }
     let p = samples::whole(y * 16777216.0);
     let d = powers::falling_by(p % 16777216);
-    rounding::norm32(false, d, 331 - p / 16777216)
+    rounding::norm(false, d, 331 - p / 16777216)
 }
 
 // What shows a target's factor after the steps of b, an `f32` of 24 digits, where its last eight digits are at most 234: else one of the last 20 places up to the estimate may hold a midpoint of two.

@@ -102,8 +102,8 @@ fn shown(x: f64) -> Printed
     if x != x {
         return Printed::NotANumber;
     }
-    if rounding::finite64(x) {
-        let p = rounding::parts64(x);
+    if floats::is_finite(x) {
+        let p = rounding::Parts::of(x);
         return shown_as(p.neg, p.m, p.j);
     }
     Printed::Infinite(x < 0.0)

@@ -7,10 +7,11 @@ use native.Mathlib.Nat.{zero-mul, mul-pos, zero-lt-suc}
 use borrow.Author.Tests.{ne_eqb, lt-ltb, le-ltb}
 use lib.Dec.{T}
 use lib.IntN.{ℤ, negsuc}
-use lib.Ieee.{Float, nan, inf, fin, binary32, binary64, up, down, neg, lt, eq, ne, fits, is_nan}
+use lib.Ieee.{Float, nan, inf, fin, binary32, binary64, up, down, lt, eq, ne, fits, is_nan}
 use lib.Ieee.Fits.{up_pos, and_i, fits_widens}
 use lib.Ieee.Scale.{finite}
 use lib.Ieee.Back.{whole_unique}
+use Rattle.std.specs.Float.{float_with_sign}
 use Rattle.rules.specs.Numbers.{plus_zero, is_finite, magnitude, is_subnormal}
 
 -- ---- finite
@@ -30,6 +31,16 @@ not_above (inf false) h = absurd (true≢false h)
 not_above (fin s m e) h = absurd (true≢false h)
 
 -- what the kit calls finite
+pub finite_is : (x : Float) → is_finite x ≡ finite x
+unfolding is_finite
+finite_is nan = refl
+finite_is (inf s) = refl
+finite_is (fin s m e) = refl
+
+-- so of a float that was tested
+pub tested : (x : Float) {r t : Bool} → r ≡ is_finite x → r ≡ t → finite x ≡ t
+tested x e h = sym (finite_is x) ∙ sym e ∙ h
+
 pub finite_of : (x : Float) → is_finite x ≡ true → T (finite x)
 unfolding is_finite
 finite_of nan h = absurd (false≢true h)
@@ -78,22 +89,12 @@ magnitude_none (fin s zero e) t h =
     whole_unique binary32 plus_zero (fin false 0 e) false 0 tt t (refl, refl) (refl, rw (zero-mul (up e), zero-mul (down e)))
 magnitude_none (fin s (suc m) e) t h = absurd (omega (arith, is_none s (suc m) e h))
 
-pub magnitude_below : (x : Float) → lt x plus_zero ≡ true → neg x ≡ magnitude x
-unfolding lt neg magnitude
-magnitude_below nan h = absurd (false≢true h)
-magnitude_below (inf true) h = refl
-magnitude_below (inf false) h = absurd (false≢true h)
-magnitude_below (fin true m e) h = refl
-magnitude_below (fin false m e) h = absurd (true≢false (sym h ∙ not_below m e))
-
-pub magnitude_above : (x : Float) → eq x plus_zero ≡ false → lt x plus_zero ≡ false → x ≡ magnitude x
-unfolding lt magnitude
-magnitude_above nan n h = refl
-magnitude_above (inf true) n h = absurd (true≢false h)
-magnitude_above (inf false) n h = refl
-magnitude_above (fin true zero e) n h = absurd (true≢false (sym (zero_is true e) ∙ n))
-magnitude_above (fin true (suc m) e) n h = absurd (true≢false (sym (below_zero m e) ∙ h))
-magnitude_above (fin false m e) n h = refl
+-- std's word for it
+pub magnitude_is : (x : Float) → float_with_sign false x ≡ magnitude x
+unfolding magnitude float_with_sign
+magnitude_is nan = refl
+magnitude_is (inf s) = refl
+magnitude_is (fin s m e) = refl
 
 -- ---- subnormal
 

@@ -1,82 +1,85 @@
 // Tests of single floats, each equal to document 01's word for it; and the times that it names.
 #![tactic(auto)]
 
-ghost use Rattle.std.specs.Prelude.{◌≡◌};
+ghost use Rattle.std.specs.Prelude.{◌≡◌, Float};
 ghost use Rattle.rules.specs.Numbers.{is_finite, is_zero, is_positive, is_negative, is_subnormal, magnitude as magnitude_of, taken_time, later_of};
 
-pub fn is_finite32(x: f32) -> bool
-    ensures { result ≡ is_finite x }
-{
-    f32::from_bits(0xff80_0000) < x && x < f32::from_bits(0x7f80_0000)
+// A float type: each of its values is one of the rules' floats.
+pub trait Real: Copy {
+    ghost number: { Self → Float };
+
+    // The same value as an `f64`, which holds every `f32`.
+    fn widened(self) -> f64
+        ensures { result ≡ number self };
 }
 
-pub fn is_finite64(x: f64) -> bool
-    ensures { result ≡ is_finite x }
-{
-    f64::from_bits(0xfff0_0000_0000_0000) < x && x < f64::from_bits(0x7ff0_0000_0000_0000)
+impl Real for f32 {
+    ghost number = { λ x. x };
+
+    #[inline(always)]
+    fn widened(self) -> f64 {
+        std::num::f32_to_f64_with_nan(self)
+    }
 }
 
-pub fn is_zero32(x: f32) -> bool
-    ensures { result ≡ is_zero x }
-{
-    x == 0.0
+impl Real for f64 {
+    ghost number = { λ x. x };
+
+    #[inline(always)]
+    fn widened(self) -> f64 {
+        self
+    }
 }
 
-pub fn is_zero64(x: f64) -> bool
-    ensures { result ≡ is_zero x }
+pub fn is_finite<F: Real>(x: F) -> bool
+    ensures { result ≡ is_finite (F.number x) }
 {
-    x == 0.0
+    let y = x.widened();
+    f64::NEG_INFINITY < y && y < f64::INFINITY
 }
 
-pub fn is_positive32(x: f32) -> bool
-    ensures { result ≡ is_positive x }
+#[tactic(auto, unfolding(rules::specs::Numbers::is_zero))]
+pub fn is_zero<F: Real>(x: F) -> bool
+    ensures { result ≡ is_zero (F.number x) }
 {
-    0.0 < x
+    x.widened() == 0.0
 }
 
-pub fn is_positive64(x: f64) -> bool
-    ensures { result ≡ is_positive x }
+#[tactic(auto, unfolding(rules::specs::Numbers::is_positive))]
+pub fn is_positive<F: Real>(x: F) -> bool
+    ensures { result ≡ is_positive (F.number x) }
 {
-    0.0 < x
+    0.0 < x.widened()
 }
 
-pub fn is_negative32(x: f32) -> bool
-    ensures { result ≡ is_negative x }
+#[tactic(auto, unfolding(rules::specs::Numbers::is_negative))]
+pub fn is_negative<F: Real>(x: F) -> bool
+    ensures { result ≡ is_negative (F.number x) }
 {
-    x < 0.0
-}
-
-pub fn is_negative64(x: f64) -> bool
-    ensures { result ≡ is_negative x }
-{
-    x < 0.0
+    x.widened() < 0.0
 }
 
 pub fn magnitude(x: f32) -> f32
     ensures { result ≡ magnitude_of x }
 {
-    if x == 0.0 {
-        0.0
-    } else if x < 0.0 {
-        -x
-    } else {
-        x
-    }
+    x.abs()
 }
 
 // Below the smallest normal number, 2^-126, and not 0.
 pub fn is_subnormal(x: f32) -> bool
     ensures { result ≡ is_subnormal x }
 {
-    x != 0.0 && magnitude(x) < f32::from_bits(0x0080_0000)
+    x != 0.0 && magnitude(x) < f32::MIN_POSITIVE
 }
 
+#[tactic(auto, unfolding(rules::specs::Numbers::taken_time))]
 pub fn taken_time(t: f64) -> f64
     ensures { result ≡ taken_time t }
 {
-    if t == 0.0 { 0.0 } else { t }
+    if is_zero(t) { 0.0 } else { t }
 }
 
+#[tactic(auto, unfolding(rules::specs::Numbers::later_of))]
 pub fn later_of(s: f64, t: f64) -> f64
     ensures { result ≡ later_of s t }
 {

@@ -18,12 +18,10 @@ pub fn falling_from(first: usize, a: u64, x: u64) -> u64
 {
     let table = TABLE;
     let mut r = x;
-    let mut j = first;
-    while j < 24 {
+    for j in first..24 {
         if (a >> (23 - j)) % 2 == 1 {
             r = r * table[j] / 4294967296;
         }
-        j += 1;
     }
     r
 }
@@ -42,9 +40,7 @@ pub fn log(m: u64) -> u64
 {
     let mut x = m;
     let mut a: u64 = 0;
-    let mut left: u64 = 24;
-    while left > 0 {
-        left -= 1;
+    for _found in 0..24usize {
         let square = x * x / 2147483648;
         if square >= 4294967296 {
             x = square / 2;

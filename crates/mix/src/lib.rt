@@ -27,27 +27,21 @@ pub fn mixed_value(bounds: Bounds, input: f32, value: f32) -> f32
 }
 
 // One sample at the first `count` places.
+#[tactic(auto, unfolding(crate::specs::Mixed::over))]
 pub fn put_sample(output: &mut [f32], count: usize, sample: f32)
     requires { count ≤ length output.old }
     ensures { output.new ≡ over (replicate count sample) output.old }
 {
-    let mut i = 0usize;
-    while i < count {
-        output[i] = sample;
-        i += 1;
-    }
+    output[..count].fill(sample);
 }
 
 // These values at the first places.
+#[tactic(auto, unfolding(crate::specs::Mixed::over))]
 pub fn put_values(output: &mut [f32], values: &[f32])
     requires { length values.now ≤ length output.old }
     ensures { output.new ≡ over values.now output.old }
 {
-    let mut i = 0usize;
-    while i < values.len() {
-        output[i] = values[i];
-        i += 1;
-    }
+    output[..values.len()].copy_from_slice(values);
 }
 
 // Whether a sum with 0.0 leaves x as it is: not where x is -0.
@@ -101,14 +95,12 @@ fn mix_silence_direct(bounds: Bounds, values: &[f32], output: &mut [f32]) -> boo
     ensures { Tried (mixed_all bounds (replicate (length values.now) plus_zero) values.now) (length values.now) output.old result output.new }
 {
     let mut told = true;
-    let mut i = 0usize;
-    while i < values.len() {
+    for i in 0..values.len() {
         let value = values[i];
         if value != value {
             told = false;
         }
         output[i] = silent_value(bounds, value);
-        i += 1;
     }
     told
 }
@@ -129,10 +121,8 @@ fn mix_silence_any(bounds: Bounds, values: &[f32], output: &mut [f32])
     requires { length values.now ≤ length output.old }
     ensures { output.new ≡ over (mixed_all bounds (replicate (length values.now) plus_zero) values.now) output.old }
 {
-    let mut i = 0usize;
-    while i < values.len() {
+    for i in 0..values.len() {
         output[i] = mixed_value(bounds, 0.0, values[i]);
-        i += 1;
     }
 }
 
@@ -152,10 +142,8 @@ pub fn mix_input(bounds: Bounds, input: &[f32], values: &[f32], output: &mut [f3
     requires { (length input.now ≡ length values.now) × (length values.now ≤ length output.old) }
     ensures { output.new ≡ over (mixed_all bounds input.now values.now) output.old }
 {
-    let mut i = 0usize;
-    while i < values.len() {
+    for i in 0..values.len() {
         output[i] = mixed_value(bounds, input[i], values[i]);
-        i += 1;
     }
 }
 
@@ -164,9 +152,7 @@ pub fn mix_one(bounds: Bounds, input: &[f32], value: f32, output: &mut [f32])
     requires { length input.now ≤ length output.old }
     ensures { output.new ≡ over (mixed_all bounds input.now (replicate (length input.now) value)) output.old }
 {
-    let mut i = 0usize;
-    while i < input.len() {
+    for i in 0..input.len() {
         output[i] = mixed_value(bounds, input[i], value);
-        i += 1;
     }
 }

@@ -9,7 +9,7 @@ ghost use Rattle.rules.specs.Block.{fresh, edition_of, scheduled_as, set, step, 
 ghost use Rattle.timeline.specs.Timeline.{made, first_of};
 ghost use Rattle.param.specs.Param.{param_of, struct_of, outcome_of, SoundParam, HasRoom, unmade_by, answered_with, Makes, Answers, parts_of, Restores};
 
-use floats::{is_zero64, taken_time};
+use floats::{is_zero, taken_time};
 use refusals::sound::{are_block_times, has_played, is_last_clear};
 use rules::{AutomationRate, Bounds, Edition, Event, Head, LastEvent, MaybeTime, Refusal, Verdict};
 use timeline::{AudioParamEventTimeline, curve_end, filed_under, goes_at, is_ramp};
@@ -73,7 +73,7 @@ pub fn ceiling_of(edition: Edition) -> usize
 fn target_event(value: f32, time: f64, constant: f64) -> Event
     ensures { result ≡ target_event value time constant }
 {
-    if is_zero64(constant) {
+    if is_zero(constant) {
         Event::Step { value, time }
     } else {
         Event::Target {

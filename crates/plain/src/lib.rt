@@ -215,7 +215,7 @@ fn take_head(look: Look, event: Event, numbers: &[f32], next: Head) -> Turn
         Event::Exponential { value, time, hold } => {
             let from = start_of(look);
             let ratio = value / from.value;
-            if floats::is_finite32(ratio) & floats::is_positive32(ratio) {
+            if floats::is_finite(ratio) & floats::is_positive(ratio) {
                 return span(started(look), event, numbers, time, value, hold);
             }
             // the walk's next head

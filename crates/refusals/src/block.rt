@@ -4,19 +4,19 @@ ghost use Rattle.rules.specs.Numbers.{store_length};
 ghost use Rattle.rules.specs.Refusals.{lowest, is_time, is_period, is_count, is_block, is_earlier, block_rows};
 
 use crate::row;
-use floats::{is_finite64, is_negative64, is_positive64};
+use floats::{is_finite, is_negative, is_positive};
 use rules::{MaybeTime, Refusal, Verdict};
 
 fn is_time(time: f64) -> bool
     ensures { result ≡ is_time time }
 {
-    is_finite64(time) & !is_negative64(time)
+    is_finite(time) & !is_negative(time)
 }
 
 pub fn is_period(period: f64) -> bool
     ensures { result ≡ is_period period }
 {
-    is_finite64(period) & is_positive64(period)
+    is_finite(period) & is_positive(period)
 }
 
 fn is_count(most: usize, count: usize) -> bool

@@ -7,7 +7,7 @@ ghost use Rattle.rules.specs.Queue.{lengths_of, any_covers};
 ghost use Rattle.rules.specs.Refusals.{number_of, lowest, all_finite, are_bounds, is_edition, is_crossed, making_rows, value_rows, exponential_rows, target_rows, curve_rows, cancel_rows};
 ghost use Rattle.refusals.specs.Rows.{with_row};
 
-use floats::{is_finite32, is_finite64, is_negative64, is_positive64, is_zero32};
+use floats::{is_finite, is_negative, is_positive, is_zero};
 use rules::{Bounds, Event, Refusal, Verdict};
 
 pub mod block; // block.rt: the verdict on a block
@@ -54,7 +54,7 @@ pub fn all_finite(values: &[f32]) -> bool
 {
     let mut i = 0usize;
     while i < values.len() {
-        if !is_finite32(values[i]) {
+        if !is_finite(values[i]) {
             return false;
         }
         i += 1;
@@ -66,7 +66,7 @@ pub fn all_finite(values: &[f32]) -> bool
 pub fn are_bounds(b: Bounds) -> bool
     ensures { result ≡ are_bounds b }
 {
-    let finite = is_finite32(b.min) & (is_finite32(b.default) & is_finite32(b.max));
+    let finite = is_finite(b.min) & (is_finite(b.default) & is_finite(b.max));
     finite & ((b.min <= b.default) & (b.default <= b.max))
 }
 
@@ -91,12 +91,8 @@ pub fn value(inside: bool, full: bool, value: f32, time: f64) -> Verdict
     ensures { (q : List Event) → inside ≡ any_covers (taken_time time) q → full ≡ leb most_events (length q) → result ≡ lowest (value_rows q value time) }
 {
     let v = Verdict::Answered;
-    let v = row(
-        v,
-        Refusal::NotFinite,
-        !(is_finite32(value) & is_finite64(time)),
-    );
-    let v = row(v, Refusal::BeforeZero, is_negative64(time));
+    let v = row(v, Refusal::NotFinite, !(is_finite(value) & is_finite(time)));
+    let v = row(v, Refusal::BeforeZero, is_negative(time));
     let v = row(v, Refusal::Inside, inside);
     row(v, Refusal::QueueFull, full)
 }
@@ -105,13 +101,9 @@ pub fn exponential(inside: bool, full: bool, value: f32, time: f64) -> Verdict
     ensures { (q : List Event) → inside ≡ any_covers (taken_time time) q → full ≡ leb most_events (length q) → result ≡ lowest (exponential_rows q value time) }
 {
     let v = Verdict::Answered;
-    let v = row(
-        v,
-        Refusal::NotFinite,
-        !(is_finite32(value) & is_finite64(time)),
-    );
-    let v = row(v, Refusal::BeforeZero, is_negative64(time));
-    let v = row(v, Refusal::ZeroTarget, is_zero32(value));
+    let v = row(v, Refusal::NotFinite, !(is_finite(value) & is_finite(time)));
+    let v = row(v, Refusal::BeforeZero, is_negative(time));
+    let v = row(v, Refusal::ZeroTarget, is_zero(value));
     let v = row(v, Refusal::Inside, inside);
     row(v, Refusal::QueueFull, full)
 }
@@ -120,10 +112,10 @@ pub fn target(inside: bool, full: bool, value: f32, time: f64, constant: f64) ->
     ensures { (q : List Event) → inside ≡ any_covers (taken_time time) q → full ≡ leb most_events (length q) → result ≡ lowest (target_rows q value time constant) }
 {
     let v = Verdict::Answered;
-    let finite = is_finite32(value) & (is_finite64(time) & is_finite64(constant));
+    let finite = is_finite(value) & (is_finite(time) & is_finite(constant));
     let v = row(v, Refusal::NotFinite, !finite);
-    let v = row(v, Refusal::BeforeZero, is_negative64(time));
-    let v = row(v, Refusal::NotAbove, is_negative64(constant));
+    let v = row(v, Refusal::BeforeZero, is_negative(time));
+    let v = row(v, Refusal::NotAbove, is_negative(constant));
     let v = row(v, Refusal::Inside, inside);
     row(v, Refusal::QueueFull, full)
 }
@@ -142,10 +134,10 @@ pub fn curve(
         → lent ≡ eqb (length store) store_length → result ≡ lowest (curve_rows q store time duration values.now) }
 {
     let v = Verdict::Answered;
-    let finite = is_finite64(time) & (is_finite64(duration) & all_finite(values));
+    let finite = is_finite(time) & (is_finite(duration) & all_finite(values));
     let v = row(v, Refusal::NotFinite, !finite);
-    let v = row(v, Refusal::BeforeZero, is_negative64(time));
-    let v = row(v, Refusal::NotAbove, !is_positive64(duration));
+    let v = row(v, Refusal::BeforeZero, is_negative(time));
+    let v = row(v, Refusal::NotAbove, !is_positive(duration));
     let v = row(v, Refusal::ShortCurve, values.len() < 2);
     let v = row(v, Refusal::Inside, crossed);
     let v = row(v, Refusal::QueueFull, full);
@@ -158,7 +150,7 @@ pub fn cancel(time: f64, lent: bool) -> Verdict
     ensures { (store : List Float) → lent ≡ eqb (length store) store_length → result ≡ lowest (cancel_rows store time) }
 {
     let v = Verdict::Answered;
-    let v = row(v, Refusal::NotFinite, !is_finite64(time));
-    let v = row(v, Refusal::BeforeZero, is_negative64(time));
+    let v = row(v, Refusal::NotFinite, !is_finite(time));
+    let v = row(v, Refusal::BeforeZero, is_negative(time));
     row(v, Refusal::BadStore, !lent)
 }

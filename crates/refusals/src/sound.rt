@@ -4,7 +4,7 @@ ghost use Rattle.rules.specs.Numbers.{is_finite};
 ghost use Rattle.laws.specs.Sound.{is_number, is_from_zero, is_taken, is_taken_if_any, is_held_by, is_held_from, is_span, is_curve_hold, is_clear, reach_of, is_last_clear, has_played, is_end_of, are_block_times};
 
 use crate::block::is_period;
-use floats::{is_finite32, is_finite64, is_zero32, later_of};
+use floats::{is_finite, is_zero, later_of};
 use rules::{Event, LastEvent, MaybeTime};
 use timeline::{curve_end, filed_under};
 
@@ -26,7 +26,7 @@ pub fn is_from_zero(t: f64) -> bool
 fn is_taken(t: f64) -> bool
     ensures { result ≡ is_taken t }
 {
-    is_finite64(t) & is_from_zero(t)
+    is_finite(t) & is_from_zero(t)
 }
 
 fn is_taken_if_any(t: MaybeTime) -> bool
@@ -78,10 +78,10 @@ pub fn is_clear(e: Event) -> bool
     ensures { result ≡ is_clear e }
 {
     match e {
-        Event::Step { value, time } => is_finite32(value) & is_from_zero(time),
-        Event::Linear { value, time, hold } => is_finite32(value) & is_span(time, hold),
+        Event::Step { value, time } => is_finite(value) & is_from_zero(time),
+        Event::Linear { value, time, hold } => is_finite(value) & is_span(time, hold),
         Event::Exponential { value, time, hold } => {
-            is_finite32(value) & (!is_zero32(value) & is_span(time, hold))
+            is_finite(value) & (!is_zero(value) & is_span(time, hold))
         }
         Event::Target {
             value,
@@ -90,7 +90,7 @@ pub fn is_clear(e: Event) -> bool
             hold,
         } => {
             let runs = is_period(constant) & is_taken_if_any(hold);
-            is_finite32(value) & (is_taken(time) & runs)
+            is_finite(value) & (is_taken(time) & runs)
         }
         Event::Curve {
             start,
@@ -149,7 +149,7 @@ pub fn are_block_times(time: MaybeTime, end: MaybeTime) -> bool
 pub fn is_due(played: bool, time: f64) -> bool
     ensures { result ≡ (played || is_finite time) }
 {
-    played | is_finite64(time)
+    played | is_finite(time)
 }
 
 pub fn is_last_clear(last: LastEvent) -> bool

@@ -2,15 +2,23 @@
 // A fast path through `f64` where its result shows that nothing is lost, and whole-number arithmetic on the bits everywhere else.
 #![tactic(auto)]
 
+mod formats;
+
 ghost use Rattle.std.specs.Prelude.{◌≡◌, cond, not, ◌⊎◌, ◌+◌, ◌*◌, ◌/◌, ◌%◌, ◌^◌, ◌≤◌, ◌<◌, T, eqb};
 ghost use Rattle.std.specs.Float.{binary32, binary64};
 ghost use Rattle.std.specs.Float.Ieee.{round, top, fits, is_nan, of_bits};
 ghost use Rattle.std.specs.Float.Ieee.Scale.{finite};
 ghost use Rattle.std.specs.Float.Ieee.Nearest.{closest};
 ghost use Rattle.rules.specs.Numbers.{narrowed, fused, wide};
-ghost use Rattle.rounding_laws.specs.Parts.{Parted, Packed};
+ghost use Rattle.rounding_laws.specs.Parts.{Parted, Packed, place};
 ghost use Rattle.rounding_laws.specs.Stuck.{Added, Sums};
 ghost use Rattle.rounding_laws.specs.Cut.{even_cut};
+
+use floats::is_finite;
+pub use formats::Binary;
+
+// The exponent at which `pack` meets the smallest normal number.
+const NORMAL: u64 = 896;
 
 // Of a pattern of 64 bits: the sign, and the lowest bit of the exponent's field.
 const SIGN: u64 = 0x8000_0000_0000_0000;
@@ -47,58 +55,51 @@ pub fn rounded(d: u64, sh: u64) -> u64
 }
 
 // The sign's bit.
-fn sign32(neg: bool) -> u32
-    ensures { result ≡ cond neg (top binary32) 0 }
+fn sign<F: Binary>(neg: bool) -> u64
+    ensures { result ≡ cond neg (top F.format) 0 }
 {
-    if neg { 0x8000_0000 } else { 0 }
+    if neg { F::SIGN } else { 0 }
 }
 
-// The pattern, without its sign, of d * 2^e / 2^1085 rounded to an `f32`. d has its highest bit at 63, or the result is below the smallest normal number.
-fn pattern32(d: u64, e: u64) -> u32
+// The pattern, without its sign, of d * 2^e / 2^place rounded to an F. d has its highest bit at 63, or the result is below the smallest normal number.
+fn pattern<F: Binary>(d: u64, e: u64) -> u64
     requires { (2 ^ 63 ≤ d) ⊎ (e ≤ 896) }
-    ensures { Packed binary32 d e 1085 result }
+    ensures { Packed F.format d e (place F.format) result }
 {
-    if e >= 1150 {
-        0x7f80_0000
-    } else if e >= 896 {
-        ((e - 896) as u32) * 0x80_0000 + (rounded(d, 40) as u32)
-    } else if e >= 872 {
-        rounded(d, 936 - e) as u32
+    let dropped = 64 - F::DIGITS;
+    if e >= NORMAL - 1 + F::ONES {
+        F::ONES * F::LEAD
+    } else if e >= NORMAL {
+        (e - NORMAL) * F::LEAD + rounded(d, dropped)
+    } else if e + F::DIGITS >= NORMAL {
+        rounded(d, NORMAL + dropped - e)
     } else {
         0
     }
 }
 
-// d * 2^e / 2^1085, rounded once to an `f32`.
-fn pack32(neg: bool, d: u64, e: u64) -> f32
+// d * 2^e / 2^place, rounded once to an F.
+fn pack<F: Binary>(neg: bool, d: u64, e: u64) -> F
     requires { (2 ^ 63 ≤ d) ⊎ (e ≤ 896) }
-    ensures { result ≡ round binary32 neg (d * 2 ^ e) (2 ^ 1085) }
+    ensures { F.number result ≡ round F.format neg (d * 2 ^ e) (2 ^ place F.format) }
 {
-    f32::from_bits(sign32(neg) + pattern32(d, e))
+    F::from_pattern(sign::<F>(neg) + pattern::<F>(d, e))
 }
 
-// d * 2^e / 2^363, rounded once to an `f32`.
-pub fn norm32(neg: bool, d: u64, e: u64) -> f32
+// d * 2^e / 2^unit, rounded once to an F.
+pub fn norm<F: Binary>(neg: bool, d: u64, e: u64) -> F
     requires { e < 4096 }
-    ensures { result ≡ round binary32 neg (d * 2 ^ e) (2 ^ 363) }
+    ensures { F.number result ≡ round F.format neg (d * 2 ^ e) (2 ^ F.unit) }
 {
     if d == 0 {
-        pack32(neg, 0, 0)
+        pack(neg, 0, 0)
     } else {
         let z = u64::leading_zeros(d);
-        pack32(neg, d << z, e + 722 - (z as u64))
+        pack(neg, d << z, e + F::SHIFT - (z as u64))
     }
 }
 
-// Whether x is neither a NaN nor an infinity.
-pub fn finite32(x: f32) -> bool
-    ensures { result ≡ finite x }
-{
-    let inf = f32::from_bits(0x7f80_0000);
-    if x < inf { -inf < x } else { false }
-}
-
-// A finite float taken apart: ±m * 2^j of its format's smallest value.
+// ±m * 2^j; of a finite float, in units of its format's smallest value.
 #[derive(Clone, Copy)]
 pub struct Parts {
     pub neg: bool,
@@ -106,25 +107,23 @@ pub struct Parts {
     pub j: u64,
 }
 
-pub fn parts32(x: f32) -> Parts
-    requires { T (finite x) }
-    ensures { Parted binary32 x result.neg result.m result.j }
-{
-    let b = f32::to_bits(x);
-    let neg = b >= 0x8000_0000;
-    let ex = b % 0x8000_0000 / 0x80_0000;
-    let t = b % 0x80_0000;
-    if ex == 0 {
-        Parts {
-            neg,
-            m: t as u64,
-            j: 0,
-        }
-    } else {
-        Parts {
-            neg,
-            m: (t + 0x80_0000) as u64,
-            j: (ex - 1) as u64,
+impl Parts {
+    pub fn of<F: Binary>(x: F) -> Parts
+        requires { T (finite (F.number x)) }
+        ensures { Parted F.format (F.number x) result.neg result.m result.j }
+    {
+        let b = x.to_pattern();
+        let neg = b >= F::SIGN;
+        let ex = b % F::SIGN / F::LEAD;
+        let t = b % F::LEAD;
+        if ex == 0 {
+            Parts { neg, m: t, j: 0 }
+        } else {
+            Parts {
+                neg,
+                m: t + F::LEAD,
+                j: ex - 1,
+            }
         }
     }
 }
@@ -157,60 +156,57 @@ fn sticky(d: u64, rest: bool) -> u64
     if rest { d / 2 * 2 + 1 } else { d }
 }
 
-// ±d * 2^u.
-#[derive(Clone, Copy)]
-struct Signed {
-    neg: bool,
-    d: u64,
-    u: u64,
-}
-
-// Twice the sum of ±x * 2^e and ±y * 2^g. What is cut leaves d odd. A difference keeps one digit more, since its leading ones can cancel.
-fn added(s: bool, x: u64, e: u64, t: bool, y: u64, g: u64) -> Signed
-    requires { (x < 2 ^ 63) × (y < 2 ^ 63) × (g ≤ e) × (e < 4096) }
-    ensures { Added s x e t y g result.neg result.d result.u }
+// Twice the sum of a and b. What is cut leaves the digits odd. A difference keeps one digit more, since its leading ones can cancel.
+#[inline(always)]
+fn added(a: Parts, b: Parts) -> Parts
+    requires { (a.m < 2 ^ 63) × (b.m < 2 ^ 63) × (b.j ≤ a.j) × (a.j < 4096) }
+    ensures { Added a.neg a.m a.j b.neg b.m b.j result.neg result.m result.j }
 {
-    if s == t {
-        let w = cut(y, e - g);
-        return Signed {
-            neg: s,
-            d: sticky(x + w.q, w.rest),
-            u: e + 1,
+    let j = a.j;
+    if a.neg == b.neg {
+        let w = cut(b.m, j - b.j);
+        return Parts {
+            neg: a.neg,
+            m: sticky(a.m + w.q, w.rest),
+            j: j + 1,
         };
     }
-    let v = x * 2;
-    let w = cut(y * 2, e - g);
+    let v = a.m * 2;
+    let w = cut(b.m * 2, j - b.j);
     let c = if w.rest { w.q + 1 } else { w.q };
     if v < c {
-        return Signed {
-            neg: t,
-            d: sticky(w.q - v, w.rest),
-            u: e,
+        return Parts {
+            neg: b.neg,
+            m: sticky(w.q - v, w.rest),
+            j,
         };
     }
-    let d = sticky(v - c, w.rest);
-    Signed {
-        neg: if d == 0 { false } else { s },
-        d,
-        u: e,
+    let m = sticky(v - c, w.rest);
+    Parts {
+        neg: if m == 0 { false } else { a.neg },
+        m,
+        j,
     }
 }
 
-// Twice the sum of ±m * 2^i and ±n * 2^j, over 2^64. h is how far n may be shifted to the left.
-fn total(s: bool, m: u64, i: u64, t: bool, n: u64, j: u64, h: u64) -> Signed
-    requires { (0 < m) × (m < 2 ^ 63) × (n * 2 ^ h < 2 ^ 63) × (i < 2048) × (j < 2048) × (h < 64) }
-    ensures { (result.u < 4096) × Sums s m i t n j h result.neg result.d result.u }
+// Twice the sum of a and b, over 2^64. h is how far the digits of b may be shifted to the left.
+#[inline(always)]
+fn total(a: Parts, b: Parts, h: u64) -> Parts
+    requires { (0 < a.m) × (a.m < 2 ^ 63) × (b.m * 2 ^ h < 2 ^ 63) × (a.j < 2048) × (b.j < 2048) × (h < 64) }
+    ensures { (result.j < 4096) × Sums a.neg a.m a.j b.neg b.m b.j h result.neg result.m result.j }
 {
-    let z = u64::leading_zeros(m) - 1;
-    let x = m << z;
-    let e = i + 64 - (z as u64);
-    let y = n << h;
-    let g = j + 64 - h;
-    if g <= e {
-        added(s, x, e, t, y, g)
-    } else {
-        added(t, y, g, s, x, e)
-    }
+    let z = u64::leading_zeros(a.m) - 1;
+    let x = Parts {
+        neg: a.neg,
+        m: a.m << z,
+        j: a.j + 64 - (z as u64),
+    };
+    let y = Parts {
+        neg: b.neg,
+        m: b.m << h,
+        j: b.j + 64 - h,
+    };
+    if y.j <= x.j { added(x, y) } else { added(y, x) }
 }
 
 // a * b + c of finite numbers, rounded once. Where a or b is a zero, the sum of the product and c is right as it stands.
@@ -218,24 +214,34 @@ fn fused_finite32(a: f32, b: f32, c: f32) -> f32
     requires { T (finite a) × T (finite b) × T (finite c) }
     ensures { result ≡ fused binary32 a b c }
 {
-    let x = parts32(a);
-    let y = parts32(b);
-    let z = parts32(c);
+    let x = Parts::of(a);
+    let y = Parts::of(b);
+    let z = Parts::of(c);
     let m = x.m * y.m;
     if m == 0 {
         return a * b + c;
     }
-    let r = total(x.neg != y.neg, m, x.j + y.j, z.neg, z.m, z.j + 149, 39);
-    norm32(r.neg, r.d, r.u)
+    let product = Parts {
+        neg: x.neg != y.neg,
+        m,
+        j: x.j + y.j,
+    };
+    let c = Parts {
+        neg: z.neg,
+        m: z.m,
+        j: z.j + 149,
+    };
+    let r = total(product, c, 39);
+    norm(r.neg, r.m, r.j)
 }
 
 // a * b + c, rounded once. By whole numbers alone.
 fn fused_whole32(a: f32, b: f32, c: f32) -> f32
     ensures { result ≡ fused binary32 a b c }
 {
-    if finite32(a) {
-        if finite32(b) {
-            if finite32(c) {
+    if is_finite(a) {
+        if is_finite(b) {
+            if is_finite(c) {
                 fused_finite32(a, b, c)
             } else {
                 c
@@ -248,84 +254,13 @@ fn fused_whole32(a: f32, b: f32, c: f32) -> f32
     }
 }
 
-// The sign's bit.
-fn sign64(neg: bool) -> u64
-    ensures { result ≡ cond neg (top binary64) 0 }
-{
-    if neg { SIGN } else { 0 }
-}
-
-// The pattern, without its sign, of d * 2^e / 2^1202 rounded to an `f64`. d has its highest bit at 63, or the result is below the smallest normal number.
-fn pattern64(d: u64, e: u64) -> u64
-    requires { (2 ^ 63 ≤ d) ⊎ (e ≤ 117) }
-    ensures { Packed binary64 d e 1202 result }
-{
-    if e >= 2163 {
-        0x7ff0_0000_0000_0000
-    } else if e >= 117 {
-        (e - 117) * FIELD + rounded(d, 11)
-    } else if e >= 64 {
-        rounded(d, 128 - e)
-    } else {
-        0
-    }
-}
-
-// d * 2^e / 2^1202, rounded once to an `f64`.
-fn pack64(neg: bool, d: u64, e: u64) -> f64
-    requires { (2 ^ 63 ≤ d) ⊎ (e ≤ 117) }
-    ensures { result ≡ round binary64 neg (d * 2 ^ e) (2 ^ 1202) }
-{
-    f64::from_bits(sign64(neg) + pattern64(d, e))
-}
-
-// d * 2^e / 2^1139, rounded once to an `f64`.
-pub fn norm64(neg: bool, d: u64, e: u64) -> f64
-    requires { e < 4096 }
-    ensures { result ≡ round binary64 neg (d * 2 ^ e) (2 ^ 1139) }
-{
-    if d == 0 {
-        pack64(neg, 0, 0)
-    } else {
-        let z = u64::leading_zeros(d);
-        pack64(neg, d << z, e + 63 - (z as u64))
-    }
-}
-
-// Whether x is neither a NaN nor an infinity.
-pub fn finite64(x: f64) -> bool
-    ensures { result ≡ finite x }
-{
-    let inf = f64::from_bits(0x7ff0_0000_0000_0000);
-    if x < inf { -inf < x } else { false }
-}
-
-pub fn parts64(x: f64) -> Parts
-    requires { T (finite x) }
-    ensures { Parted binary64 x result.neg result.m result.j }
-{
-    let b = f64::to_bits(x);
-    let neg = b >= SIGN;
-    let ex = b % SIGN / FIELD;
-    let t = b % FIELD;
-    if ex == 0 {
-        Parts { neg, m: t, j: 0 }
-    } else {
-        Parts {
-            neg,
-            m: t + FIELD,
-            j: ex - 1,
-        }
-    }
-}
-
 // x as an `f32`, rounded once. A NaN gives a NaN. By whole numbers alone.
 fn narrow_whole(x: f64) -> f32
     ensures { result ≡ narrowed x }
 {
-    if finite64(x) {
-        let p = parts64(x);
-        pack32(p.neg, p.m * 2048, p.j)
+    if is_finite(x) {
+        let p = Parts::of(x);
+        pack(p.neg, p.m * 2048, p.j)
     } else if x < 0.0 {
         f32::from_bits(0xff80_0000)
     } else if x > 0.0 {
@@ -340,20 +275,25 @@ fn fused_finite64(n: u64, p: f64, t: f64) -> f64
     requires { (n ≤ 1024) × T (finite p) × T (finite t) }
     ensures { result ≡ fused binary64 (wide n) p t }
 {
-    let y = parts64(p);
+    let y = Parts::of(p);
     // a block's usual count, whose product is exact
     if n == 128 {
         if y.j < 2000 {
             return (n as f64) * p + t;
         }
     }
-    let z = parts64(t);
+    let z = Parts::of(t);
     let m = n * y.m;
     if m == 0 {
         return (n as f64) * p + t;
     }
-    let r = total(y.neg, m, y.j, z.neg, z.m, z.j, 10);
-    norm64(r.neg, r.d, r.u)
+    let product = Parts {
+        neg: y.neg,
+        m,
+        j: y.j,
+    };
+    let r = total(product, z, 10);
+    norm(r.neg, r.m, r.j)
 }
 
 // n * p + t, rounded once, for a small whole number n.
@@ -361,8 +301,8 @@ pub fn fused64(n: u64, p: f64, t: f64) -> f64
     requires { n ≤ 1024 }
     ensures { result ≡ fused binary64 (wide n) p t }
 {
-    if finite64(p) {
-        if finite64(t) {
+    if is_finite(p) {
+        if is_finite(t) {
             fused_finite64(n, p, t)
         } else {
             t

@@ -1,8 +1,19 @@
--- A finite float taken apart, and a bit pattern put together. Definitions only. Assumes nothing.
-use Rattle.std.specs.Prelude.{◌≡◌, ◌⊎◌, Bool, cond, ℕ, ◌+◌, ◌*◌, ◌^◌, ◌≤◌, ◌<◌, Float}
+-- A format's numbers, a finite float taken apart, and a bit pattern put together. Definitions only. Assumes nothing.
+use Rattle.std.specs.Prelude.{◌≡◌, ◌⊎◌, Bool, cond, ℕ, ◌+◌, ◌-◌, ◌*◌, ◌^◌, ◌≤◌, ◌<◌, Float}
 use Rattle.std.specs.Float.{Format}
 use Rattle.std.specs.Float.Ieee.{prec, low, hid, ones, top, round, of_bits}
 use Rattle.std.specs.Float.Ieee.Exact.{HasValue}
+
+-- the numbers of a format that code works with: a significand's digits, in a pattern the weight of the leading one and of the sign, and an exponent's field of ones alone
+pub record Widths (f : Format) (digits lead sign all_ones : ℕ) : Type 0 where
+  pub digits_is : digits ≡ prec f
+  pub lead_is : lead ≡ hid f
+  pub sign_is : sign ≡ top f
+  pub ones_is : all_ones ≡ ones f
+
+-- whole numbers are packed as multiples of 2 ^ -place
+abbrev pub place : Format → ℕ
+place f = 896 + low f + (64 - prec f)
 
 -- x is ±m * 2 ^ j units of the format's smallest value, with all digits unless j is 0
 pub record Parted (f : Format) (x : Float) (s : Bool) (m j : ℕ) : Type 0 where

@@ -257,8 +257,8 @@ pub fn compute_linear_ramp_samples(
 )
     ensures { out.new ≡ run (linear_at start_time duration start_value diff) dt (length out.old) time }
 {
-    if floats::is_finite32(start_value) {
-        if floats::is_finite32(diff) {
+    if floats::is_finite(start_value) {
+        if floats::is_finite(diff) {
             let c = start_value as f64;
             let a = diff as f64;
             let bx = phases::once_from(a, c);
@@ -614,7 +614,7 @@ pub fn compute_exponential_ramp_samples(
     ensures { out.new ≡ run (exponential_at start_time duration start_value log) dt (length out.old) time }
 {
     let l = std::num::nearest_i64_to_f64(log);
-    if floats::is_finite32(start_value) {
+    if floats::is_finite(start_value) {
         let from = start_value as f64;
         exponential_parts(out, start_time, duration, from, l, time, dt);
         return;
@@ -932,8 +932,8 @@ pub fn compute_set_target_samples(
 ) -> f32
     ensures { (out.new ≡ run (from_start start intrinsic (target_at start constant target diff)) dt (length out.old) time) × (result ≡ from_start start intrinsic (target_at start constant target diff) end) }
 {
-    if floats::is_finite32(target) {
-        if floats::is_finite32(diff) {
+    if floats::is_finite(target) {
+        if floats::is_finite(diff) {
             let c = target as f64;
             let a = diff as f64;
             target_parts(out, start, constant, c, a, intrinsic, time, dt);
@@ -1047,8 +1047,8 @@ fn curve_part(out: &mut [f32], xs: &[f64; 16], from: f32, diff: f32) -> bool
     requires { (length out.old ≡ 16) × (length xs.now ≡ 16) × Between xs.now × Spans (898 * 2 ^ 52) (slice_index_or xs.now 0 nan) (slice_index_or xs.now 15 nan) }
     ensures { result ≡ true → out.new ≡ each (phase_sum «from» diff) xs.now }
 {
-    if floats::is_finite32(from) {
-        if floats::is_finite32(diff) {
+    if floats::is_finite(from) {
+        if floats::is_finite(diff) {
             return sums_between(out, xs, from as f64, diff as f64);
         }
     }

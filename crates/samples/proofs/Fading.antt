@@ -7,7 +7,7 @@ use Rattle.rules.specs.Samples.{decay, decay_of}
 use Rattle.samples.proofs.Cut.{scaled_le}
 use Rattle.samples.proofs.Moved.{moved}
 
--- r(a) * 2 ^ (-32 - w), as `norm32` writes it
+-- r(a) * 2 ^ (-32 - w), as `norm` writes it
 pub steps_norm : (p : ℕ) → p < 161 * parts → round binary32 false (falling (p % parts) * 2 ^ (331 - p / parts)) (2 ^ 363) ≡ narrowed (decay_of p)
 unfolding decay_of narrowed
 steps_norm p h = moved binary32 false (falling (p % parts)) (331 - p / parts) 363 0 (suc (31 + p / parts)) (omega arith)

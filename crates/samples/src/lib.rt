@@ -48,7 +48,7 @@ pub fn decay_steps(p: u64) -> f32
     requires { p < 161 * 2 ^ 24 }
     ensures { result ≡ narrowed (decay_of p) }
 {
-    rounding::norm32(
+    rounding::norm(
         false,
         kernels::falling_power(p % 16777216),
         331 - p / 16777216,
@@ -69,7 +69,7 @@ pub fn decay(y: f64) -> f32
 pub fn ratio_log(ratio: f32) -> i64
     ensures { result ≡ ratio_log ratio }
 {
-    if floats::is_finite32(ratio) {
+    if floats::is_finite(ratio) {
         if ratio == 0.0 {
             return -16777216;
         }
@@ -91,9 +91,9 @@ fn risen(n: u64) -> f64
     let q = n / 16777216;
     let f = n % 16777216;
     if f == 0 {
-        rounding::norm64(false, 1, q + 1139)
+        rounding::norm(false, 1, q + 1139)
     } else {
-        rounding::norm64(false, kernels::falling_power(16777216 - f), q + 1108)
+        rounding::norm(false, kernels::falling_power(16777216 - f), q + 1108)
     }
 }
 
@@ -104,7 +104,7 @@ fn fallen(n: u64) -> f64
     if n >= 5033164800 {
         return 0.0;
     }
-    rounding::norm64(
+    rounding::norm(
         false,
         kernels::falling_power(n % 16777216),
         1107 - n / 16777216,

@@ -2,10 +2,10 @@
 use Rattle.rules.specs.Samples.{is_ratio}
 use Rattle.automation.proofs.is_ratio.Goals as goal
 
-pub returns-then-is_finite32 : goal.returns-then-is_finite32
+pub returns-then-is_finite : goal.returns-then-is_finite
 unfolding is_ratio
-returns-then-is_finite32 c = rw (← c.is_finite32.ensures, c.if-is_finite32.true) c.is_positive32.ensures
+returns-then-is_finite c = rw (← c.is_finite.ensures, c.if-is_finite.true) c.is_positive.ensures
 
-pub returns-else-is_finite32 : goal.returns-else-is_finite32
+pub returns-else-is_finite : goal.returns-else-is_finite
 unfolding is_ratio
-returns-else-is_finite32 c = rw (← c.is_finite32.ensures, c.if-is_finite32.false)
+returns-else-is_finite c = rw (← c.is_finite.ensures, c.if-is_finite.false)

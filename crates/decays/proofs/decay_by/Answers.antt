@@ -25,5 +25,5 @@ unfolding of_bits
 returns c =
     let w = (goal.at.returns c).After-whole-p in
     let p = c.whole-p.result in
-    c.norm32.ensures ∙ ap (λ (d : ℕ). round binary32 false (d * 2 ^ (331 - p / parts)) (2 ^ 363)) c.falling_by-d.ensures
+    c.norm.ensures ∙ ap (λ (d : ℕ). round binary32 false (d * 2 ^ (331 - p / parts)) (2 ^ 363)) c.falling_by-d.ensures
     ∙ steps_norm p (few w) ∙ rw c.whole-p.ensures (decay-left c.args.y c.if-y.false)

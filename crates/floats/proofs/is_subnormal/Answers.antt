@@ -1,11 +1,7 @@
 -- `floats::is_subnormal` meets its contract. Assumes nothing.
-use lib.Ieee.{of_bits, nan_bits}
+use lib.Ieee.{of_bits}
 use Rattle.floats.proofs.Compared.{subnormal_below, none_subnormal}
 use Rattle.floats.proofs.is_subnormal.Goals as goal
-
-pub float_from_bits-result : goal.float_from_bits-result
-unfolding nan_bits
-float_from_bits-result c = tt
 
 pub returns-then-x : goal.returns-then-x
 unfolding of_bits

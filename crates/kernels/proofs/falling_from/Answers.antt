@@ -52,29 +52,11 @@ module _ (cs : List ℕ) (a r j k : ℕ) (l : j < length cs) (e : length cs ≡ 
   digit_clear h = step ∙ rw (ne_eqb (a / 2 ^ k % 2) 1 h)
 
 pub loop-j-init : goal.loop-j-init
-loop-j-init c = (c.requires.0, c.requires.1, rw table_is)
-
-pub overflow_sub-j : goal.overflow_sub-j
-overflow_sub-j c = omega arith
-
-pub overflow_shr-a : goal.overflow_shr-a
-overflow_shr-a c = omega arith
-
-pub offset_bounds-table-j : goal.offset_bounds-table-j
-offset_bounds-table-j c = omega arith
-
-pub bounds-table-j : goal.bounds-table-j
-bounds-table-j c = omega arith
+loop-j-init c = (c.requires.1, rw table_is)
 
 pub overflow_mul-r : goal.overflow_mul-r
 unfolding small
-overflow_mul-r c = let l = c.loop-j in record { fits = omega (arith, product l.r (get_or roots l.j 0) l.invariant.1 (small_at roots refl l.j)) }
-
-pub overflow_add-j : goal.overflow_add-j
-overflow_add-j c = omega arith
-
-pub loop-j-smaller : goal.loop-j-smaller
-loop-j-smaller c = omega arith
+overflow_mul-r c = let l = c.loop-j in record { fits = omega (arith, product l.r (get_or roots l.j 0) l.invariant.0 (small_at roots refl l.j)) }
 
 pub loop-j-preserved : goal.loop-j-preserved
 unfolding small
@@ -84,10 +66,10 @@ loop-j-preserved c =
     let t : l.j < 24 = omega arith in
     let k : 24 ≡ 23 - l.j + suc l.j = omega arith in
     elim c.if-a-j-eq1.branch [
-      | then-a-j-eq1 w ↦ (omega arith, rw w.r-is (shrinks l.r (get_or roots l.j 0) l.invariant.1 (small_at roots refl l.j)), rw w.r-is (sym (digit_set roots a l.r l.j (23 - l.j) t k w.if-a-j-eq1.true) ∙ l.invariant.2))
-      | else-a-j-eq1 w ↦ (omega arith, rw w.r-is l.invariant.1, rw w.r-is (sym (digit_clear roots a l.r l.j (23 - l.j) t k w.if-a-j-eq1.false) ∙ l.invariant.2))
+      | then-a-j-eq1 w ↦ (rw w.r-is (shrinks l.r (get_or roots l.j 0) l.invariant.0 (small_at roots refl l.j)), rw w.r-is (sym (digit_set roots a l.r l.j (23 - l.j) t k w.if-a-j-eq1.true) ∙ l.invariant.1))
+      | else-a-j-eq1 w ↦ (rw w.r-is l.invariant.0, rw w.r-is (sym (digit_clear roots a l.r l.j (23 - l.j) t k w.if-a-j-eq1.false) ∙ l.invariant.1))
     ]
 
 pub returns : goal.returns
 unfolding falling_from
-returns c = let l = c.loop-j in let e : l.j ≡ 24 = omega arith in rw e at l.invariant.2
+returns c = let l = c.loop-j in let e : l.j ≡ 24 = omega arith in rw e at l.invariant.1

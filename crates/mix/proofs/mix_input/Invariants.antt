@@ -1,6 +1,5 @@
 -- `mix_input` meets its contract: the first i places are mixed. Assumes nothing.
 use mathlib.Core.Path.{◌≡◌}
-use Prim.Native.Nat.{◌-◌}
 use lib.ListN.{length}
 use Rattle.rules.specs.Mix.{mixed_all}
 use Rattle.mix.proofs.Writes.{Writes}
@@ -8,6 +7,3 @@ use Rattle.mix.proofs.mix_input.Given as goal
 
 abbrev pub invariant-loop-i : goal.invariant-loop-i
 invariant-loop-i l = Writes (mixed_all l.bounds l.input l.values) (length l.values) l.initial.output l.i l.output × (length l.input ≡ length l.values)
-
-abbrev pub decreases-loop-i : goal.decreases-loop-i
-decreases-loop-i l = (length l.values) - l.i

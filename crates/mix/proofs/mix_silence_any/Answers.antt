@@ -14,24 +14,6 @@ loop-i-init c =
     let a = c.args in
     begins (mixed_all a.bounds (replicate (length a.values.now) plus_zero) a.values.now) (length a.values.now) a.output.now (mixed-length a.bounds (replicate (length a.values.now) plus_zero) a.values.now (length-replicate (length a.values.now) plus_zero)) (omega (arith, c.requires))
 
-pub offset_bounds-values-i : goal.offset_bounds-values-i
-offset_bounds-values-i c = omega arith
-
-pub bounds-values-i : goal.bounds-values-i
-bounds-values-i c = omega arith
-
-pub offset_bounds-output-i : goal.offset_bounds-output-i
-offset_bounds-output-i c = omega arith
-
-pub bounds-output-i : goal.bounds-output-i
-bounds-output-i c = omega arith
-
-pub overflow_add-i : goal.overflow_add-i
-overflow_add-i c = omega arith
-
-pub loop-i-smaller : goal.loop-i-smaller
-loop-i-smaller c = omega arith
-
 pub loop-i-preserved : goal.loop-i-preserved
 unfolding Ieee.of_bits
 loop-i-preserved c =

@@ -15,26 +15,8 @@ loop-i-init c =
     let vs = c.args.values.now in
     trying_begins (mixed_all c.args.bounds (replicate (length vs) plus_zero) vs) (length vs) c.args.output.now (mixed-length c.args.bounds (replicate (length vs) plus_zero) vs (length-replicate (length vs) plus_zero)) (omega (arith, c.requires.1))
 
-pub offset_bounds-values-i : goal.offset_bounds-values-i
-offset_bounds-values-i c = omega arith
-
-pub bounds-values-i : goal.bounds-values-i
-bounds-values-i c = omega arith
-
 pub silent_value-requires : goal.silent_value-requires
 silent_value-requires c = c.requires.0
-
-pub offset_bounds-output-i : goal.offset_bounds-output-i
-offset_bounds-output-i c = omega arith
-
-pub bounds-output-i : goal.bounds-output-i
-bounds-output-i c = omega arith
-
-pub overflow_add-i : goal.overflow_add-i
-overflow_add-i c = omega arith
-
-pub loop-i-smaller : goal.loop-i-smaller
-loop-i-smaller c = omega arith
 
 pub loop-i-preserved : goal.loop-i-preserved
 loop-i-preserved c =

@@ -16,16 +16,16 @@ use Rattle.plain.proofs.take_head.Goals as goal
 pub span-requires : goal.span-requires
 span-requires c = (rw c.started.ensures c.requires.0, tt)
 
-pub span-requires-then-is_finite32-is_positive32 : goal.span-requires-then-is_finite32-is_positive32
-span-requires-then-is_finite32-is_positive32 c = (rw c.started-then-is_finite32-is_positive32.ensures c.requires.0, tt)
+pub span-requires-then-is_finite-is_positive : goal.span-requires-then-is_finite-is_positive
+span-requires-then-is_finite-is_positive c = (rw c.started-then-is_finite-is_positive.ensures c.requires.0, tt)
 
-pub returns-then-is_finite32-is_positive32 : goal.returns-then-is_finite32-is_positive32
+pub returns-then-is_finite-is_positive : goal.returns-then-is_finite-is_positive
 unfolding turn_of is_ratio ratio_of
-returns-then-is_finite32-is_positive32 c = λ f n w e.
+returns-then-is_finite-is_positive c = λ f n w e.
     let a = c.args in
     let from = c.start_of-from.ensures ∙ starts f n w e in
-    let some = rw (c.is_finite32.ensures, c.is_positive32.ensures, from) at c.if-is_finite32-is_positive32.true in
-    rw c.in-Exponential.is (c.span-then-is_finite32-is_positive32.ensures f n _ (c.started-then-is_finite32-is_positive32.ensures ∙ started_is f n w e) ∙ ap (seen_turn f n) (exponential_is f n w a.numbers.now _ _ _ some))
+    let some = rw (c.is_finite.ensures, c.is_positive.ensures, from) at c.if-is_finite-is_positive.true in
+    rw c.in-Exponential.is (c.span-then-is_finite-is_positive.ensures f n _ (c.started-then-is_finite-is_positive.ensures ∙ started_is f n w e) ∙ ap (seen_turn f n) (exponential_is f n w a.numbers.now _ _ _ some))
 
 pub step-requires-in-Exponential : goal.step-requires-in-Exponential
 step-requires-in-Exponential c = rw (c.started-in-Exponential.ensures, c.counted.ensures) c.requires.0
@@ -60,12 +60,12 @@ returns-in-Linear c = λ f n w e.
     let a = c.args in
     rw c.in-Linear.is (c.span.ensures f n _ (c.started.ensures ∙ started_is f n w e) ∙ ap (seen_turn f n) (linear_is f n w a.numbers.now _ _ _))
 
-pub returns-else-is_finite32-is_positive32 : goal.returns-else-is_finite32-is_positive32
+pub returns-else-is_finite-is_positive : goal.returns-else-is_finite-is_positive
 unfolding turn_of is_ratio ratio_of seen counted with_last with_turned start_of last_or
-returns-else-is_finite32-is_positive32 c = λ f n w e.
+returns-else-is_finite-is_positive c = λ f n w e.
     let a = c.args in
     let from = c.start_of-from.ensures ∙ starts f n w e in
-    let none = rw (c.is_finite32.ensures, c.is_positive32.ensures, from) at c.if-is_finite32-is_positive32.false in
+    let none = rw (c.is_finite.ensures, c.is_positive.ensures, from) at c.if-is_finite-is_positive.false in
     let begun = rw c.counted.ensures at c.started-in-Exponential.ensures ∙ started_is f n (counted w) (counted_is f n w e) in
     rw c.in-Exponential.is
     (rw c.hold_or.ensures at (c.step-in-Exponential.ensures f n (counted (with_turned (with_last (start_of f w) w))) begun) ∙ ap (seen_turn f n) (exponential_turns f n w a.numbers.now _ _ _ none))

@@ -5,4 +5,4 @@ use Rattle.refusals.proofs.are_bounds.Goals as goal
 
 pub returns : goal.returns
 unfolding are_bounds
-returns c = rw (more_finite _ _ c.is_finite32.ensures (more_finite _ _ c.is_finite32-2.ensures (one_finite _ c.is_finite32-3.ensures)))
+returns c = rw (more_finite _ _ c.is_finite.ensures (more_finite _ _ c.is_finite-2.ensures (one_finite _ c.is_finite-3.ensures)))

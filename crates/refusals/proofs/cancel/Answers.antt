@@ -6,5 +6,5 @@ use Rattle.refusals.proofs.cancel.Goals as goal
 pub returns : goal.returns
 unfolding said cancel_rows
 returns c store lent =
-    rw (c.row.ensures, c.row-v-2.ensures, c.row-v.ensures, one_finite _ c.is_finite64.ensures, c.is_negative64.ensures, lent)
+    rw (c.row.ensures, c.row-v-2.ensures, c.row-v.ensures, one_finite _ c.is_finite.ensures, c.is_negative.ensures, lent)
     (said_lowest (cancel_rows store c.args.time))

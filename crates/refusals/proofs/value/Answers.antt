@@ -6,6 +6,6 @@ use Rattle.refusals.proofs.value.Goals as goal
 pub returns : goal.returns
 unfolding said value_rows
 returns c q inside full =
-    let finite = more_finite _ _ c.is_finite32.ensures (one_finite _ c.is_finite64.ensures) in
-    rw (c.row.ensures, c.row-v-3.ensures, c.row-v-2.ensures, c.row-v.ensures, finite, c.is_negative64.ensures, inside, full)
+    let finite = more_finite _ _ c.is_finite.ensures (one_finite _ c.is_finite-2.ensures) in
+    rw (c.row.ensures, c.row-v-3.ensures, c.row-v-2.ensures, c.row-v.ensures, finite, c.is_negative.ensures, inside, full)
     (said_lowest (value_rows q c.args.value c.args.time))

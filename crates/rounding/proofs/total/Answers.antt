@@ -13,20 +13,20 @@ use Rattle.rounding.proofs.total.Goals as goal
 use Rattle.rounding.proofs.total.Goals.{Start}
 
 abbrev z : Start → ℕ
-z c = count_leading_zeros 64 c.args.m - 1
+z c = count_leading_zeros 64 c.args.a.m - 1
 
 abbrev x : Start → ℕ
-x c = c.args.m * 2 ^ z c
+x c = c.args.a.m * 2 ^ z c
 
 abbrev y : Start → ℕ
-y c = c.args.n * 2 ^ c.args.h
+y c = c.args.b.m * 2 ^ c.args.h
 
-at : (c : Start) → (1 ≤ count_leading_zeros 64 c.args.m) × (z c ≤ 62) × (2 ^ 62 ≤ x c) × (x c < 2 ^ 63)
-at c = lead_shift 62 1 c.args.m refl c.requires.0 c.requires.1
+at : (c : Start) → (1 ≤ count_leading_zeros 64 c.args.a.m) × (z c ≤ 62) × (2 ^ 62 ≤ x c) × (x c < 2 ^ 63)
+at c = lead_shift 62 1 c.args.a.m refl c.requires.0 c.requires.1
 
 -- nothing is shifted out
 x_kept : (c : Start) → x c % 2 ^ 64 ≡ x c
-x_kept c = lead_kept 62 1 c.args.m refl c.requires.0 c.requires.1
+x_kept c = lead_kept 62 1 c.args.a.m refl c.requires.0 c.requires.1
 
 y_kept : (c : Start) → y c % 2 ^ 64 ≡ y c
 y_kept c = mod-eq_of_lt (lt_of_lt_of_le c.requires.2 (lit≤ tt))
@@ -36,42 +36,37 @@ top true u e h k = omega arith
 top false u e h k = omega arith
 
 pub overflow_sub-z : goal.overflow_sub-z
-overflow_sub-z c = (at c).0
+overflow_sub-z c = (at (goal.at.overflow_sub-z c).Start).0
 
 pub overflow_cast-x : goal.overflow_cast-x
-overflow_cast-x c = omega (arith, (at c).1)
-
-pub overflow_shl-x : goal.overflow_shl-x
-overflow_shl-x c = omega (arith, (at c).1)
-
-pub overflow_cast-e : goal.overflow_cast-e
-overflow_cast-e c = omega (arith, (at c).1)
-
-pub overflow_sub-e : goal.overflow_sub-e
-overflow_sub-e c = omega (arith, (at c).1)
+overflow_cast-x c = omega (arith, (at (goal.at.overflow_cast-x c).Start).1)
 
 pub added-requires : goal.added-requires
-added-requires c = let a = c.before in rw (x_kept a, y_kept a) ((at a).3, c.requires.2, c.if-g-e.true, omega arith)
+added-requires c = let a = (goal.at.added-requires c).Start in rw (x_kept a, y_kept a) ((at a).3, c.requires.2, c.if-y-x.true, omega arith)
 
-pub added-requires-else-g-e : goal.added-requires-else-g-e
-added-requires-else-g-e c = let a = c.before in rw (x_kept a, y_kept a) (c.requires.2, (at a).3, le_of_lt c.if-g-e.false, omega arith)
+pub added-requires-else-y-x : goal.added-requires-else-y-x
+added-requires-else-y-x c = let a = (goal.at.added-requires-else-y-x c).Start in rw (x_kept a, y_kept a) (c.requires.2, (at a).3, le_of_lt c.if-y-x.false, omega arith)
 
-pub returns-then-g-e : goal.returns-then-g-e
-returns-then-g-e c =
-    let a = c.before.before in
-    let i = c.args in
+pub returns-then-y-x : goal.returns-then-y-x
+returns-then-y-x c =
+    let k = (goal.at.returns-then-y-x c).Start in
+    let a = c.args.a in
+    let b = c.args.b in
+    let h = c.args.h in
     let r = c.added.result in
-    let A : Added i.s (x a) (i.i + 64 - z a) i.t (y a) (i.j + 64 - i.h) r.neg r.d r.u = rw (x_kept a, y_kept a) at c.added.ensures in (
-      top (beq i.s i.t) r.u (i.i + 64 - z a) A.unit (omega arith),
-      λ f D p l o. sums_n f D i.m i.n (z a) i.i i.j i.h p (at a).2 (at a).3 c.requires.2 (at a).1 i.s i.t r.neg r.d r.u l c.if-g-e.true A,
+    let A : Added a.neg (x k) (a.j + 64 - z k) b.neg (y k) (b.j + 64 - h) r.neg r.m r.j = rw (x_kept k, y_kept k) at c.added.ensures in (
+      top (beq a.neg b.neg) r.j (a.j + 64 - z k) A.unit (omega arith),
+      λ f D p l o. sums_n f D a.m b.m (z k) a.j b.j h p (at k).2 (at k).3 c.requires.2 (at k).1 a.neg b.neg r.neg r.m r.j l c.if-y-x.true A,
     )
 
-pub returns-else-g-e : goal.returns-else-g-e
-returns-else-g-e c =
-    let a = c.before.before in
-    let i = c.args in
-    let r = c.added-else-g-e.result in
-    let A : Added i.t (y a) (i.j + 64 - i.h) i.s (x a) (i.i + 64 - z a) r.neg r.d r.u = rw (x_kept a, y_kept a) at c.added-else-g-e.ensures in (
-      top (beq i.t i.s) r.u (i.j + 64 - i.h) A.unit (omega arith),
-      λ f D p l o. sums_m f D i.m i.n (z a) i.i i.j i.h p (at a).2 (at a).3 c.requires.2 (at a).1 i.s i.t r.neg r.d r.u l c.if-g-e.false o A,
+pub returns-else-y-x : goal.returns-else-y-x
+returns-else-y-x c =
+    let k = (goal.at.returns-else-y-x c).Start in
+    let a = c.args.a in
+    let b = c.args.b in
+    let h = c.args.h in
+    let r = c.added-else-y-x.result in
+    let A : Added b.neg (y k) (b.j + 64 - h) a.neg (x k) (a.j + 64 - z k) r.neg r.m r.j = rw (x_kept k, y_kept k) at c.added-else-y-x.ensures in (
+      top (beq b.neg a.neg) r.j (b.j + 64 - h) A.unit (omega arith),
+      λ f D p l o. sums_m f D a.m b.m (z k) a.j b.j h p (at k).2 (at k).3 c.requires.2 (at k).1 a.neg b.neg r.neg r.m r.j l c.if-y-x.false o A,
     )

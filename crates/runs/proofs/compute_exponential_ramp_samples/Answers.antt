@@ -6,7 +6,7 @@ use Rattle.floats.proofs.Compared.{finite_of, finite_held}
 use Rattle.samples.specs.At.{exponential_at, exponential_over}
 use Rattle.samples.proofs.Once.{exponential_over_lem}
 use Rattle.runs.proofs.compute_exponential_ramp_samples.Goals as goal
-use Rattle.runs.proofs.compute_exponential_ramp_samples.Goals.{After-nearest_i64_to_f64-l, Start, Then-is_finite32}
+use Rattle.runs.proofs.compute_exponential_ramp_samples.Goals.{After-nearest_i64_to_f64-l, Start, Then-is_finite}
 
 -- with L as an f64, and as the whole number
 module _ (c : After-nearest_i64_to_f64-l) where
@@ -20,17 +20,17 @@ module _ (c : After-nearest_i64_to_f64-l) where
       (c.nearest_i64_to_f64-l.ensures ∙ ap (of_int binary64) (to_z-of_z s.ranges.log))
       ∙ rw (exponential_over_lem s.args.start_time s.args.duration s.args.start_value s.args.log)
 
-fine : (t : Then-is_finite32) → is_finite t.args.start_value ≡ true
-fine t = sym t.is_finite32.ensures ∙ t.if-is_finite32.true
+fine : (t : Then-is_finite) → is_finite t.args.start_value ≡ true
+fine t = sym t.is_finite.ensures ∙ t.if-is_finite.true
 
 pub float_to_float-from : goal.float_to_float-from
-float_to_float-from c = finite_held _ (subst T (sym c.well_formed.1.1.1.0.1) tt) (fine (goal.at.float_to_float-from c).Then-is_finite32)
+float_to_float-from c = finite_held _ (subst T (sym c.well_formed.1.1.1.0.1) tt) (fine (goal.at.float_to_float-from c).Then-is_finite)
 
 pub exponential_parts-requires : goal.exponential_parts-requires
-exponential_parts-requires c = finite_of _ (fine (goal.at.exponential_parts-requires c).Then-is_finite32)
+exponential_parts-requires c = finite_of _ (fine (goal.at.exponential_parts-requires c).Then-is_finite)
 
-pub returns-then-is_finite32 : goal.returns-then-is_finite32
-returns-then-is_finite32 c = c.exponential_parts.ensures ∙ overs (goal.at.returns-then-is_finite32 c).After-nearest_i64_to_f64-l
+pub returns-then-is_finite : goal.returns-then-is_finite
+returns-then-is_finite c = c.exponential_parts.ensures ∙ overs (goal.at.returns-then-is_finite c).After-nearest_i64_to_f64-l
 
 pub returns : goal.returns
 returns c = c.exponential_run.ensures ∙ overs (goal.at.returns c).After-nearest_i64_to_f64-l

@@ -8,4 +8,4 @@ overflow_sub-p c = omega arith
 
 pub returns : goal.returns
 returns c =
-    c.norm32.ensures ∙ rw c.falling_power.ensures (steps_norm c.args.p c.requires)
+    c.norm.ensures ∙ rw c.falling_power.ensures (steps_norm c.args.p c.requires)

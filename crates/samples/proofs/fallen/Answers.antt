@@ -10,4 +10,4 @@ returns-then-n-ge5033164800 c = far c.args.n c.if-n-ge5033164800.true
 
 pub returns : goal.returns
 returns c =
-    c.norm64.ensures ∙ rw c.falling_power.ensures (near c.args.n c.if-n-ge5033164800.false)
+    c.norm.ensures ∙ rw c.falling_power.ensures (near c.args.n c.if-n-ge5033164800.false)

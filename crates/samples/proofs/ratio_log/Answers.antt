@@ -47,13 +47,13 @@ returns-then-ratio c = log_zero c.args.ratio (subst T (sym c.well_formed.0.1) tt
 
 pub float_to_float-b : goal.float_to_float-b
 float_to_float-b c =
-    let f = c.is_finite32.ensures in
-    and_i (fits binary64 c.args.ratio) _ (fits_widens c.args.ratio (subst T (sym c.well_formed.0.1) tt)) (no_nan c.args.ratio (sym f ∙ c.if-is_finite32.true))
+    let f = c.is_finite.ensures in
+    and_i (fits binary64 c.args.ratio) _ (fits_widens c.args.ratio (subst T (sym c.well_formed.0.1) tt)) (no_nan c.args.ratio (sym f ∙ c.if-is_finite.true))
 
 pub float_to_bits-b : goal.float_to_bits-b
 float_to_bits-b c =
-    let f = c.is_finite32.ensures in
-    no_nan c.args.ratio (sym f ∙ c.if-is_finite32.true)
+    let f = c.is_finite.ensures in
+    no_nan c.args.ratio (sym f ∙ c.if-is_finite.true)
 
 pub overflow_add-l : goal.overflow_add-l
 overflow_add-l c = omega (arith, bounded c.args.ratio c.log.result c.log.ensures)
@@ -64,13 +64,13 @@ overflow_cast-result c = record { sfits = omega (arith, bounded c.args.ratio c.l
 pub overflow_sub-result : goal.overflow_sub-result
 overflow_sub-result c = fits_sub (field c.args.ratio * parts + c.log.result) (bounded c.args.ratio c.log.result c.log.ensures)
 
-pub returns-then-is_finite32 : goal.returns-then-is_finite32
+pub returns-then-is_finite : goal.returns-then-is_finite
 unfolding of_bits
-returns-then-is_finite32 c =
+returns-then-is_finite c =
     let x = c.args.ratio in
-    let f = c.is_finite32.ensures in
+    let f = c.is_finite.ensures in
     back (field x * parts + c.log.result) (bounded x c.log.result c.log.ensures)
-    ∙ rw c.log.ensures (log_of x (subst T (sym c.well_formed.0.1) tt) (sym f ∙ c.if-is_finite32.true) c.if-ratio.false)
+    ∙ rw c.log.ensures (log_of x (subst T (sym c.well_formed.0.1) tt) (sym f ∙ c.if-is_finite.true) c.if-ratio.false)
 
 pub returns : goal.returns
-returns c = log_none c.args.ratio (sym c.is_finite32.ensures ∙ c.if-is_finite32.false)
+returns c = log_none c.args.ratio (sym c.is_finite.ensures ∙ c.if-is_finite.false)

@@ -13,8 +13,8 @@ unfolding of_bits
 returns-then-n-ge4294967296 c = far_up c.args.n c.if-n-ge4294967296.true
 
 pub returns-then-f-eq0 : goal.returns-then-f-eq0
-returns-then-f-eq0 c = c.norm64.ensures ∙ rise_whole c.args.n c.if-n-ge4294967296.false c.if-f-eq0.true
+returns-then-f-eq0 c = c.norm.ensures ∙ rise_whole c.args.n c.if-n-ge4294967296.false c.if-f-eq0.true
 
 pub returns-else-f-eq0 : goal.returns-else-f-eq0
 returns-else-f-eq0 c =
-    c.norm64-else-f-eq0.ensures ∙ rw c.falling_power.ensures (rise_part c.args.n c.if-n-ge4294967296.false (omega arith))
+    c.norm-else-f-eq0.ensures ∙ rw c.falling_power.ensures (rise_part c.args.n c.if-n-ge4294967296.false (omega arith))

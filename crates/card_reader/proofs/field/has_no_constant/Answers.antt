@@ -17,7 +17,7 @@ double_at-requires c = target_room c.args.bytes.now c.requires.0.whole c.require
 pub returns-then-bytes-eq4 : goal.returns-then-bytes-eq4
 unfolding tag_of
 returns-then-bytes-eq4 c =
-    c.is_zero64.ensures ∙ ap is_zero c.double_at.ensures ∙ sym (constant_in c.args.bytes.now c.if-bytes-eq4.true)
+    c.is_zero.ensures ∙ ap is_zero c.double_at.ensures ∙ sym (constant_in c.args.bytes.now c.if-bytes-eq4.true)
 
 pub returns-else-bytes-eq4 : goal.returns-else-bytes-eq4
 unfolding tag_of

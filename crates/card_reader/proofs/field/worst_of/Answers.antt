@@ -11,10 +11,10 @@ use Rattle.card_reader.proofs.field.worst_of.Goals as goal
 pub loop-i-init : goal.loop-i-init
 loop-i-init c = let a = c.args in (omega arith, rw (mul-zero 4, add-zero a.at, sub-zero a.n))
 
-pub returns-then-not-is_finite32 : goal.returns-then-not-is_finite32
-returns-then-not-is_finite32 c =
+pub returns-then-not-is_finite : goal.returns-then-not-is_finite
+returns-then-not-is_finite c =
     let a = c.args in
-    let odd = found c.is_finite32.ensures c.if-not-is_finite32.true in
+    let odd = found c.is_finite.ensures c.if-not-is_finite.true in
     odd ∙ sym (c.loop-i.invariant.1 ∙ finite_not a.bytes.now a.at a.n c.loop-i.i (omega arith) (rw c.single_at-x.ensures at odd))
 
 pub loop-i-smaller : goal.loop-i-smaller
@@ -23,7 +23,7 @@ loop-i-smaller c = omega arith
 pub loop-i-preserved : goal.loop-i-preserved
 loop-i-preserved c =
     let a = c.args in
-    let fine = found c.is_finite32.ensures c.if-not-is_finite32.false in
+    let fine = found c.is_finite.ensures c.if-not-is_finite.false in
     (omega arith, c.loop-i.invariant.1 ∙ finite_turn a.bytes.now a.at a.n c.loop-i.i (omega arith) (rw c.single_at-x.ensures at fine))
 
 pub returns : goal.returns

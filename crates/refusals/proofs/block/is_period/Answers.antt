@@ -4,4 +4,4 @@ use Rattle.refusals.proofs.block.is_period.Goals as goal
 
 pub returns : goal.returns
 unfolding is_period
-returns c = rw (c.is_finite64.ensures, c.is_positive64.ensures)
+returns c = rw (c.is_finite.ensures, c.is_positive.ensures)

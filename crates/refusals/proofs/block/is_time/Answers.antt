@@ -4,4 +4,4 @@ use Rattle.refusals.proofs.block.is_time.Goals as goal
 
 pub returns : goal.returns
 unfolding is_time
-returns c = rw (c.is_finite64.ensures, c.is_negative64.ensures)
+returns c = rw (c.is_finite.ensures, c.is_negative.ensures)

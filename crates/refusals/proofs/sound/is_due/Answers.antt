@@ -2,4 +2,4 @@
 use Rattle.refusals.proofs.sound.is_due.Goals as goal
 
 pub returns : goal.returns
-returns c = rw c.is_finite64.ensures
+returns c = rw c.is_finite.ensures

@@ -4,4 +4,4 @@ use Rattle.refusals.proofs.sound.is_taken.Goals as goal
 
 pub returns : goal.returns
 unfolding is_taken
-returns c = rw (c.is_finite64.ensures, c.is_from_zero.ensures)
+returns c = rw (c.is_finite.ensures, c.is_from_zero.ensures)

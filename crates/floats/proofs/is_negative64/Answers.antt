@@ -1,9 +1,0 @@
--- `floats::is_negative64` meets its contract. Assumes nothing.
-use mathlib.Core.Path.{refl}
-use lib.Ieee.{of_bits}
-use Rattle.rules.specs.Numbers.{is_negative}
-use Rattle.floats.proofs.is_negative64.Goals as goal
-
-pub returns : goal.returns
-unfolding is_negative of_bits
-returns c = refl

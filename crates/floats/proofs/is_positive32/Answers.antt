@@ -1,9 +1,0 @@
--- `floats::is_positive32` meets its contract. Assumes nothing.
-use mathlib.Core.Path.{refl}
-use lib.Ieee.{of_bits}
-use Rattle.rules.specs.Numbers.{is_positive}
-use Rattle.floats.proofs.is_positive32.Goals as goal
-
-pub returns : goal.returns
-unfolding is_positive of_bits
-returns c = refl
