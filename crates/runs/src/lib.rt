@@ -9,7 +9,6 @@ ghost use Rattle.std.specs.Float.Ieee.Scale.{finite};
 ghost use Rattle.rules.specs.Numbers.{store_length, plus_zero, wide, run, fused};
 ghost use Rattle.rules.specs.Samples.{phase_of, curve_sample, log2e, decay};
 ghost use Rattle.rules.specs.Walk.{from_start};
-ghost use Rattle.powers.specs.Estimates.{estimates};
 ghost use Rattle.phases.specs.Once.{Once, Within, Served};
 ghost use Rattle.samples.specs.At.{linear_at, exponential_at, exponential_over, target_at};
 ghost use Rattle.decays.specs.Cell.{Lifts, Middle};
@@ -390,8 +389,8 @@ fn shown_at<F: Fn(f64) -> u64 + Copy>(
 }
 
 // The second pass: the estimate of each factor, and whether each tells.
-fn growths_by(ns: &mut [u64], bs: &[u64], table: &[u32; 768]) -> bool
-    requires as_many { (length ns.old ≡ length bs.now) × (table.now ≡ estimates) }
+fn growths_by(ns: &mut [u64], bs: &[u64]) -> bool
+    requires as_many { length ns.old ≡ length bs.now }
     requires by_index { Each (λ k b. InLifts b) (length bs.now) bs.now }
     ensures { Maps (λ b n. InGrown n × (result ≡ true → Grows b n)) bs.now ns.new }
 {
@@ -400,7 +399,7 @@ fn growths_by(ns: &mut [u64], bs: &[u64], table: &[u32; 768]) -> bool
         if *b / 0x4_0000 % 16777216 == 0 {
             all = false;
         }
-        ns[i] = decays::grown_of(table, *b);
+        ns[i] = decays::grown_of(*b);
     }
     all
 }
@@ -464,7 +463,6 @@ fn is_middle(from: f64) -> bool
 // An exponential ramp's run by these passes, where all is seen.
 fn exponential_told(
     out: &mut [f32],
-    table: &[u32; 768],
     start_time: f64,
     duration: f64,
     from: f64,
@@ -472,7 +470,7 @@ fn exponential_told(
     time: f64,
     dt: f64,
 ) -> bool
-    requires { (length out.old ≤ 128) × (table.now ≡ estimates) × T (finite from) }
+    requires { (length out.old ≤ 128) × T (finite from) }
     ensures { result ≡ true → out.new ≡ run (exponential_over start_time duration «from» l) dt (length out.old) time }
 {
     if !is_middle(from) {
@@ -486,7 +484,7 @@ fn exponential_told(
     }
     let mut ns = [0u64; 128];
     let ns = &mut ns[..n];
-    if !growths_by(ns, bs, table) {
+    if !growths_by(ns, bs) {
         return false;
     }
     let mut hs = [0u64; 128];
@@ -497,19 +495,13 @@ fn exponential_told(
     let mut slow = [0usize; 128];
     let slow = &mut slow[..n];
     let count = unsure_of(slow, hs, ls);
-    settle(
-        out,
-        &slow[..count],
-        bs,
-        |b| decays::grown_exact(table, from, b),
-    );
+    settle(out, &slow[..count], bs, |b| decays::grown_exact(from, b));
     true
 }
 
 // Where not all is seen: each sample by itself.
 fn exponential_each(
     out: &mut [f32],
-    table: &[u32; 768],
     start_time: f64,
     duration: f64,
     from: f64,
@@ -517,18 +509,17 @@ fn exponential_each(
     time: f64,
     dt: f64,
 )
-    requires { (table.now ≡ estimates) × T (finite from) }
+    requires { T (finite from) }
     ensures { out.new ≡ run (exponential_over start_time duration «from» l) dt (length out.old) time }
 {
     at_times(out, time, dt, |t| {
-        decays::grown_at(table, from, l * ((t - start_time) / duration))
+        decays::grown_at(from, l * ((t - start_time) / duration))
     });
 }
 
 // By these passes, which are not worth their arrays for a few samples, or else each sample by itself.
 fn exponential_rest(
     out: &mut [f32],
-    table: &[u32; 768],
     start_time: f64,
     duration: f64,
     from: f64,
@@ -536,20 +527,21 @@ fn exponential_rest(
     time: f64,
     dt: f64,
 )
-    requires { (length out.old ≤ 128) × (table.now ≡ estimates) × T (finite from) }
+    requires { (length out.old ≤ 128) × T (finite from) }
     ensures { out.new ≡ run (exponential_over start_time duration «from» l) dt (length out.old) time }
 {
     if out.len() < 16 {
-        exponential_each(out, table, start_time, duration, from, l, time, dt);
+        exponential_each(out, start_time, duration, from, l, time, dt);
         return;
     }
-    if exponential_told(out, table, start_time, duration, from, l, time, dt) {
+    if exponential_told(out, start_time, duration, from, l, time, dt) {
         return;
     }
-    exponential_each(out, table, start_time, duration, from, l, time, dt);
+    exponential_each(out, start_time, duration, from, l, time, dt);
 }
 
-// A sample at the start itself, whose x is 0 and shows nothing, is taken alone.
+// A sample at the start itself, whose x is 0 and shows nothing, is taken alone. A function of its own: put into the walk's loop it would slow down every head.
+#[inline(never)]
 fn exponential_finite(
     out: &mut [f32],
     start_time: f64,
@@ -562,25 +554,15 @@ fn exponential_finite(
     requires { (length out.old ≤ 128) × T (finite from) }
     ensures { out.new ≡ run (exponential_over start_time duration «from» l) dt (length out.old) time }
 {
-    let table = powers::table();
     if out.len() > 0 {
         if time == start_time {
-            out[0] = decays::grown_at(&table, from, l * ((time - start_time) / duration));
+            out[0] = decays::grown_at(from, l * ((time - start_time) / duration));
             let next = time + dt;
-            exponential_rest(
-                &mut out[1..],
-                &table,
-                start_time,
-                duration,
-                from,
-                l,
-                next,
-                dt,
-            );
+            exponential_rest(&mut out[1..], start_time, duration, from, l, next, dt);
             return;
         }
     }
-    exponential_rest(out, &table, start_time, duration, from, l, time, dt);
+    exponential_rest(out, start_time, duration, from, l, time, dt);
 }
 
 // The time 128 places on.
@@ -595,7 +577,7 @@ fn part_later(time: f64, dt: f64) -> f64
     t
 }
 
-// By parts of up to 128. Called from two places a part stays a function of its own: put into the walk's loop it would slow down every head.
+// By parts of up to 128.
 fn exponential_parts(
     out: &mut [f32],
     start: f64,
@@ -711,14 +693,14 @@ fn placed(x: f64, few: u64, top: f64) -> u64
 }
 
 // The second pass of a target: what shows each factor but for those in `slow`; how many these are is given back. Nothing is chosen by a branch, which a processor would have to foresee.
-fn tell(us: &mut [u64], slow: &mut [usize], bs: &[u64], table: &[u32; 768]) -> usize
-    requires as_many { (length us.old ≡ length bs.now) × (length slow.old ≡ length bs.now) × (table.now ≡ estimates) }
+fn tell(us: &mut [u64], slow: &mut [usize], bs: &[u64]) -> usize
+    requires as_many { (length us.old ≡ length bs.now) × (length slow.old ≡ length bs.now) }
     requires by_index { Each (λ k b. Steps b) (length bs.now) bs.now }
     ensures { (result ≤ length bs.now) × ((j : ℕ) → j < result → slice_index slow.new j < length bs.now) × ((k : ℕ) → k < length bs.now → Shows (slice_index bs.now k) (slice_index us.new k) ⊎ Listed slow.new 0 result k) }
 {
     let mut count = 0usize;
     for (i, b) in bs.iter().enumerate() {
-        let u = decays::near_of(table, *b);
+        let u = decays::near_of(*b);
         slow[count] = i;
         if u % 256 > 234 {
             count += 1;
@@ -750,7 +732,6 @@ fn steps_of(few: u64) -> f64
 // A target's samples by these passes, where all steps are seen and factors halve `few` times at most; `exact` says that sums are exact down to there.
 fn target_shown(
     out: &mut [f32],
-    table: &[u32; 768],
     start: f64,
     constant: f64,
     c: f64,
@@ -760,7 +741,7 @@ fn target_shown(
     time: f64,
     dt: f64,
 ) -> bool
-    requires out_len_bound { (length out.old ≤ 128) × (table.now ≡ estimates) × (few ≤ 124) × (exact ≡ true → Once a c ((1022 - few) * 2 ^ 52)) }
+    requires out_len_bound { (length out.old ≤ 128) × (few ≤ 124) × (exact ≡ true → Once a c ((1022 - few) * 2 ^ 52)) }
     requires t { T (fits binary32 a) × T (fits binary32 c) × T (finite a) × T (finite c) }
     ensures { result ≡ true → out.new ≡ run (target_at start constant c a) dt (length out.old) time }
 {
@@ -775,8 +756,8 @@ fn target_shown(
     let us = &mut us[..n];
     let mut slow = [0usize; 128];
     let slow = &mut slow[..n];
-    let count = tell(us, slow, bs, table);
-    settle(us, &slow[..count], bs, |b| decays::exact_of(table, b));
+    let count = tell(us, slow, bs);
+    settle(us, &slow[..count], bs, |b| decays::exact_of(b));
     if exact {
         // sums of which nothing is left to test
         faded(out, us, bs, |x| phases::sum_once(a, x, c));
@@ -789,7 +770,6 @@ fn target_shown(
 // The same from behind the start on, for sixteen samples at least.
 fn target_told(
     out: &mut [f32],
-    table: &[u32; 768],
     start_time: f64,
     constant: f64,
     c: f64,
@@ -797,7 +777,7 @@ fn target_told(
     time: f64,
     dt: f64,
 ) -> bool
-    requires out_len_bound { (length out.old ≤ 128) × (table.now ≡ estimates) }
+    requires out_len_bound { (length out.old ≤ 128) }
     requires t { T (fits binary32 a) × T (fits binary32 c) × T (finite a) × T (finite c) }
     ensures { result ≡ true → (v : Float) → out.new ≡ run (from_start start_time v (target_at start_time constant c a)) dt (length out.old) time }
 {
@@ -807,7 +787,7 @@ fn target_told(
             if start_time < time {
                 let few = few_from(b, (time - start_time + dt * 128.0) / constant);
                 let exact = few + b == 1022;
-                return target_shown(out, table, start_time, constant, c, a, few, exact, time, dt);
+                return target_shown(out, start_time, constant, c, a, few, exact, time, dt);
             }
         }
     }
@@ -815,16 +795,7 @@ fn target_told(
 }
 
 // A target's value at a time by the table, or the intrinsic value before the start.
-fn target_by(
-    table: &[u32; 768],
-    start_time: f64,
-    constant: f64,
-    c: f64,
-    a: f64,
-    intrinsic: f32,
-    time: f64,
-) -> f32
-    requires table_value { table.now ≡ estimates }
+fn target_by(start_time: f64, constant: f64, c: f64, a: f64, intrinsic: f32, time: f64) -> f32
     requires t { T (fits binary32 a) × T (fits binary32 c) × T (finite a) × T (finite c) }
     ensures { result ≡ from_start start_time intrinsic (target_at start_time constant c a) time }
 {
@@ -832,14 +803,13 @@ fn target_by(
         return intrinsic;
     }
     let x = (time - start_time) / constant;
-    let f = decays::decay_at(table, x * 1.4426950408889634);
+    let f = decays::decay_at(x * 1.4426950408889634);
     rounding::fused_wide(a, f, c)
 }
 
 // Where not all steps are seen: each sample by itself.
 fn target_each(
     out: &mut [f32],
-    table: &[u32; 768],
     start_time: f64,
     constant: f64,
     c: f64,
@@ -848,19 +818,17 @@ fn target_each(
     time: f64,
     dt: f64,
 )
-    requires table_value { table.now ≡ estimates }
     requires t { T (fits binary32 a) × T (fits binary32 c) × T (finite a) × T (finite c) }
     ensures { out.new ≡ run (from_start start_time intrinsic (target_at start_time constant c a)) dt (length out.old) time }
 {
     at_times(out, time, dt, |t| {
-        target_by(table, start_time, constant, c, a, intrinsic, t)
+        target_by(start_time, constant, c, a, intrinsic, t)
     });
 }
 
 // By the passes, or else each sample by itself.
 fn target_rest(
     out: &mut [f32],
-    table: &[u32; 768],
     start_time: f64,
     constant: f64,
     c: f64,
@@ -869,64 +837,50 @@ fn target_rest(
     time: f64,
     dt: f64,
 )
-    requires out_len_bound { (length out.old ≤ 128) × (table.now ≡ estimates) }
+    requires out_len_bound { (length out.old ≤ 128) }
     requires t { T (fits binary32 a) × T (fits binary32 c) × T (finite a) × T (finite c) }
     ensures { out.new ≡ run (from_start start_time intrinsic (target_at start_time constant c a)) dt (length out.old) time }
 {
-    if target_told(out, table, start_time, constant, c, a, time, dt) {
+    if target_told(out, start_time, constant, c, a, time, dt) {
         return;
     }
-    target_each(out, table, start_time, constant, c, a, intrinsic, time, dt);
+    target_each(out, start_time, constant, c, a, intrinsic, time, dt);
 }
 
-// A target's run of up to 128 places, and its value at `end_time`. A sample at the start itself, which shows no steps, is taken alone.
+// A target's run of up to 128 places. A sample at the start itself, which shows no steps, is taken alone.
+#[inline(never)]
 fn target_finite(
     out: &mut [f32],
     start_time: f64,
-    time_constant: f64,
+    constant: f64,
     c: f64,
     a: f64,
     intrinsic: f32,
     time: f64,
     dt: f64,
-    end_time: f64,
-) -> f32
+)
     requires out_len_bound { length out.old ≤ 128 }
     requires t { T (fits binary32 a) × T (fits binary32 c) × T (finite a) × T (finite c) }
-    ensures { (out.new ≡ run (from_start start_time intrinsic (target_at start_time time_constant c a)) dt (length out.old) time) × (result ≡ from_start start_time intrinsic (target_at start_time time_constant c a) end_time) }
+    ensures { out.new ≡ run (from_start start_time intrinsic (target_at start_time constant c a)) dt (length out.old) time }
 {
-    let table = powers::table();
-    let value = target_by(&table, start_time, time_constant, c, a, intrinsic, end_time);
     if out.len() > 0 {
         if time == start_time {
-            out[0] = target_by(&table, start_time, time_constant, c, a, intrinsic, time);
+            out[0] = target_by(start_time, constant, c, a, intrinsic, time);
             let next = time + dt;
             target_rest(
                 &mut out[1..],
-                &table,
                 start_time,
-                time_constant,
+                constant,
                 c,
                 a,
                 intrinsic,
                 next,
                 dt,
             );
-            return value;
+            return;
         }
     }
-    target_rest(
-        out,
-        &table,
-        start_time,
-        time_constant,
-        c,
-        a,
-        intrinsic,
-        time,
-        dt,
-    );
-    value
+    target_rest(out, start_time, constant, c, a, intrinsic, time, dt);
 }
 
 // By parts, as those of an exponential ramp.
@@ -939,10 +893,9 @@ fn target_parts(
     intrinsic: f32,
     time: f64,
     dt: f64,
-    end: f64,
-) -> f32
+)
     requires { T (fits binary32 a) × T (fits binary32 c) × T (finite a) × T (finite c) }
-    ensures { (out.new ≡ run (from_start start intrinsic (target_at start constant c a)) dt (length out.old) time) × (result ≡ from_start start intrinsic (target_at start constant c a) end) }
+    ensures { out.new ≡ run (from_start start intrinsic (target_at start constant c a)) dt (length out.old) time }
 {
     let before = out.len().saturating_sub(1) / 128;
     let mut t = time;
@@ -958,25 +911,14 @@ fn target_parts(
             intrinsic,
             t,
             dt,
-            end,
         );
         t = next;
     }
     let last = before * 128;
-    target_finite(
-        &mut out[last..],
-        start,
-        constant,
-        c,
-        a,
-        intrinsic,
-        t,
-        dt,
-        end,
-    )
+    target_finite(&mut out[last..], start, constant, c, a, intrinsic, t, dt);
 }
 
-// A target's run, and its value at `end`: the table is at hand for both.
+// A target's run, and its value at `end`.
 pub fn compute_set_target_samples(
     out: &mut [f32],
     start: f64,
@@ -994,7 +936,8 @@ pub fn compute_set_target_samples(
         if floats::is_finite(diff) {
             let c = target as f64;
             let a = diff as f64;
-            return target_parts(out, start, constant, c, a, intrinsic, time, dt, end);
+            target_parts(out, start, constant, c, a, intrinsic, time, dt);
+            return target_by(start, constant, c, a, intrinsic, end);
         }
     }
     target_run(out, start, constant, target, diff, intrinsic, time, dt);

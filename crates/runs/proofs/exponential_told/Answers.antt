@@ -19,7 +19,7 @@ module _ (u : After-cells_of) where
   size = length u.args.out.now
 
   fit : T (fits binary64 u.args.«from»)
-  fit = subst T (sym u.well_formed.1.1.1.1.0.1) tt
+  fit = subst T (sym u.well_formed.1.1.1.0.1) tt
 
   middle : Middle u.args.«from»
   middle = u.is_middle.ensures u.if-not-is_middle.false

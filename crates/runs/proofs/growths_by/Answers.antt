@@ -9,7 +9,7 @@ pub loop-i-preserved : goal.loop-i-preserved
 loop-i-preserved c =
     let l = c.loop-i in
     let bs = c.args.bs.now in
-    let some : l.i < length l.ns = omega (arith, l.auto.ns, c.requires.as_many.0, c.loop-i-test.true) in
+    let some : l.i < length l.ns = omega (arith, l.auto.ns, c.requires.as_many, c.loop-i-test.true) in
     record {
       each = one_each (λ k n. InGrown n) l.invariant.each some c.grown_of.result (c.grown_of.ensures.0, c.grown_of.ensures.1);
       told = elim c.if-b-eq0.branch [

@@ -54,13 +54,13 @@ module _ (z : After-settle) where
   samples out e h =
       let a = z.args in
       run_told (target_at a.start a.constant a.«c» a.a) a.dt n a.time out e
-      (λ k m. h k m ∙ ap (λ (x : Float). fused binary32 a.a x a.«c») (factor_shown a.few _ (b k) z.requires.out_len_bound.2 (place k m) (u k) (shows k m)))
+      (λ k m. h k m ∙ ap (λ (x : Float). fused binary32 a.a x a.«c») (factor_shown a.few _ (b k) z.requires.out_len_bound.1 (place k m) (u k) (shows k m)))
 
 pub faded-requires-clause-factors : goal.faded-requires-clause-factors
 faded-requires-clause-factors c = λ k h.
     let z = (goal.at.faded-requires-clause-factors c).After-settle in
     let p = c.requires.out_len_bound in
-    (factor c.args.few _ (b z k) p.2 (place z k h) (u z k) (shows z k h), λ l r x v. (c.requires.t, served c.args.few _ (b z k) p.2 (place z k h) (u z k) (shows z k h) _ _ (p.3 c.if-exact.true)))
+    (factor c.args.few _ (b z k) p.1 (place z k h) (u z k) (shows z k h), λ l r x v. (c.requires.t, served c.args.few _ (b z k) p.1 (place z k h) (u z k) (shows z k h) _ _ (p.2 c.if-exact.true)))
 
 pub returns-then-exact : goal.returns-then-exact
 returns-then-exact c = λ t. let z = (goal.at.returns-then-exact c).After-settle in samples z c.faded.new.out c.faded.auto.out (λ k h. let p = c.faded.ensures.at k nan h in search rules)
@@ -69,7 +69,7 @@ pub faded-requires-2-clause-factors : goal.faded-requires-2-clause-factors
 faded-requires-2-clause-factors c = λ k h.
     let z = (goal.at.faded-requires-2-clause-factors c).After-settle in
     let t = c.requires.t in
-    let f = factor c.args.few _ (b z k) c.requires.out_len_bound.2 (place z k h) (u z k) (shows z k h) in
+    let f = factor c.args.few _ (b z k) c.requires.out_len_bound.1 (place z k h) (u z k) (shows z k h) in
     (f, λ l r x v. ((t.0, f.fit, t.1), (finite_no_nan _ t.2, no_nan f, finite_no_nan _ t.3)))
 
 pub returns : goal.returns
