@@ -4,6 +4,8 @@ use mathlib.Core.Path.{◌≡◌, refl, sym, ap, ◌∙◌}
 use mathlib.Core.Bool.{Bool, true, false, cond, ◌||◌}
 use mathlib.Core.List.{List, [], ◌∷◌}
 use Prim.Native.Nat.{ℕ}
+use Rattle.std.specs.Prelude.{Option, None, Some}
+use Rattle.std.specs.Option.{option_or}
 use lib.Ieee.{Float}
 use Rattle.rules.specs.declared.Event.{Event}
 use Rattle.rules.specs.Numbers.{taken_time}
@@ -14,7 +16,17 @@ use Rattle.timeline.specs.Timeline.{first_of}
 use Rattle.timeline.proofs.Steps.{first_is, any_find}
 use Rattle.calls.specs.declared.Call.{Call}
 use Rattle.clashes.specs.declared.Clash.{Clash}
-use Rattle.clashes.specs.Clashes.{span_of, curve_in, event_in, or_else, covered_by, holding, clash_of}
+use Rattle.clashes.specs.Clashes.{span_of, curve_in, event_in, covered_by, holding, clash_of}
+
+-- ---- no other event than a curve has a span
+
+pub no_span : (e : Event) → ((s d : Float) (n : ℕ) (h : _) → e ≡ Event.Curve s d n h → ⊥) → None ≡ span_of e
+unfolding span_of
+no_span (Event.Step v t) curve = refl
+no_span (Event.Linear v t h) curve = refl
+no_span (Event.Exponential v t h) curve = refl
+no_span (Event.Target v t c h) curve = refl
+no_span (Event.Curve s d n h) curve = absurd (curve s d n h refl)
 
 -- ---- the calls that are not refused by 11
 
@@ -26,7 +38,7 @@ pub no_clash : (q : List Event) (call : Call)
     → ((v t : Float) → call ≡ Call.Exponential v t → ⊥)
     → ((v t c : Float) → call ≡ Call.Target v t c → ⊥)
     → ((t d : Float) (n : ℕ) → call ≡ Call.Curve t d n → ⊥)
-    → Clash.None ≡ clash_of q call
+    → None ≡ clash_of q call
 unfolding clash_of
 no_clash q Call.Nothing set step linear exponential target curve = refl
 no_clash q Call.Unread set step linear exponential target curve = refl
@@ -48,10 +60,9 @@ no_clash q (Call.Load part n rate edition) set step linear exponential target cu
 
 -- ---- the others: whether something is in the way
 
-unfoldable pub is_clash : Clash → Bool
-is_clash Clash.None = false
-is_clash (Clash.Curve s e) = true
-is_clash (Clash.Event t) = true
+unfoldable pub is_clash : Option Clash → Bool
+is_clash None = false
+is_clash (Some clash) = true
 
 -- the first event that has t inside is a curve
 first_is_curve : (t : Float) (q : List Event) → is_clash (curve_in (first_of (those (covers t) q))) ≡ any (covers t) q
@@ -84,14 +95,13 @@ event_inside q t d =
     let test : Event → Bool = is_filed_inside (taken_time t) (curve_end (taken_time t) d None) in
     event_is_some (first_of (those test q)) ∙ ap is_some (sym (first_is test q)) ∙ any_find test q
 
-either : (a b : Clash) → is_clash (or_else a b) ≡ (is_clash a || is_clash b)
-unfolding is_clash or_else
-either Clash.None b = refl
-either (Clash.Curve s e) b = refl
-either (Clash.Event t) b = refl
+either : (a b : Option Clash) → is_clash (option_or a b) ≡ (is_clash a || is_clash b)
+unfolding is_clash
+either None b = refl
+either (Some clash) b = refl
 
 -- of a curve: the test of its row
-pub curve_clashes : (q : List Event) (t d : Float) → is_clash (or_else (covered_by q t) (holding q t d)) ≡ is_crossed q (taken_time t) d
+pub curve_clashes : (q : List Event) (t d : Float) → is_clash (option_or (covered_by q t) (holding q t d)) ≡ is_crossed q (taken_time t) d
 unfolding is_crossed
 curve_clashes q t d =
     either (covered_by q t) (holding q t d) ∙ rw (event_clashes q t, event_inside q t d)

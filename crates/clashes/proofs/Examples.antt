@@ -15,7 +15,7 @@ use Rattle.calls.specs.declared.Call.{Call}
 use Rattle.decimal.specs.Codes.{codes}
 use Rattle.decimal.specs.Shown.{millionths, shown_as, shown, sign_text, places_text, shown_text, text_of, plain_text}
 use Rattle.replies.specs.Plain.{table, meaning_in}
-use Rattle.clashes.specs.Clashes.{span_of, curve_in, event_in, or_else, covered_by, holding, clash_of, clash_text}
+use Rattle.clashes.specs.Clashes.{span_of, curve_in, event_in, covered_by, holding, clash_of, clash_text}
 
 -- a time by its bits
 abbrev time : ℕ → Float
@@ -39,5 +39,5 @@ pub examples :
     × Says (Call.Curve (time 0x4018000000000000) (time 0x4000000000000000) 2) ": the event at 7 would be inside this curve"
     × Says (Call.Curve (time 0x4020000000000000) (time 0x4008000000000000) 2) ": the event at 10 would be inside this curve"
     × Says (Call.Step plus_zero (time 0x4018000000000000)) ": inside a waiting curve, or with a waiting event inside"
-unfolding clash_text clash_of covered_by holding or_else curve_in event_in span_of first_of those covers is_filed_inside is_inside curve_end hold_or filed_under taken_time is_zero table meaning_in plain_text text_of shown_text places_text sign_text shown shown_as millionths digits_of glyph_of decimal_of places_of float_text round of_bits to_bits add le lt eq
+unfolding clash_text clash_of covered_by holding curve_in event_in span_of first_of those covers is_filed_inside is_inside curve_end hold_or filed_under taken_time is_zero table meaning_in plain_text text_of shown_text places_text sign_text shown shown_as millionths digits_of glyph_of decimal_of places_of float_text round of_bits to_bits add le lt eq
 examples = (refl, refl, refl, refl, refl, refl)

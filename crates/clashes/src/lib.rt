@@ -5,7 +5,7 @@ ghost use Rattle.std.specs.Prelude.{◌≡◌, ◌+◌, ◌≤◌, length};
 ghost use Rattle.text.specs.Put.{Put};
 ghost use Rattle.timeline.specs.Timeline.{waiting, Neat};
 ghost use Rattle.clashes.specs.declared.Clash.TheVariants as Clash;
-ghost use Rattle.clashes.specs.Clashes.{span_of, curve_in, event_in, or_else, covered_by, clash_of, clash_text};
+ghost use Rattle.clashes.specs.Clashes.{span_of, curve_in, event_in, covered_by, clash_of, clash_text};
 ghost use Rattle.clashes.specs.Clashes as rule;
 
 use calls::Call;
@@ -19,64 +19,54 @@ use timeline::{AudioParamEventTimeline, curve_end, filed_under};
 // What is in the way: a curve, from its start to its end, or an event, by the time that it is filed under.
 #[derive(Clone, Copy)]
 pub enum Clash {
-    None,
     Curve { start: f64, end: f64 },
     Event { time: f64 },
 }
 
-// A curve, from its start to its end.
-fn span_of(e: Event) -> Clash
+// A curve, from its start to its end; no other event has times inside.
+#[tactic(auto, unfolding(crate::specs::Clashes::span_of))]
+fn span_of(e: Event) -> Option<Clash>
     ensures { result ≡ span_of e }
 {
     match e {
-        Event::Step { .. } => Clash::None,
-        Event::Linear { .. } => Clash::None,
-        Event::Exponential { .. } => Clash::None,
-        Event::Target { .. } => Clash::None,
         Event::Curve {
             start,
             duration,
             hold,
             ..
-        } => Clash::Curve {
+        } => Some(Clash::Curve {
             start,
             end: curve_end(start, duration, hold),
-        },
+        }),
+        _ => None,
     }
 }
 
-fn curve_in(head: Option<Event>) -> Clash
+#[tactic(auto, unfolding(crate::specs::Clashes::curve_in))]
+fn curve_in(head: Option<Event>) -> Option<Clash>
     ensures { result ≡ curve_in head }
 {
     match head {
-        None => Clash::None,
+        None => None,
         Some(e) => span_of(e),
     }
 }
 
-fn event_in(head: Option<Event>) -> Clash
+#[tactic(auto, unfolding(crate::specs::Clashes::event_in))]
+fn event_in(head: Option<Event>) -> Option<Clash>
     ensures { result ≡ event_in head }
 {
     match head {
-        None => Clash::None,
-        Some(e) => Clash::Event {
+        None => None,
+        Some(e) => Some(Clash::Event {
             time: filed_under(e),
-        },
-    }
-}
-
-fn or_else(clash: Clash, other: Clash) -> Clash
-    ensures { result ≡ or_else clash other }
-{
-    match clash {
-        Clash::None => other,
-        Clash::Curve { .. } => clash,
-        Clash::Event { .. } => clash,
+        }),
     }
 }
 
 // The first waiting curve inside which the time lies.
-fn covered_by(q: AudioParamEventTimeline, time: f64) -> Clash
+#[tactic(auto, unfolding(crate::specs::Clashes::covered_by))]
+fn covered_by(q: AudioParamEventTimeline, time: f64) -> Option<Clash>
     requires { Neat q }
     ensures { result ≡ covered_by (waiting q) time }
 {
@@ -84,7 +74,8 @@ fn covered_by(q: AudioParamEventTimeline, time: f64) -> Clash
 }
 
 // The first waiting event that a curve would hold.
-fn holding(q: AudioParamEventTimeline, time: f64, duration: f64) -> Clash
+#[tactic(auto, unfolding(crate::specs::Clashes::holding))]
+fn holding(q: AudioParamEventTimeline, time: f64, duration: f64) -> Option<Clash>
     requires { Neat q }
     ensures { result ≡ rule.holding (waiting q) time duration }
 {
@@ -94,7 +85,7 @@ fn holding(q: AudioParamEventTimeline, time: f64, duration: f64) -> Clash
 }
 
 // What the call runs into, these events waiting.
-pub fn clash_of(q: AudioParamEventTimeline, call: Call) -> Clash
+pub fn clash_of(q: AudioParamEventTimeline, call: Call) -> Option<Clash>
     requires { Neat q }
     ensures { result ≡ clash_of (waiting q) call }
 {
@@ -108,15 +99,15 @@ pub fn clash_of(q: AudioParamEventTimeline, call: Call) -> Clash
             start,
             duration,
             ..
-        } => or_else(covered_by(q, start), holding(q, start, duration)),
+        } => covered_by(q, start).or(holding(q, start, duration)),
         // no other call is refused by 11
-        _ => Clash::None,
+        _ => None,
     }
 }
 
 fn put_span(out: &mut [u8], at: usize, start: f64, end: f64) -> usize
     requires { at + 90 ≤ length out.old }
-    ensures put { Put out.old at (clash_text (Clash.Curve start end)) out.new result }
+    ensures put { Put out.old at (clash_text (Some (Clash.Curve start end))) out.new result }
     ensures upper_bound { result ≤ at + 90 }
 {
     let to = put_word(out, at, b": inside the curve from ");
@@ -127,7 +118,7 @@ fn put_span(out: &mut [u8], at: usize, start: f64, end: f64) -> usize
 
 fn put_held(out: &mut [u8], at: usize, time: f64) -> usize
     requires { at + 90 ≤ length out.old }
-    ensures put { Put out.old at (clash_text (Clash.Event time)) out.new result }
+    ensures put { Put out.old at (clash_text (Some (Clash.Event time))) out.new result }
     ensures upper_bound { result ≤ at + 90 }
 {
     let to = put_word(out, at, b": the event at ");
@@ -136,14 +127,15 @@ fn put_held(out: &mut [u8], at: usize, time: f64) -> usize
 }
 
 // What stands behind `refused 11`.
-pub fn put_clash(out: &mut [u8], at: usize, clash: Clash) -> usize
+#[tactic(auto, unfolding(crate::specs::Clashes::clash_text))]
+pub fn put_clash(out: &mut [u8], at: usize, clash: Option<Clash>) -> usize
     requires { at + 90 ≤ length out.old }
     ensures put { Put out.old at (clash_text clash) out.new result }
     ensures upper_bound { result ≤ at + 90 }
 {
     match clash {
-        Clash::None => put_meaning(out, at, 11),
-        Clash::Curve { start, end } => put_span(out, at, start, end),
-        Clash::Event { time } => put_held(out, at, time),
+        None => put_meaning(out, at, 11),
+        Some(Clash::Curve { start, end }) => put_span(out, at, start, end),
+        Some(Clash::Event { time }) => put_held(out, at, time),
     }
 }

@@ -8,6 +8,7 @@ use native.Mathlib.Omega.{arith}
 use lib.ListN.{length, take, drop, length-append}
 use lib.Seq.{take_at}
 use lib.Ieee.{Float}
+use Rattle.std.specs.Prelude as Prelude
 use Rattle.rules.specs.declared.Event.{Event}
 use Rattle.text.specs.Put.{put, Put}
 use Rattle.text.specs.Words.{same_word}
@@ -44,7 +45,7 @@ module _ (line : List ℕ) {d : Desk} {s : List Float} {l : List ℕ} {r : Answe
       ap (take (r.next - 1)) (written.bytes ∙ append_assoc answer (10 ∷ []) (drop (0 + length (answer ++ (10 ∷ []))) l))
       ∙ take_at answer _ (r.next - 1) (omega (arith, long))
 
-  pub for_a_person : (n : ℕ) {clash : Clash} → clash ≡ clash_in (param_of d.param).queue (call_of line)
+  pub for_a_person : (n : ℕ) {clash : Prelude.Option Clash} → clash ≡ clash_in (param_of d.param).queue (call_of line)
       → {out out₁ out₂ : List ℕ} {at to next : ℕ} → Put out at (told n clash (take (r.next - 1) l')) out₁ to → to ≤ length out → Put out₁ to (10 ∷ []) out₂ next → next ≤ at + 168200
       → Spoken 168200 (with_newline (strict_turn n line)) d s out at (record { desk = r.desk; next = next }) s' out₂
   unfolding line_turn with_newline strict_turn
@@ -54,14 +55,14 @@ module _ (line : List ℕ) {d : Desk} {s : List Float} {l : List ℕ} {r : Answe
         lent = spoken.lent;
         store = spoken.store;
         totals = spoken.totals;
-        text = put_then (put_same (ap (λ (x : Clash). told n x (take (r.next - 1) l')) e ∙ ap (told n (clash_in (param_of d.param).queue (call_of line))) is_answer) p) q h;
+        text = put_then (put_same (ap (λ (x : Prelude.Option Clash). told n x (take (r.next - 1) l')) e ∙ ap (told n (clash_in (param_of d.param).queue (call_of line))) is_answer) p) q h;
         sound = spoken.sound;
         room = near;
       }
 
 -- ---- what is told
 
-module _ (n : ℕ) (clash : Clash) (answer : List ℕ) where
+module _ (n : ℕ) (clash : Prelude.Option Clash) (answer : List ℕ) where
   pub told-unread : same_word answer (codes "unread") ≡ true → told n clash answer ≡ not_read n
   unfolding told
   told-unread e = rw e

@@ -1,5 +1,6 @@
 -- What is done with a line as a person writes it, and what is answered.
 use Rattle.std.specs.Prelude.{◌≡◌, cond, List, ◌++◌, ℕ, ◌+◌, ◌*◌, ◌≤◌, length, Float}
+use Rattle.std.specs.Prelude as Prelude
 use Rattle.std.proofs.Math.Option.{Option, none, some}
 use Rattle.rules.specs.declared.Event.{Event}
 use Rattle.costs.specs.Costs.{waiting_in}
@@ -23,12 +24,12 @@ unfoldable pub not_read : ℕ → List ℕ
 not_read n = codes "line " ++ (decimal_of n ++ codes " is not read: no call, or a number out of reach")
 
 -- what a line runs into, these events waiting
-unfoldable pub clash_in : List Event → Option Said → Clash
-clash_in q none = Clash.None
+unfoldable pub clash_in : List Event → Option Said → Prelude.Option Clash
+clash_in q none = Prelude.None
 clash_in q (some s) = clash_of q s.0
 
 -- an answer of the session language for a person; for `unread`, which line it is, and for `refused 11`, what is in the way
-unfoldable pub told : ℕ → Clash → List ℕ → List ℕ
+unfoldable pub told : ℕ → Prelude.Option Clash → List ℕ → List ℕ
 told n clash answer =
     cond (same_word answer (codes "unread")) (not_read n) (cond (same_word answer (codes "refused 11")) (answer ++ clash_text clash) (reply answer))
 

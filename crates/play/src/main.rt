@@ -43,7 +43,7 @@ fn put_not_read(out: &mut [u8], at: usize, n: u64) -> usize
 }
 
 // What the line runs into, should 11 refuse it.
-fn clash_in(desk: Desk, line: &[u8], numbers: &mut [f32], file: &mut [u8]) -> Clash
+fn clash_in(desk: Desk, line: &[u8], numbers: &mut [f32], file: &mut [u8]) -> Option<Clash>
     requires { SoundDesk desk × (5000 ≤ length numbers.old) × (30000 ≤ length file.old) }
     ensures { result ≡ clash_in (param_of desk.param).queue (call_of line.now) }
 {
@@ -53,7 +53,7 @@ fn clash_in(desk: Desk, line: &[u8], numbers: &mut [f32], file: &mut [u8]) -> Cl
 }
 
 // An answer of the session language for a person.
-fn put_told(out: &mut [u8], at: usize, n: u64, clash: Clash, answer: &[u8]) -> usize
+fn put_told(out: &mut [u8], at: usize, n: u64, clash: Option<Clash>, answer: &[u8]) -> usize
     requires { at + 4 * length answer.now + 90 ≤ length out.old }
     ensures put { Put out.old at (told n clash answer.now) out.new result }
     ensures upper_bound { result ≤ at + 4 * length answer.now + 90 }
@@ -204,11 +204,6 @@ fn answer_next(
     }
 }
 
-// The number of the line behind n lines.
-fn following(n: u64) -> u64 {
-    if n < u64::MAX { n + 1 } else { n }
-}
-
 // Every line of the input that ends in a newline.
 fn answer_lines(
     stdout: Stdout,
@@ -241,7 +236,7 @@ fn answer_lines(
             });
         }
         let next = t.next;
-        n = following(n);
+        n = n.saturating_add(1);
         let r = answer_next(
             stdout, desk, n, next, input, strict, numbers, store, said, out, at,
         )?;
@@ -309,7 +304,7 @@ fn finish(
     requires { Going p.desk p.lines p.at input.now strict.old numbers.old store.old said.old out.old }
 {
     let desk = p.desk;
-    let n = following(p.count);
+    let n = p.count.saturating_add(1);
     let next = last_line(p.lines);
     let r = answer_next(
         stdout, desk, n, next, input, strict, numbers, store, said, out, 0,
@@ -342,13 +337,11 @@ fn serve(
         at: 0,
         more: true,
     };
-    let mut turns = u64::MAX;
-    while turns > 0 {
+    'turns: for _ in 0..u64::MAX {
         if !p.more {
             break;
         }
         p = turn(stdin, stdout, p, input, strict, numbers, store, said, out)?;
-        turns -= 1;
     }
     finish(stdout, p, &input[..], strict, numbers, store, said, out)
 }

@@ -1,37 +1,37 @@
--- The fields of a line by places: where one ends, the mark behind it, and how long its text is. Assumes nothing.
+-- The fields of a line: where one ends, the mark behind it, and how long its text is. Assumes nothing.
 use mathlib.Core.Path.{◌≡◌, refl, sym, ap, ◌∙◌}
 use mathlib.Core.Bool.{Bool, true, false, cond}
 use mathlib.Core.List.{List, [], ◌∷◌, ◌++◌, append_assoc, append-nil}
 use mathlib.Core.Option.{Option, none, some}
-use Prim.Native.Nat.{ℕ, zero, suc, ◌+◌, ◌-◌, ◌≤◌, ◌<◌}
-use native.Mathlib.Numerals.{add-one}
+use Prim.Native.Nat.{ℕ, zero, suc, ◌+◌, ◌≤◌, ◌<◌}
+use native.Mathlib.Numerals.{one-add, add-one}
+use Rattle.std.proofs.lemmas.List.{take_all}
 use native.Mathlib.Omega.{arith}
 use lib.Dec.{eqb}
 use lib.ListN.{length, get_or, take, drop, drop_of_length-le}
-use lib.Seq.{drop-cons, drop-drop}
+use lib.Seq.{drop-cons}
+use Rattle.std.specs.Prelude.{nat_lt, None, Some}
+use Rattle.std.specs.List.{position, position_or_len}
+use Rattle.std.proofs.lemmas.List.Quantifiers.{position-Some}
+use Rattle.std.proofs.lemmas.List.Recursion.{is_position_or_len}
 use lib.Ieee.{Float, Format, binary32, binary64}
-use borrow.Author.Tests.{eqb-true}
+use borrow.Author.Tests.{eqb-true, ltb-false}
 use Rattle.text.specs.Digits.{number_in, bits_in}
 use Rattle.text.specs.Floats.{digits_for, float_of, float_in}
 use Rattle.text.specs.Words.{Word, joined}
 use Rattle.decimal.specs.Shown.{plain_text}
-use Rattle.replies.specs.Plain.{is_mark, parts, mark_at, shown_or, plain_field, plain_fields}
+use Rattle.replies.specs.Plain.{is_mark, parts, shown_or, plain_field, plain_fields}
 
 -- ---- where a field ends
 
-module _ (s : List ℕ) (i : ℕ) (inside : i < length s) (mark : Bool) (is : mark ≡ is_mark (get_or s i 0)) where
-  -- the field goes on, or ends here
-  pub goes_on : mark ≡ false → mark_at (drop i s) ≡ suc (mark_at (drop (i + 1) s))
-  unfolding mark_at
-  goes_on e = rw (drop-cons s i 0 inside, ← is, e, add-one i)
+-- how many characters stand before the first mark
+mark_at : List ℕ → ℕ
+mark_at [] = zero
+mark_at (c ∷ cs) = let more = mark_at cs in cond (is_mark c) zero (suc more)
 
-  pub ends : mark ≡ true → mark_at (drop i s) ≡ 0
-  unfolding mark_at
-  ends e = rw (drop-cons s i 0 inside, ← is, e)
-
-pub ends_last : (s : List ℕ) (i : ℕ) → length s ≤ i → mark_at (drop i s) ≡ 0
+at_mark : (cs : List ℕ) → mark_at cs ≡ position_or_len is_mark cs
 unfolding mark_at
-ends_last s i h = rw (drop_of_length-le s h)
+at_mark cs = is_position_or_len mark_at is_mark refl (λ x xs. ap (cond (is_mark x) 0) (sym (one-add (mark_at xs)))) cs
 
 -- ---- the first field, and what stands behind it
 
@@ -50,25 +50,32 @@ first_part (c ∷ cs) = by_test (is_mark c) (first_part cs)
     by_test true rest = refl
     by_test false rest = rw rest
 
-module _ (s : List ℕ) (i end : ℕ) (e : end ≡ i + mark_at (drop i s)) where
-  abbrev field : Word
-  field = take (end - i) (drop i s)
-
-  part_at : parts (drop i s) ≡ field ∷ behind (drop end s)
-  part_at =
-      let k = mark_at (drop i s) in
-      let long : end - i ≡ k = omega arith in
-      first_part (drop i s) ∙ ap (λ (cs : List ℕ). take k (drop i s) ∷ behind cs) (drop-drop k i s ∙ ap (λ (j : ℕ). drop j s) (sym e))
-      ∙ ap (λ (j : ℕ). take j (drop i s) ∷ behind (drop end s)) (sym long)
-
+module _ (s : List ℕ) where
   -- the last field, or one with a mark behind it
-  pub last_field : length s ≤ end → plain_fields (parts (drop i s)) ≡ plain_field field
-  unfolding behind plain_fields
-  last_field h = ap plain_fields part_at ∙ rw (drop_of_length-le s h) (append-nil (plain_field field))
+  pub last_field : position is_mark s ≡ None → plain_fields (parts s) ≡ plain_field s
+  unfolding plain_fields behind
+  last_field e = by_test (nat_lt (position_or_len is_mark s) (length s)) refl e
+    where
+      by_test : (t : Bool) → nat_lt (position_or_len is_mark s) (length s) ≡ t → cond t (Some (position_or_len is_mark s)) None ≡ None → plain_fields (parts s) ≡ plain_field s
+      by_test true h e = absurd (let z : ◌≡◌ {A = ℕ} 0 1 = cc in omega arith)
+      by_test false h e =
+          let long : length s ≤ mark_at s = rw (at_mark s) (ltb-false _ _ h) in
+          ap plain_fields (first_part s) ∙ rw (drop_of_length-le s long, take_all _ s long) (append-nil (plain_field s))
 
-  pub next_field : end < length s → plain_fields (parts (drop i s)) ≡ plain_field field ++ (get_or s end 0 ∷ plain_fields (parts (drop (end + 1) s)))
-  unfolding behind plain_fields plain_field shown_or float_in float_of bits_in
-  next_field h = ap plain_fields part_at ∙ rw (drop-cons s end 0 h, add-one end)
+  module _ {k : ℕ} (e : position is_mark s ≡ Some k) where
+    pub mark_in : k < length s
+    mark_in = (position-Some is_mark s k 0 e).0
+
+    at_k : mark_at s ≡ k
+    at_k = by_test (nat_lt (position_or_len is_mark s) (length s)) e
+      where
+        by_test : (t : Bool) → cond t (Some (position_or_len is_mark s)) None ≡ Some k → mark_at s ≡ k
+        by_test true e = let is : position_or_len is_mark s ≡ k = cc in at_mark s ∙ is
+        by_test false e = absurd (let z : ◌≡◌ {A = ℕ} 0 1 = cc in omega arith)
+
+    pub next_field : plain_fields (parts s) ≡ plain_field (take k s) ++ (get_or s k 0 ∷ plain_fields (parts (drop (k + 1) s)))
+    unfolding behind plain_fields plain_field shown_or float_in float_of bits_in
+    next_field = ap plain_fields (first_part s) ∙ rw (at_k, drop-cons s k 0 mark_in, add-one k)
 
 -- what was written, and the field and the mark behind it
 pub one_more : (t f : List ℕ) (c : ℕ) (rest : List ℕ) → t ++ (f ++ (c ∷ rest)) ≡ ((t ++ f) ++ (c ∷ [])) ++ rest

@@ -6,7 +6,6 @@ use Prim.Native.Nat.{ℕ, ◌+◌}
 use native.Mathlib.Nat.{sub-zero}
 use native.Mathlib.Omega.{arith}
 use lib.ListN.{take}
-use borrow.Author.Tests.{ne_eqb}
 use Rattle.text.specs.Words.{same_word, words_of, words_from, end_of, taken, count_in, count_at}
 use Rattle.text.specs.declared.words.NextCount.{NextCount}
 use Rattle.text.proofs.Splitting.{from_start, split}
@@ -33,10 +32,3 @@ module _ (s : List ℕ) (end : ℕ) (e : end ≡ end_of s 0) where
     pub a_number : {n next : ℕ} → r ≡ NextCount.Is n next → reason (words_of s) ≡ meaning_in table n
     unfolding count_at meaning_of
     a_number g = refusal ∙ ap (λ (r : NextCount). meaning_of (count_at s r)) g
-
--- ---- the table by its numbers
-
-pub no_meaning : (n : ℕ) → (n ≡ 1 → ⊥) → (n ≡ 2 → ⊥) → (n ≡ 3 → ⊥) → (n ≡ 4 → ⊥) → (n ≡ 5 → ⊥) → (n ≡ 6 → ⊥) → (n ≡ 7 → ⊥) → (n ≡ 8 → ⊥) → (n ≡ 9 → ⊥) → (n ≡ 10 → ⊥) → (n ≡ 11 → ⊥) → (n ≡ 12 → ⊥) → (n ≡ 14 → ⊥) → meaning_in table n ≡ []
-unfolding table meaning_in
-no_meaning n a b c d e f g h i j k l m =
-    rw (ne_eqb n 1 a, ne_eqb n 2 b, ne_eqb n 3 c, ne_eqb n 4 d, ne_eqb n 5 e, ne_eqb n 6 f, ne_eqb n 7 g, ne_eqb n 8 h, ne_eqb n 9 i, ne_eqb n 10 j, ne_eqb n 11 k, ne_eqb n 12 l, ne_eqb n 14 m)

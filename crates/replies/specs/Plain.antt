@@ -1,5 +1,5 @@
 -- An answer of the session language as a person reads it: its words as they are, its floats in plain numbers, and what a refusal means.
-use Rattle.std.specs.Prelude.{Bool, cond, ◌||◌, List, [], ◌∷◌, ◌++◌, ℕ, zero, suc, eqb, Float}
+use Rattle.std.specs.Prelude.{Bool, cond, ◌||◌, List, [], ◌∷◌, ◌++◌, ℕ, eqb, Float}
 use Rattle.std.proofs.Math.Option.{Option, none, some}
 use Prim.Native.Char.{code}
 use Rattle.std.specs.Float.{Format, binary32, binary64}
@@ -18,11 +18,6 @@ is_mark c = eqb c (code " ") || (eqb c (code ":") || eqb c (code ","))
 unfoldable pub parts : List ℕ → List Word
 parts [] = [] ∷ []
 parts (c ∷ cs) = let more = parts cs in cond (is_mark c) ([] ∷ (c ∷ []) ∷ more) (joined c more)
-
--- how many characters stand before the first mark
-unfoldable pub mark_at : List ℕ → ℕ
-mark_at [] = zero
-mark_at (c ∷ cs) = let more = mark_at cs in cond (is_mark c) zero (suc more)
 
 -- ---- in plain numbers
 

@@ -174,13 +174,11 @@ fn serve(
         at: 0,
         more: true,
     };
-    let mut turns = u64::MAX;
-    while turns > 0 {
+    'turns: for _ in 0..u64::MAX {
         if !s.more {
             break;
         }
         s = turn(stdin, stdout, s, input, numbers, file, store, out)?;
-        turns -= 1;
     }
     finish(stdout, s, &input[..], numbers, file, store, out)
 }

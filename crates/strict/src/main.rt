@@ -103,13 +103,11 @@ fn serve(stdin: Stdin, stdout: Stdout, input: &mut [u8], strict: &mut [u8]) -> i
         },
         more: true,
     };
-    let mut turns = u64::MAX;
-    while turns > 0 {
+    'turns: for _ in 0..u64::MAX {
         if !r.more {
             break;
         }
         r = turn(stdin, stdout, r.lines, input, strict)?;
-        turns -= 1;
     }
     write_next(stdout, last_line(r.lines), &input[..], strict)
 }

@@ -29,8 +29,7 @@ returns-in-Target c = c.covered_by-in-Target.ensures ∙ sym (ap (clash_of (wait
 pub returns-in-Curve : goal.returns-in-Curve
 unfolding clash_of
 returns-in-Curve c =
-    rw (c.or_else.ensures, c.covered_by-in-Curve.ensures, c.holding.ensures)
-    (sym (ap (clash_of (waiting c.args.q)) c.in-Curve.is))
+    c.or.ensures ∙ rw (c.covered_by-in-Curve.ensures, c.holding.ensures) (sym (ap (clash_of (waiting c.args.q)) c.in-Curve.is))
 
 pub returns-in_default : goal.returns-in_default
 returns-in_default c =

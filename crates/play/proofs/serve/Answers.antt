@@ -2,5 +2,5 @@
 use Rattle.std.proofs.Common.{zero-le}
 use Rattle.play.proofs.serve.Goals as goal
 
-pub loop-turns-init : goal.loop-turns-init
-loop-turns-init c = record { desk = c.at_first.ensures.1; lines = record { ordered = zero-le; inside = zero-le }; at = zero-le; lent = c.requires }
+pub turns-init : goal.turns-init
+turns-init c = record { desk = c.at_first.ensures.1; lines = record { ordered = zero-le; inside = zero-le }; at = zero-le; lent = c.requires }

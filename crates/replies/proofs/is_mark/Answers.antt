@@ -1,16 +1,20 @@
--- `replies::is_mark` meets its contract: by the three characters. Assumes nothing.
-use borrow.Author.Tests.{eq-eqb, ne_eqb}
+-- `replies::is_mark` meets its contract. Assumes nothing.
+use Rattle.std.proofs.Common.{◌≡◌, ◌⊎◌, inl, inr, ℕ, true, refl, sym, ap, ◌∙◌, arith}
+use borrow.Author.Tests.{ne_eqb}
 use Rattle.replies.specs.Plain.{is_mark}
 use Rattle.replies.proofs.is_mark.Goals as goal
 
-pub returns-then-c-eq32 : goal.returns-then-c-eq32
-unfolding is_mark
-returns-then-c-eq32 c = rw (eq-eqb _ 32 c.if-c-eq32.true)
+a_mark : {c x y z : ℕ} → (c ≡ x) ⊎ ((c ≡ y) ⊎ (c ≡ z)) → is_mark x ≡ true → is_mark y ≡ true → is_mark z ≡ true → true ≡ is_mark c
+a_mark (inl e) p q r = sym (ap is_mark e ∙ p)
+a_mark (inr (inl e)) p q r = sym (ap is_mark e ∙ q)
+a_mark (inr (inr e)) p q r = sym (ap is_mark e ∙ r)
 
-pub returns-then-c-eq58 : goal.returns-then-c-eq58
+pub returns-in-32 : goal.returns-in-32
 unfolding is_mark
-returns-then-c-eq58 c = rw (ne_eqb _ 32 c.if-c-eq32.false, eq-eqb _ 58 c.if-c-eq58.true)
+returns-in-32 c = a_mark c.in-32.is refl refl refl
 
-pub returns : goal.returns
+pub returns-in_default : goal.returns-in_default
 unfolding is_mark
-returns c = rw (ne_eqb _ 32 c.if-c-eq32.false, ne_eqb _ 58 c.if-c-eq58.false)
+returns-in_default c =
+    let x = c.args.c in
+    rw (ne_eqb x 32 (grind arith), ne_eqb x 58 (grind arith), ne_eqb x 44 (grind arith)) refl

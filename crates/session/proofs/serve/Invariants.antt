@@ -2,8 +2,5 @@
 use Rattle.session.specs.Session.{Going}
 use Rattle.session.proofs.serve.Given as goal
 
-abbrev pub invariant-loop-turns : goal.invariant-loop-turns
-invariant-loop-turns l = Going l.s.desk l.s.lines l.s.at l.input l.numbers l.file l.store l.out
-
-abbrev pub decreases-loop-turns : goal.decreases-loop-turns
-decreases-loop-turns l = l.turns
+abbrev pub invariant-turns : goal.invariant-turns
+invariant-turns l = Going l.s.desk l.s.lines l.s.at l.input l.numbers l.file l.store l.out

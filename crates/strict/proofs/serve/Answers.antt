@@ -6,5 +6,5 @@ use Rattle.strict.proofs.serve.Goals as goal
 
 pub write_next-requires : goal.write_next-requires
 write_next-requires c =
-    let g = c.loop-turns.invariant.0 in
+    let g = c.turns.invariant.0 in
     (subst (LineIn _) (sym c.last_line.ensures) (last_in_lem _ _ g.lines), g.input_long, g.strict_long)
