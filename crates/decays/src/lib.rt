@@ -7,51 +7,49 @@ ghost use Rattle.std.specs.Float.Ieee.{mul, of_bits};
 ghost use Rattle.std.specs.Float.Ieee.Scale.{finite};
 ghost use Rattle.rules.specs.Numbers.{narrowed};
 ghost use Rattle.rules.specs.Samples.{decay, factor_of};
-ghost use Rattle.powers.specs.Estimates.{estimates};
 ghost use Rattle.rounding_laws.specs.Cut.{plain_cut};
 ghost use Rattle.decays.specs.Cell.{product, Cell, Lifts, Grown, Middle};
 ghost use Rattle.decays.specs.Told.{Steps, shown, Shows};
 
 // The factor of a target at y.
-fn decay_by(table: &[u32; 768], y: f64) -> f32
-    requires { table.now ≡ estimates }
+fn decay_by(y: f64) -> f32
     ensures { result ≡ decay y }
 {
     if y >= 160.0 {
         return 0.0;
     }
     let p = samples::whole(y * 16777216.0);
-    let d = powers::falling_by(table, p % 16777216);
+    let d = powers::falling_by(p % 16777216);
     rounding::norm(false, d, 331 - p / 16777216)
 }
 
 // What shows a target's factor after the steps of b, an `f32` of 24 digits, where its last eight digits are at most 234: else one of the last 20 places up to the estimate may hold a midpoint of two.
-pub fn near_of(table: &[u32; 768], b: u64) -> u64
-    requires { (table.now ≡ estimates) × Steps b }
+pub fn near_of(b: u64) -> u64
+    requires { Steps b }
     ensures { result % 256 ≤ 234 → Shows b result }
 {
-    powers::falling_near(table, b / 0x4_0000 % 16777216) + 107
+    powers::falling_near(b / 0x4_0000 % 16777216) + 107
 }
 
 // What shows it in every case, by the falling power itself.
-pub fn exact_of(table: &[u32; 768], b: u64) -> u64
-    requires { (table.now ≡ estimates) × Steps b }
+pub fn exact_of(b: u64) -> u64
+    requires { Steps b }
     ensures { Shows b result }
 {
-    let d = powers::falling_by(table, b / 0x4_0000 % 16777216);
+    let d = powers::falling_by(b / 0x4_0000 % 16777216);
     d + 127 + d / 256 % 2
 }
 
 // What shows it by the estimate, if that tells.
-fn told_of(table: &[u32; 768], b: u64) -> u64
-    requires { (table.now ≡ estimates) × Steps b }
+fn told_of(b: u64) -> u64
+    requires { Steps b }
     ensures { Shows b result }
 {
-    let u = near_of(table, b);
+    let u = near_of(b);
     if u % 256 <= 234 {
         return u;
     }
-    exact_of(table, b)
+    exact_of(b)
 }
 
 // The pattern of the factor that u shows.
@@ -63,8 +61,7 @@ pub fn shown_by(b: u64, u: u64) -> u64
 }
 
 // A target's factor at y.
-pub fn decay_at(table: &[u32; 768], y: f64) -> f64
-    requires { table.now ≡ estimates }
+pub fn decay_at(y: f64) -> f64
     ensures { result ≡ decay y }
 {
     if y >= 160.0 {
@@ -73,10 +70,10 @@ pub fn decay_at(table: &[u32; 768], y: f64) -> f64
     let b = phases::raised(y * 16777216.0);
     if b != 0 {
         if b < 0x4219_f400_0000_0000 {
-            return f64::from_bits(shown_by(b, told_of(table, b)));
+            return f64::from_bits(shown_by(b, told_of(b)));
         }
     }
-    decay_by(table, y) as f64
+    decay_by(y) as f64
 }
 
 // The pattern of `from` times what n is the pattern of, rounded to an `f32`, or 0 where a product with what lies up to 20 * 2^21 below n may round otherwise.
@@ -100,15 +97,15 @@ fn cell_of(from: f64, n: u64) -> u64
     0
 }
 
-fn grown_slow(table: &[u32; 768], from: f64, x: f64) -> f32
-    requires { (table.now ≡ estimates) × T (finite from) }
+fn grown_slow(from: f64, x: f64) -> f32
+    requires { T (finite from) }
     ensures { result ≡ narrowed (mul binary64 from (factor_of x)) }
 {
     let h = phases::lifted(x);
     if h >= 3573547008 {
         if h < 12884901888 {
             if h % 16777216 != 0 {
-                let d = powers::falling_by(table, 16777216 - h % 16777216);
+                let d = powers::falling_by(16777216 - h % 16777216);
                 if d >= 2147483648 {
                     if d < 4294967296 {
                         let f = (h / 16777216 + 510) * 0x10_0000_0000_0000 + d * 0x20_0000;
@@ -122,15 +119,14 @@ fn grown_slow(table: &[u32; 768], from: f64, x: f64) -> f32
 }
 
 // The pattern of an estimate of an exponential's factor for x = L * phase, from above, or 0 where there is none.
-fn grown_near(table: &[u32; 768], x: f64) -> u64
-    requires { table.now ≡ estimates }
+fn grown_near(x: f64) -> u64
     ensures { (result ≡ 0) ⊎ Grown x result }
 {
     let h = phases::lifted(x);
     if h >= 3573547008 {
         if h < 12884901888 {
             if h % 16777216 != 0 {
-                let e = powers::falling_near(table, 16777216 - h % 16777216);
+                let e = powers::falling_near(16777216 - h % 16777216);
                 if e >= 2147483668 {
                     if e < 4294967296 {
                         return (h / 16777216 + 510) * 0x10_0000_0000_0000 + e * 0x20_0000;
@@ -143,8 +139,8 @@ fn grown_near(table: &[u32; 768], x: f64) -> u64
 }
 
 // An exponential sample, the start value times the factor for x, narrowed; n is the estimate's pattern, or 0.
-fn grown_by(table: &[u32; 768], from: f64, x: f64, n: u64) -> f32
-    requires { (table.now ≡ estimates) × T (finite from) × ((n ≡ 0) ⊎ Grown x n) }
+fn grown_by(from: f64, x: f64, n: u64) -> f32
+    requires { T (finite from) × ((n ≡ 0) ⊎ Grown x n) }
     ensures { result ≡ narrowed (mul binary64 from (factor_of x)) }
 {
     if n != 0 {
@@ -153,24 +149,24 @@ fn grown_by(table: &[u32; 768], from: f64, x: f64, n: u64) -> f32
             return f64::from_bits(s) as f32;
         }
     }
-    grown_slow(table, from, x)
+    grown_slow(from, x)
 }
 
 // An exponential sample for x.
-pub fn grown_at(table: &[u32; 768], from: f64, x: f64) -> f32
-    requires { (table.now ≡ estimates) × T (finite from) }
+pub fn grown_at(from: f64, x: f64) -> f32
+    requires { T (finite from) }
     ensures { result ≡ narrowed (mul binary64 from (factor_of x)) }
 {
-    grown_by(table, from, x, grown_near(table, x))
+    grown_by(from, x, grown_near(x))
 }
 
 // The pattern of an estimate, from above, of the factor for what b shows.
-pub fn grown_of(table: &[u32; 768], b: u64) -> u64
-    requires { (table.now ≡ estimates) × (1082820 * 2 ^ 42 ≤ b) × (b < 1082940 * 2 ^ 42) }
+pub fn grown_of(b: u64) -> u64
+    requires { (1082820 * 2 ^ 42 ≤ b) × (b < 1082940 * 2 ^ 42) }
     ensures { (963 * 2 ^ 52 ≤ result) × (result ≤ 1083 * 2 ^ 52) × ((b / 2 ^ 18 % 2 ^ 24 ≡ 0 → ⊥) → (x : Float) → Lifts x b → Grown x result) }
 {
     let a = (16777216 - b / 0x4_0000 % 16777216) % 16777216;
-    let e = powers::falling_near(table, a);
+    let e = powers::falling_near(a);
     (b / 0x400_0000_0000 - 1081858) * 0x10_0000_0000_0000 + e * 0x20_0000
 }
 
@@ -193,12 +189,12 @@ fn narrowed_of(from: f64, n: u64) -> f32
 }
 
 // An exponential sample for what b shows, by the falling power itself.
-pub fn grown_exact(table: &[u32; 768], from: f64, b: u64) -> f32
-    requires { (table.now ≡ estimates) × (1082820 * 2 ^ 42 ≤ b) × (b < 1082940 * 2 ^ 42) × Middle from }
+pub fn grown_exact(from: f64, b: u64) -> f32
+    requires { (1082820 * 2 ^ 42 ≤ b) × (b < 1082940 * 2 ^ 42) × Middle from }
     ensures { (b / 2 ^ 18 % 2 ^ 24 ≡ 0 → ⊥) → (x : Float) → Lifts x b → result ≡ narrowed (mul binary64 from (factor_of x)) }
 {
     let a = (16777216 - b / 0x4_0000 % 16777216) % 16777216;
-    let d = powers::falling_by(table, a);
+    let d = powers::falling_by(a);
     let n = (b / 0x400_0000_0000 - 1081858) * 0x10_0000_0000_0000 + d * 0x20_0000;
     narrowed_of(from, n)
 }

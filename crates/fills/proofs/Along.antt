@@ -1,12 +1,11 @@
--- What is left of the places of a block: by a run that is lent the places to fill, and by a loop that writes one value. Assumes nothing.
+-- What is left of the places of a block: by a run that is lent the places to fill. Assumes nothing.
 use mathlib.Core.Path.{◌≡◌, refl, sym, ap, ◌∙◌}
 use mathlib.Core.Bool.{Bool, true, false}
-use mathlib.Core.List.{List, [], ◌∷◌, ◌++◌, append_assoc, append-nil}
-use Prim.Native.Nat.{ℕ, ◌+◌, ◌-◌, ◌≤◌, ◌<◌}
-use native.Mathlib.Numerals.{add-one}
+use mathlib.Core.List.{List, ◌++◌, append_assoc, append-nil}
+use Prim.Native.Nat.{ℕ, ◌-◌, ◌≤◌}
 use native.Mathlib.Omega.{arith}
-use lib.ListN.{length, take, set, replicate, length-set, length-append, replicate-append-replicate}
-use lib.Seq.{length-take-le, take-suc-set, take_at}
+use lib.ListN.{length, take, length-append}
+use lib.Seq.{length-take-le, take_at}
 use lib.Ieee.{Float}
 use borrow.Author.Tests.{leb-true, leb-false}
 use borrow.Rule.Slice.PartMut.{mid_of, post_of, put_mid, mid_len, same_len_mid}
@@ -15,7 +14,7 @@ use Rattle.rules.specs.declared.AutomationRate.TheVariants as Rate
 use Rattle.rules.specs.declared.BlockInfos.{BlockInfos}
 use Rattle.rules.specs.Numbers.{run, filled, time_at}
 use Rattle.laws.proofs.Tests.{never}
-use Rattle.laws.proofs.Places.{run_length, fill_a, fill_k, fill_alike}
+use Rattle.laws.proofs.Places.{run_length, fill_a, fill_k}
 use Rattle.fills.specs.Filled.{Room, Filled, writes_none}
 
 -- ---- what a run fills, by the rate
@@ -47,28 +46,6 @@ nothing f sample {from} {to} {b} room Rate.A e w =
     filled_a f sample room e ∙ rw z (append-nil (take from b))
 nothing f sample {from} {to} {b} room Rate.K e w = fill_k f to sample (take from b) e
 
--- ---- the loop: it is at place i, the buffer was b and is s
-
-pub record Along (v : Float) (from to : ℕ) (b : List Float) (i : ℕ) (s : List Float) : Type 0 where
-  pub past : from ≤ i
-  pub upto : i ≤ to
-  pub room : to ≤ length b
-  pub whole : length s ≡ length b
-  pub values : take i s ≡ take from b ++ replicate (i - from) v
-
-pub goes_on : {v : Float} {from to : ℕ} {b : List Float} {i : ℕ} {s : List Float} → Along v from to b i s → i < to → Along v from to b (i + 1) (set s i v)
-goes_on {v} {from} {to} {b} {i} {s} a h =
-    let k : i + 1 - from ≡ i - from + 1 = omega (arith, a.past) in
-    record {
-      past = omega (arith, a.past);
-      upto = omega arith;
-      room = a.room;
-      whole = length-set s i v ∙ a.whole;
-      values =
-          rw (k, ← replicate-append-replicate (i - from) 1 v, add-one i, take-suc-set s i v (omega (arith, a.whole, a.room)), a.values)
-          (append_assoc (take from b) (replicate (i - from) v) (v ∷ []));
-    }
-
 -- ---- what they leave; w is what code asks before it writes
 
 module _ (f : BlockInfos) {from to : ℕ} {b : List Float} (room : Room from to b) {w : Bool} (is : w ≡ writes_none f.rate from to) where
@@ -77,22 +54,6 @@ module _ (f : BlockInfos) {from to : ℕ} {b : List Float} (room : Room from to 
 
   pub upward : w ≡ false → from ≤ to
   upward h = ahead f.rate from to (sym is ∙ h)
-
-  pub begins : w ≡ false → {v : Float} → Along v from to b from b
-  begins h =
-      let z : from - from ≡ 0 = omega arith in
-      record { past = omega arith; upto = upward h; room = room.upto; whole = refl; values = rw z (sym (append-nil (take from b))) }
-
-  pub ends : w ≡ false → {v : Float} {i : ℕ} {s : List Float} → Along v from to b i s → to ≤ i → Filled f to (λ x. v) from b i s
-  ends h {v} {i} {s} a l =
-      let e : i ≡ to = omega (arith, a.upto) in
-      record {
-        small = omega (arith, a.whole, a.room);
-        whole = a.whole;
-        values =
-            a.values
-            ∙ sym (fill_alike f to v (take from b) (is_a f.rate from to (sym is ∙ h)) ∙ rw (length-take-le from b room.filled, e));
-      }
 
   -- p is what a run left of the places lent to it
   pub lent : w ≡ false → {sample : Float → Float} {t : Float} {p : List Float} → t ≡ time_at f from → p ≡ run sample f.dt (length (mid_of from (to - from) b)) t

@@ -74,12 +74,8 @@ pub fn fill_value(
     if writes_none(infos, filled, to) {
         return filled;
     }
-    let mut i = filled;
-    while i < to {
-        buffer[i] = value;
-        i += 1;
-    }
-    i
+    buffer[filled..to].fill(value);
+    to
 }
 
 pub fn fill_linear_ramp(
@@ -228,10 +224,8 @@ pub fn flush(buffer: &mut [f32], filled: usize, target: f32)
     ensures { Flushed target filled buffer.old buffer.new }
 {
     if target == 0.0 {
-        let mut i = 0;
-        while i < filled {
+        for i in 0..filled {
             buffer[i] = without_subnormal(buffer[i]);
-            i += 1;
         }
     }
 }

@@ -1,12 +1,12 @@
-// The falling power, estimated from above by a table that is made once a run and lent to each sample.
+// The falling power, estimated from above by a table.
 #![tactic(auto)]
 
-ghost use Rattle.std.specs.Prelude.{◌≡◌, ◌+◌, ◌*◌, ◌/◌, ◌^◌, ◌≤◌, ◌<◌};
+ghost use Rattle.std.specs.Prelude.{◌≡◌, ◌+◌, ◌*◌, ◌/◌, ◌^◌, ◌≤◌, ◌<◌, slice_index};
 ghost use Rattle.rules.specs.Kernels.{falling};
 ghost use Rattle.powers.specs.Estimates.{estimates};
 
 // By 256: what the eight highest digits take off 2^32, and what the next eight and the last eight take off 1, times 2^40 and 2^48.
-const TABLE: [u32; 768] = [
+static TABLE: [u32; 768] = [
     0, 11613351, 23195300, 34745933, 46265332, 57753585, 69210773, 80636982, 92032294, 103396795,
     114730567, 126033693, 137306256, 148548339, 159760024, 170941393, 182092524, 193213508,
     204304420, 215365344, 226396358, 237397546, 248368988, 259310764, 270222951, 281105635,
@@ -105,16 +105,18 @@ const TABLE: [u32; 768] = [
     2954418159, 2966148980,
 ];
 
-pub fn table() -> [u32; 768]
-    ensures { result ≡ estimates }
-{
-    TABLE
-}
-
 fn widened(x: u32) -> u64
     ensures { (result ≡ x) × (result < 2 ^ 32) }
 {
     x as u64
+}
+
+// An entry of the table.
+fn entry(i: usize) -> u64
+    requires { i < 768 }
+    ensures { (result ≡ slice_index estimates i) × (result < 2 ^ 32) }
+{
+    widened(TABLE[i])
 }
 
 // t less its part d / 2^sh.
@@ -126,22 +128,22 @@ fn less(t: u64, d: u64, sh: u64) -> u64
 }
 
 // From the falling power of a to 20 above it.
-pub fn falling_near(table: &[u32; 768], a: u64) -> u64
-    requires { (a < 2 ^ 24) × (table.now ≡ estimates) }
+pub fn falling_near(a: u64) -> u64
+    requires { a < 2 ^ 24 }
     ensures { (falling a ≤ result) × (result ≤ falling a + 20) × (result ≤ 2 ^ 32) }
 {
     let i = (a / 65536) as usize;
     let j = (a / 256 % 256 + 256) as usize;
     let k = (a % 256 + 512) as usize;
-    let t = 4294967296 - widened(table[i]);
-    less(less(t, widened(table[j]), 40), widened(table[k]), 48)
+    let t = 4294967296 - entry(i);
+    less(less(t, entry(j), 40), entry(k), 48)
 }
 
 // The falling power itself, its first eight digits by the table.
-pub fn falling_by(table: &[u32; 768], a: u64) -> u64
-    requires { (a < 2 ^ 24) × (table.now ≡ estimates) }
+pub fn falling_by(a: u64) -> u64
+    requires { a < 2 ^ 24 }
     ensures { result ≡ falling a }
 {
     let i = (a / 65536) as usize;
-    kernels::falling_from(8, a, 4294967296 - widened(table[i]))
+    kernels::falling_from(8, a, 4294967296 - entry(i))
 }

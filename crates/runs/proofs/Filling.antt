@@ -35,6 +35,15 @@ module _ (s : Float → Float) (dt : Float) where
   run_at (suc n) zero t d h = refl
   run_at (suc n) (suc i) t d h = run_at n i (add binary64 t dt) d (le_of_suc-le-suc h) ∙ ap s (after_first dt i t)
 
+  -- a list that has a run's sample in each place is the run
+  pub run_told : (n : ℕ) (t : Float) (l : List Float) → length l ≡ n → ((k : ℕ) → k < n → get_or l k nan ≡ s (after dt k t)) → l ≡ run s dt n t
+  unfolding run after
+  run_told zero t [] e h = refl
+  run_told zero t (x ∷ xs) e h = absurd (omega arith)
+  run_told (suc n) t [] e h = absurd (omega arith)
+  run_told (suc n) t (x ∷ xs) e h =
+      λ j. h 0 (omega arith) j ∷ run_told n (add binary64 t dt) xs (omega (arith, e)) (λ k m. h (suc k) (omega arith) ∙ ap s (sym (after_first dt k t))) j
+
   run_last : (i : ℕ) (t : Float) → run s dt (suc i) t ≡ run s dt i t ++ (s (after dt i t) ∷ [])
   unfolding run after
   run_last zero t = refl
@@ -104,3 +113,24 @@ module _ (s : Float → Float) (dt : Float) where
         let w = f.within in
         let e : i ≡ length o₀ = omega arith in
         f.places ∙ rw (e, drop-length o₀) (append-nil (run s dt (length o₀) time))
+
+    -- the first place by itself, and the others by a run of their own
+    pub one_and_rest : (o : List Float) → 0 < length o → (v : Float) → v ≡ s time → (p : List Float)
+        → p ≡ run s dt (length (mid_of 1 (length (set o 0 v) - 1) (set o 0 v))) (add binary64 time dt) → put_mid 1 (length (set o 0 v) - 1) (set o 0 v) p ≡ run s dt (length o) time
+    one_and_rest o some v e p q =
+        let first : Filled o (set o 0 v) 1 (add binary64 time dt) = one_more (none_filled o) some v e in
+        let long = filled-length first in
+        all-filled (rest_filled first p q) (omega (arith, long))
+
+    -- a turn of k places more
+    pub turn_filled : {o₀ o : List Float} {i : ℕ} {t : Float} → Filled o₀ o i t → (k m j : ℕ) → m ≡ k → j ≡ i + k → i + k ≤ length o₀ → (p : List Float) → p ≡ run s dt k t → (u : Float) → u ≡ after dt k t
+        → Filled o₀ (put_mid i m o p) j u
+    turn_filled {o₀} {o} {i} {t} f k m j e q h p r u n = rw (e, q, n) (some_more f k h p r)
+
+    -- and what is left behind the turns
+    pub left_filled : {o₀ o : List Float} {i : ℕ} {t : Float} → Filled o₀ o i t → (j : ℕ) → j ≡ i → (p : List Float) → p ≡ run s dt (length (mid_of j (length o - j) o)) t
+        → put_mid j (length o - j) o p ≡ run s dt (length o₀) time
+    left_filled {o₀} {o} {i} {t} f j q p r =
+        let g : Filled o₀ o j t = rw q f in
+        let long = filled-length f in
+        all-filled (rest_filled g p r) (omega (arith, long, g.within))

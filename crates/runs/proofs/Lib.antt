@@ -2,7 +2,7 @@
 pub mod Ascent
 pub mod Begun
 pub mod Climb
-pub mod Factors
+pub mod Eaching
 pub mod Telling
 pub mod Placing
 pub mod Lifting

@@ -1,7 +1,7 @@
 -- The floor of x, from the pattern of x + 3 * 2 ^ 33: where x is less than 60 * 2 ^ 24 - 1 from 0, and the pattern does not end in 18 zeros. Assumes nothing.
 use Rattle.std.proofs.Common.{◌≡◌, ℕ, ◌+◌, ◌-◌, ◌*◌, ◌%◌, ◌^◌, ◌<◌, ◌≤◌, true, false, ◌⊎◌, pos, refl, inl, arith, ltb-true, lt-ltb}
 use mathlib.Core.Bool.{false≢true}
-use lib.Ieee.{Float, nan, inf, fin, binary64, up, down, round, sum, add, mul, lt, to_bits}
+use lib.Ieee.{Float, nan, inf, fin, binary64, up, down, round, sum, add, lt, to_bits}
 use lib.Ieee.Fits.{down_pos}
 use Rattle.rules.specs.Numbers.{plus_zero}
 use Rattle.phases.proofs.Quick.{bits}
@@ -78,12 +78,3 @@ zero_inside = inside plus_zero refl refl
 
 pub kept_lifted : (x u z : Float) → Below top x u → Above low u z → LiftedAt x (bits z)
 kept_lifted x u z = kept (λ (w : Float). LiftedAt x (bits w)) low top x u z (zero_inside.0, zero_inside.1, inl zero_bits) (lifted_inside x)
-
--- ---- what the loops say of each pattern
-
-abbrev pub Within : ℕ → ℕ → Type 0
-Within k b = InLifts b
-
--- b shows the floor of l times a phase
-abbrev pub LiftsBy : Float → Float → ℕ → Type 0
-LiftsBy l x b = Lifts (mul binary64 l x) b

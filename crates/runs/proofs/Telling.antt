@@ -1,7 +1,9 @@
 -- A list whose numbers are told or wait in a second list, and the loop that settles those. Assumes nothing.
-use Rattle.std.proofs.Common.{◌≡◌, ℕ, ◌+◌, ◌<◌, ◌≤◌, Bool, true, false, eqb, ◌⊎◌, List, length, get_or, set, sym, refl, ap, ◌∙◌, subst, inl, inr, ⊎_elim, eq-or-lt_of_le, arith, get_or-set_other, get_or-set_same, eqb-true}
+use Rattle.std.proofs.Common.{◌≡◌, ℕ, ◌+◌, ◌<◌, ◌≤◌, Bool, true, false, eqb, ◌⊎◌, List, length, get_or, set, take, length-take-le, sym, refl, ap, ◌∙◌, subst, inl, inr, ⊎_elim, eq-or-lt_of_le, arith, get_or-set_other, get_or-set_same, eqb-true}
 use borrow.Author.Tests.{eqb-false}
-use Rattle.runs.specs.Placed.{Listed}
+use Rattle.std.proofs.lemmas.List.{get_or_default, get_or-take}
+use Rattle.runs.specs.Each.{Each}
+use Rattle.runs.specs.Placed.{Listed, Left}
 
 upto : (k i : ℕ) → k < i + 1 → k ≤ i
 upto k i h = omega arith
@@ -71,30 +73,40 @@ module _ {A : Type 0} (d : A) (R : ℕ → A → Type 0) where
       before k l (inl r) = inl (subst (R k) (sym (get_or-set_other us i k u d (λ e. omega arith))) r)
       before k l (inr (j, z, m, e)) = let n = least w in inr (j, z, omega arith, old j m ∙ e)
 
-  -- those that still wait stand in the list from j on
-  abbrev pub Settling : List A → List ℕ → ℕ → ℕ → ℕ → Type 0
-  Settling us slow count n j = (k : ℕ) → k < n → R k (get_or us k d) ⊎ Listed slow j count k
+-- ---- the loop that settles those
 
-  pub one_settled : (us : List A) (slow : List ℕ) (count n j : ℕ) → Settling us slow count n j → (i : ℕ) → get_or slow j 0 ≡ i → i < length us → (v : A) → R i v → Settling (set us i v) slow count n (j + 1)
-  one_settled us slow count n j s i e h v r k l = go (eqb k i) refl
+module _ {A : Type 0} (R : ℕ → A → Type 0) (slow : List ℕ) (o : List A) where
+  -- R of it, or it is as it came and none of the first j that are listed
+  abbrev pub Settled : ℕ → ℕ → A → Type 0
+  Settled j k y = R k y ⊎ Left slow j o k y
+
+  pub none_settled : Each (Settled 0) (length o) o
+  none_settled = record { at = λ k d h. inr (get_or_default o k d _ h, λ m l. absurd (omega arith)) }
+
+  pub one_settled : {l : List A} {j : ℕ} → Each (Settled j) (length o) l → (i : ℕ) → get_or slow j 0 ≡ i → i < length l → (v : A) → R i v → Each (Settled (j + 1)) (length o) (set l i v)
+  one_settled {l} {j} e i q h v r = record { at = λ k d m. go k d m (eqb k i) refl }
     where
-      go : (b : Bool) → eqb k i ≡ b → R k (get_or (set us i v) k d) ⊎ Listed slow (j + 1) count k
-      go true t = inl (subst (λ (m : ℕ). R m (get_or (set us i v) m d)) (sym (eqb-true k i t)) (subst (R i) (sym (get_or-set_same us i v d h)) r))
-      go false t = other (s k l)
+      go : (k : ℕ) (d : A) → k < length o → (b : Bool) → eqb k i ≡ b → Settled (j + 1) k (get_or (set l i v) k d)
+      go k d m true t = inl (subst (λ (n : ℕ). R n (get_or (set l i v) n d)) (sym (eqb-true k i t)) (subst (R i) (sym (get_or-set_same l i v d h)) r))
+      go k d m false t = other (e.at k d m)
         where
           apart : k ≡ i → ⊥
           apart = eqb-false k i t
 
-          next : (m : ℕ) → j ≤ m → get_or slow m 0 ≡ k → j + 1 ≤ m
-          next m z f = ⊎_elim (λ (q : j ≡ m). absurd (apart (sym f ∙ ap (λ (x : ℕ). get_or slow x 0) (sym q) ∙ e))) (λ (q : j < m). omega arith) (eq-or-lt_of_le z)
+          same : get_or (set l i v) k d ≡ get_or l k d
+          same = get_or-set_other l i k v d apart
 
-          other : R k (get_or us k d) ⊎ Listed slow j count k → R k (get_or (set us i v) k d) ⊎ Listed slow (j + 1) count k
-          other (inl x) = inl (subst (R k) (sym (get_or-set_other us i k v d apart)) x)
-          other (inr (m, z, u, f)) = inr (m, next m z f, u, f)
+          other : Settled j k (get_or l k d) → Settled (j + 1) k (get_or (set l i v) k d)
+          other (inl x) = inl (subst (R k) (sym same) x)
+          other (inr (p, f)) = inr (
+            subst (λ (y : A). y ≡ get_or o k y) (sym same) p,
+            λ n u z. ⊎_elim (λ (w : n ≡ j). apart (sym z ∙ ap (λ (x : ℕ). get_or slow x 0) w ∙ q)) (λ (w : n < j). f n w z) (eq-or-lt_of_le (upto n j u)),
+          )
 
-  pub all_settled : (us : List A) (slow : List ℕ) (count n j : ℕ) → Settling us slow count n j → count ≤ j → (k : ℕ) → k < n → R k (get_or us k d)
-  all_settled us slow count n j s h k l = go (s k l)
-    where
-      go : R k (get_or us k d) ⊎ Listed slow j count k → R k (get_or us k d)
-      go (inl x) = x
-      go (inr (m, z, u, f)) = absurd (omega arith)
+-- what was told or listed is told, where those listed are settled
+pub settled : {A : Type 0} (R : ℕ → A → Type 0) (slow : List ℕ) (count : ℕ) (l : List A) (k : ℕ) (d y : A) → k < length l → count ≤ length slow
+    → R k (get_or l k d) ⊎ Listed slow 0 count k → R k y ⊎ Left (take count slow) (length (take count slow)) l k y → R k y
+settled R slow count l k d y h few told (inl r) = r
+settled R slow count l k d y h few (inl r) (inr (e, f)) = subst (R k) (get_or_default l k d y h ∙ sym e) r
+settled R slow count l k d y h few (inr (j, from, upto, e)) (inr (p, f)) =
+    absurd (f j (omega (arith, length-take-le count slow few)) (get_or-take count slow j 0 upto ∙ e))

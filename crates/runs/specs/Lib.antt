@@ -1,4 +1,5 @@
 pub mod After
+pub mod Each
 pub mod Passes
 pub mod Rising
 pub mod Placed

@@ -1,5 +1,5 @@
 -- Steps of a target seen in the pattern of a sum.
-use Rattle.std.specs.Prelude.{◌≡◌, ℕ, ◌+◌, ◌-◌, ◌*◌, ◌/◌, ◌%◌, ◌^◌, ◌<◌, ◌≤◌, T, List, length, ◌≢◌, from_bits, slice_index, Float}
+use Rattle.std.specs.Prelude.{◌≡◌, ℕ, ◌+◌, ◌-◌, ◌*◌, ◌/◌, ◌%◌, ◌^◌, ◌<◌, ◌≤◌, T, List, ◌≢◌, from_bits, slice_index, slice_index_or, Float}
 use Rattle.std.specs.Float.{binary32, binary64}
 use Rattle.std.specs.Float.Ieee.{fits, mul}
 use Rattle.rules.specs.Numbers.{narrowed}
@@ -14,13 +14,13 @@ pub record Placed (few : ℕ) (x : Float) (b : ℕ) : Type 0 where
   pub hi : b < 2115 * 2 ^ 51 + (few + 1) * 2 ^ 42
   pub factor : narrowed (decay_of (steps_in b)) ≡ decay (mul binary64 x log2e)
 
--- what was in the first places still is
-abbrev pub Stands : ℕ → List ℕ → List ℕ → Type 0
-Stands at l m = (length m ≡ length l) × ((k : ℕ) → k < at → slice_index m k ≡ slice_index l k)
-
 -- k is one of the numbers of l in the places from..to
 abbrev pub Listed : List ℕ → ℕ → ℕ → ℕ → Type 0
 Listed l from to k = (j : ℕ) × (from ≤ j) × (j < to) × (slice_index l j ≡ k)
+
+-- y is what stood in the place k, which is none of the first j that are listed
+abbrev pub Left : {A : Type 0} → List ℕ → ℕ → List A → ℕ → A → Type 0
+Left slow j l k y = (y ≡ slice_index_or l k y) × ((m : ℕ) → m < j → slice_index slow m ≢ k)
 
 -- u shows a factor after the steps of b
 pub record Factor (b u : ℕ) : Type 0 where

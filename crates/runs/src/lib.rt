@@ -9,15 +9,41 @@ ghost use Rattle.std.specs.Float.Ieee.Scale.{finite};
 ghost use Rattle.rules.specs.Numbers.{store_length, plus_zero, wide, run, fused};
 ghost use Rattle.rules.specs.Samples.{phase_of, curve_sample, log2e, decay};
 ghost use Rattle.rules.specs.Walk.{from_start};
-ghost use Rattle.powers.specs.Estimates.{estimates};
 ghost use Rattle.phases.specs.Once.{Once, Within, Served};
 ghost use Rattle.samples.specs.At.{linear_at, exponential_at, exponential_over, target_at};
 ghost use Rattle.decays.specs.Cell.{Lifts, Middle};
 ghost use Rattle.decays.specs.Told.{Steps, shown, Shows};
 ghost use Rattle.runs.specs.After.{after};
-ghost use Rattle.runs.specs.Passes.{each, timed, phase_sum, Every, begun, held_at};
-ghost use Rattle.runs.specs.Placed.{Placed, Stands, Listed, Factor, InLifts, InGrown, Grows, Celled, Ordered, OneCell, Grew};
+ghost use Rattle.runs.specs.Each.{Each, Maps};
+ghost use Rattle.runs.specs.Passes.{each, phase_sum};
+ghost use Rattle.runs.specs.Placed.{Placed, Listed, Left, Factor, InLifts, InGrown, Grows, Celled, Ordered, OneCell, Grew};
 ghost use Rattle.runs.specs.Rising.{Plain, Steady, Started, Rises, Spans, Between, Climbs, position_of, at_position};
+
+// Every place takes what f makes of its time: the first `time`, each next one `dt` later. The time after them is given back.
+#[tactic(auto, unfolding(crate::specs::After::after))]
+fn at_times<T: Copy, F: Fn(f64) -> T>(out: &mut [T], time: f64, dt: f64, f: F) -> f64
+    requires { F.IsAlwaysCallable f }
+    ensures each { Each (λ k y. F.post f (after dt k time) y) (length out.old) out.new }
+    ensures next { result ≡ after dt (length out.old) time }
+{
+    let mut t = time;
+    for o in out.iter_mut() {
+        *o = f(t);
+        t = t + dt;
+    }
+    t
+}
+
+// Every place takes what f makes of the number in the same place of xs.
+fn each_of<X: Copy, T: Copy, F: Fn(X) -> T>(out: &mut [T], xs: &[X], f: F)
+    requires as_many { length out.old ≡ length xs.now }
+    requires callable { Each (λ k x. F.pre f x) (length xs.now) xs.now }
+    ensures { Maps (λ x y. F.post f x y) xs.now out.new }
+{
+    for (i, x) in xs.iter().enumerate() {
+        out[i] = f(*x);
+    }
+}
 
 // A linear ramp's run.
 fn linear_run(
@@ -31,13 +57,9 @@ fn linear_run(
 )
     ensures { out.new ≡ run (linear_at start_time duration start_value diff) dt (length out.old) time }
 {
-    let mut i = 0usize;
-    let mut t = time;
-    while i < out.len() {
-        out[i] = samples::compute_linear_ramp_sample(start_time, duration, start_value, diff, t);
-        t = t + dt;
-        i += 1;
-    }
+    at_times(out, time, dt, |t| {
+        samples::compute_linear_ramp_sample(start_time, duration, start_value, diff, t)
+    });
 }
 
 // From c, by a, values of `f32` whose sums are exact from bx on.
@@ -55,13 +77,12 @@ fn linear_rest(
     requires once { Once a c bx }
     ensures { out.new ≡ run (linear_at start_time duration c a) dt (length out.old) time }
 {
-    let mut i = 0usize;
-    let mut t = time;
-    while i < out.len() {
-        out[i] = phases::phase_sum_once(a, (t - start_time) / duration, c, bx);
-        t = t + dt;
-        i += 1;
-    }
+    at_times(
+        out,
+        time,
+        dt,
+        |t| phases::phase_sum_once(a, (t - start_time) / duration, c, bx),
+    );
 }
 
 // A number from 0 up, and not -0.
@@ -141,14 +162,7 @@ fn phases_from(xs: &mut [f64; 16], start_time: f64, duration: f64, time: f64, dt
     requires { length xs.old ≡ 16 }
     ensures { (xs.new ≡ run (phase_of start_time duration) dt 16 time) × (result ≡ after dt 16 time) }
 {
-    let mut i = 0usize;
-    let mut t = time;
-    while i < 16 {
-        xs[i] = (t - start_time) / duration;
-        t = t + dt;
-        i += 1;
-    }
-    t
+    at_times(xs, time, dt, |t| (t - start_time) / duration)
 }
 
 // Sixteen samples with nothing to test: they are worked out side by side.
@@ -157,11 +171,7 @@ fn sums_within(out: &mut [f32], xs: &[f64; 16], c: f64, a: f64, bx: u64)
     requires once { Once a c bx × (length out.old ≡ 16) × (length xs.now ≡ 16) × ((i : ℕ) → i < 16 → Within bx (slice_index_or xs.now i nan)) }
     ensures { out.new ≡ each (phase_sum c a) xs.now }
 {
-    let mut i = 0usize;
-    while i < 16 {
-        out[i] = phases::phase_sum_within(a, xs[i], c, bx);
-        i += 1;
-    }
+    each_of(out, xs, |x| phases::phase_sum_within(a, x, c, bx));
 }
 
 fn sums_tested(out: &mut [f32], xs: &[f64; 16], c: f64, a: f64, bx: u64)
@@ -169,11 +179,7 @@ fn sums_tested(out: &mut [f32], xs: &[f64; 16], c: f64, a: f64, bx: u64)
     requires once { Once a c bx × (length out.old ≡ 16) × (length xs.now ≡ 16) }
     ensures { out.new ≡ each (phase_sum c a) xs.now }
 {
-    let mut i = 0usize;
-    while i < 16 {
-        out[i] = phases::phase_sum_once(a, xs[i], c, bx);
-        i += 1;
-    }
+    each_of(out, xs, |x| phases::phase_sum_once(a, x, c, bx));
 }
 
 // Sixteen samples, and the time after them. Whether phases rise is tested once a run, but for the time.
@@ -221,12 +227,11 @@ fn linear_once(
     ensures { out.new ≡ run (linear_at start_time duration c a) dt (length out.old) time }
 {
     let steady = is_steady_for(out.len(), start_time, duration, dt);
-    let mut i = 0usize;
     let mut t = time;
-    while out.len() - i >= 16 {
-        let e = i + 16;
+    for turn in 0..out.len() / 16 {
+        let i = turn * 16;
         t = linear_sixteen(
-            &mut out[i..e],
+            &mut out[i..i + 16],
             steady,
             start_time,
             duration,
@@ -236,9 +241,9 @@ fn linear_once(
             t,
             dt,
         );
-        i = e;
     }
-    linear_rest(&mut out[i..], start_time, duration, c, a, bx, t, dt);
+    let left = out.len() / 16 * 16;
+    linear_rest(&mut out[left..], start_time, duration, c, a, bx, t, dt);
 }
 
 pub fn compute_linear_ramp_samples(
@@ -266,44 +271,6 @@ pub fn compute_linear_ramp_samples(
     linear_run(out, start_time, duration, start_value, diff, time, dt);
 }
 
-// The time of each place, and whether none lies before the start.
-fn times_of(ts: &mut [f64], start_time: f64, time: f64, dt: f64) -> bool
-    ensures { (ts.new ≡ run (λ t. t) dt (length ts.old) time) × (result ≡ begun start_time dt (length ts.old) time) }
-{
-    let mut begun = true;
-    let mut i = 0usize;
-    let mut t = time;
-    while i < ts.len() {
-        if t < start_time {
-            begun = false;
-        }
-        ts[i] = t;
-        t = t + dt;
-        i += 1;
-    }
-    begun
-}
-
-// Times become phases: apart from the sums of times, two divisions go side by side.
-fn phases_at(ts: &mut [f64], start_time: f64, duration: f64)
-    ensures { ts.new ≡ each (phase_of start_time duration) ts.old }
-{
-    let mut i = 0usize;
-    while i < ts.len() {
-        ts[i] = (ts[i] - start_time) / duration;
-        i += 1;
-    }
-}
-
-// The first pass of ramps and targets: the phase at each time, and whether none lies before the start.
-fn phases_of(xs: &mut [f64], start_time: f64, duration: f64, time: f64, dt: f64) -> bool
-    ensures { (xs.new ≡ run (phase_of start_time duration) dt (length xs.old) time) × (result ≡ begun start_time dt (length xs.old) time) }
-{
-    let begun = times_of(xs, start_time, time, dt);
-    phases_at(xs, start_time, duration);
-    begun
-}
-
 // An exponential ramp's run, with L as an f64.
 fn exponential_run(
     out: &mut [f32],
@@ -316,13 +283,9 @@ fn exponential_run(
 )
     ensures { out.new ≡ run (exponential_over start_time duration start_value l) dt (length out.old) time }
 {
-    let mut i = 0usize;
-    let mut t = time;
-    while i < out.len() {
-        out[i] = samples::exponential_over(start_time, duration, start_value, l, t);
-        t = t + dt;
-        i += 1;
-    }
+    at_times(out, time, dt, |t| {
+        samples::exponential_over(start_time, duration, start_value, l, t)
+    });
 }
 
 // x, or 0 where it is not below `top`; a NaN is not.
@@ -353,156 +316,133 @@ fn lifted_at(x: f64) -> u64
     f64::to_bits(z + 25769803776.0)
 }
 
-// Sixteen phases' x = L * phase from the place `at` on, and whether each is seen.
-fn lifts_of(bs: &mut [u64; 128], at: usize, xs: &[f64; 16], l: f64) -> bool
-    requires { (length bs.old ≡ 128) × (length xs.now ≡ 16) × (at + 16 ≤ 128) }
-    ensures { Stands at bs.old bs.new × ((k : ℕ) → k < 16 → InLifts (slice_index bs.new (at + k))) × (result ≡ true → (k : ℕ) → k < 16 → Lifts (mul binary64 l (slice_index_or xs.now k nan)) (slice_index bs.new (at + k))) }
+// What f shows of each of these phases, and whether it shows something of all: a pattern that ends in 18 zeros shows nothing.
+fn shown_of<F: Fn(f64) -> u64>(bs: &mut [u64], xs: &[f64], f: F) -> bool
+    requires as_many { length bs.old ≡ length xs.now }
+    requires callable { F.IsAlwaysCallable f }
+    ensures { Maps (λ x b. F.post f x b × (result ≡ true → b % 2 ^ 18 ≢ 0)) xs.now bs.new }
 {
     let mut all = true;
-    let mut i = 0usize;
-    while i < 16 {
-        let b = lifted_at(l * xs[i]);
-        if b % 0x4_0000 == 0 {
-            all = false;
-        }
-        bs[at + i] = b;
-        i += 1;
-    }
-    all
-}
-
-// The same at times, from the place `at` up to n.
-fn lifts_rest(
-    bs: &mut [u64; 128],
-    at: usize,
-    n: usize,
-    l: f64,
-    start_time: f64,
-    duration: f64,
-    time: f64,
-    dt: f64,
-) -> bool
-    requires { (length bs.old ≡ 128) × (at ≤ n) × (n ≤ 128) }
-    ensures { Stands at bs.old bs.new × ((k : ℕ) → at + k < n → InLifts (slice_index bs.new (at + k))) × (result ≡ true → (k : ℕ) → at + k < n → Lifts (mul binary64 l (phase_of start_time duration (after dt k time))) (slice_index bs.new (at + k))) }
-{
-    let mut all = true;
-    let mut i = at;
-    let mut t = time;
-    while i < n {
-        let b = lifted_at(l * ((t - start_time) / duration));
+    for (i, x) in xs.iter().enumerate() {
+        let b = f(*x);
         if b % 0x4_0000 == 0 {
             all = false;
         }
         bs[i] = b;
-        t = t + dt;
-        i += 1;
     }
     all
 }
 
-// The first pass of an exponential ramp: x at each time, and whether all are seen.
-fn lifts_at(
-    bs: &mut [u64; 128],
-    n: usize,
-    l: f64,
+// The same of the phases at times.
+#[tactic(auto, unfolding(crate::specs::After::after))]
+fn shown_rest<F: Fn(f64) -> u64>(
+    bs: &mut [u64],
     start_time: f64,
     duration: f64,
     time: f64,
     dt: f64,
+    f: F,
 ) -> bool
-    requires { (length bs.old ≡ 128) × (n ≤ 128) }
-    ensures { (length bs.new ≡ 128) × ((k : ℕ) → k < n → InLifts (slice_index bs.new k)) × (result ≡ true → (k : ℕ) → k < n → Lifts (mul binary64 l (phase_of start_time duration (after dt k time))) (slice_index bs.new k)) }
+    requires { F.IsAlwaysCallable f }
+    ensures { Each (λ k b. F.post f (phase_of start_time duration (after dt k time)) b × (result ≡ true → b % 2 ^ 18 ≢ 0)) (length bs.old) bs.new }
 {
     let mut all = true;
-    let mut i = 0usize;
     let mut t = time;
-    while n - i >= 16 {
-        let mut xs = [0.0; 16];
-        t = phases_from(&mut xs, start_time, duration, t, dt);
-        if !lifts_of(bs, i, &xs, l) {
+    for place in bs.iter_mut() {
+        let b = f((t - start_time) / duration);
+        if b % 0x4_0000 == 0 {
             all = false;
         }
-        i += 16;
+        *place = b;
+        t = t + dt;
     }
-    if lifts_rest(bs, i, n, l, start_time, duration, t, dt) {
+    all
+}
+
+// The first pass of exponential ramps and targets: what f shows of the phase at each time, sixteen a turn, and whether it shows something of all.
+fn shown_at<F: Fn(f64) -> u64 + Copy>(
+    bs: &mut [u64],
+    start_time: f64,
+    duration: f64,
+    time: f64,
+    dt: f64,
+    f: F,
+) -> bool
+    requires { F.IsAlwaysCallable f }
+    ensures { result ≡ true → Each (λ k b. F.post f (phase_of start_time duration (after dt k time)) b × (b % 2 ^ 18 ≢ 0)) (length bs.old) bs.new }
+{
+    let mut all = true;
+    let mut t = time;
+    for turn in 0..bs.len() / 16 {
+        let i = turn * 16;
+        let mut xs = [0.0; 16];
+        t = phases_from(&mut xs, start_time, duration, t, dt);
+        if !shown_of(&mut bs[i..i + 16], &xs, f) {
+            all = false;
+        }
+    }
+    let i = bs.len() / 16 * 16;
+    if shown_rest(&mut bs[i..], start_time, duration, t, dt, f) {
         return all;
     }
     false
 }
 
 // The second pass: the estimate of each factor, and whether each tells.
-fn growths_by(ns: &mut [u64; 128], bs: &[u64; 128], n: usize, table: &[u32; 768]) -> bool
-    requires ns_len { (length ns.old ≡ 128) × (length bs.now ≡ 128) × (n ≤ 128) × (table.now ≡ estimates) }
-    requires by_index { (k : ℕ) → k < n → InLifts (slice_index bs.now k) }
-    ensures { (length ns.new ≡ 128) × ((k : ℕ) → k < n → InGrown (slice_index ns.new k)) × (result ≡ true → (k : ℕ) → k < n → Grows (slice_index bs.now k) (slice_index ns.new k)) }
+fn growths_by(ns: &mut [u64], bs: &[u64]) -> bool
+    requires as_many { length ns.old ≡ length bs.now }
+    requires by_index { Each (λ k b. InLifts b) (length bs.now) bs.now }
+    ensures { Maps (λ b n. InGrown n × (result ≡ true → Grows b n)) bs.now ns.new }
 {
     let mut all = true;
-    let mut i = 0usize;
-    while i < n {
-        let b = bs[i];
-        if b / 0x4_0000 % 16777216 == 0 {
+    for (i, b) in bs.iter().enumerate() {
+        if *b / 0x4_0000 % 16777216 == 0 {
             all = false;
         }
-        ns[i] = decays::grown_of(table, b);
-        i += 1;
+        ns[i] = decays::grown_of(*b);
     }
     all
 }
 
 // The third pass: the products by the estimates and by what lies 20 * 2^21 below, and what the higher ones round to.
-fn cells_of(out: &mut [f32], hs: &mut [u64; 128], ls: &mut [u64; 128], ns: &[u64; 128], from: f64)
-    requires out_len_bound { (length out.old ≤ 128) × (length hs.old ≡ 128) × (length ls.old ≡ 128) × (length ns.now ≡ 128) × Middle from }
-    requires by_index { (k : ℕ) → k < length out.old → InGrown (slice_index ns.now k) }
-    ensures { (length hs.new ≡ 128) × (length ls.new ≡ 128) × ((k : ℕ) → k < length out.old → Celled «from» (slice_index ns.now k) (slice_index hs.new k) (slice_index ls.new k) (slice_index_or out.new k nan)) }
+fn cells_of(out: &mut [f32], hs: &mut [u64], ls: &mut [u64], ns: &[u64], from: f64)
+    requires as_many { (length out.old ≡ length ns.now) × (length hs.old ≡ length ns.now) × (length ls.old ≡ length ns.now) × Middle from }
+    requires by_index { Each (λ k n. InGrown n) (length ns.now) ns.now }
+    ensures { (k : ℕ) → k < length ns.now → Celled «from» (slice_index ns.now k) (slice_index hs.new k) (slice_index ls.new k) (slice_index_or out.new k nan) }
 {
-    let mut i = 0usize;
-    while i < out.len() {
-        let n = ns[i];
-        let high = decays::product_of(from, n);
+    for (i, n) in ns.iter().enumerate() {
+        let high = decays::product_of(from, *n);
         hs[i] = high;
-        ls[i] = decays::product_of(from, n - 0x280_0000);
-        out[i] = decays::cut_of(from, n, high);
-        i += 1;
+        ls[i] = decays::product_of(from, *n - 0x280_0000);
+        out[i] = decays::cut_of(from, *n, high);
     }
 }
 
 // Those between whose two products a midpoint of two `f32` may lie go into `slow`; how many these are is given back.
-fn unsure_of(slow: &mut [usize; 128], hs: &[u64; 128], ls: &[u64; 128], n: usize) -> usize
-    requires slow_len { (length slow.old ≡ 128) × (length hs.now ≡ 128) × (length ls.now ≡ 128) × (n ≤ 128) }
-    requires by_index { (k : ℕ) → k < n → Ordered (slice_index hs.now k) (slice_index ls.now k) }
-    ensures { (length slow.new ≡ 128) × (result ≤ n) × ((j : ℕ) → j < result → slice_index slow.new j < n) × ((k : ℕ) → k < n → OneCell (slice_index hs.now k) (slice_index ls.now k) ⊎ Listed slow.new 0 result k) }
+fn unsure_of(slow: &mut [usize], hs: &[u64], ls: &[u64]) -> usize
+    requires as_many { (length slow.old ≡ length hs.now) × (length ls.now ≡ length hs.now) }
+    requires by_index { (k : ℕ) → k < length hs.now → Ordered (slice_index hs.now k) (slice_index ls.now k) }
+    ensures { (result ≤ length hs.now) × ((j : ℕ) → j < result → slice_index slow.new j < length hs.now) × ((k : ℕ) → k < length hs.now → OneCell (slice_index hs.now k) (slice_index ls.now k) ⊎ Listed slow.new 0 result k) }
 {
     let mut count = 0usize;
-    let mut i = 0usize;
-    while i < n {
-        let high = hs[i];
+    for (i, high) in hs.iter().enumerate() {
         slow[count] = i;
-        if (high + 0x1000_0000) % 0x2000_0000 <= high - ls[i] {
+        if (*high + 0x1000_0000) % 0x2000_0000 <= *high - ls[i] {
             count += 1;
         }
-        i += 1;
     }
     count
 }
 
-// The last pass: those by the falling power itself.
-fn grown_settle(
-    out: &mut [f32],
-    slow: &[usize; 128],
-    count: usize,
-    bs: &[u64; 128],
-    table: &[u32; 768],
-    from: f64,
-)
-    requires out_len_bound { (length out.old ≤ 128) × (length slow.now ≡ 128) × (length bs.now ≡ 128) × (count ≤ length out.old) × (table.now ≡ estimates) × Middle from }
-    requires by_index { ((k : ℕ) → k < length out.old → InLifts (slice_index bs.now k) × (slice_index bs.now k / 2 ^ 18 % 2 ^ 24 ≢ 0)) × ((j : ℕ) → j < count → slice_index slow.now j < length out.old) × ((k : ℕ) → k < length out.old → Grew «from» (slice_index bs.now k) (slice_index_or out.old k nan) ⊎ Listed slow.now 0 count k) }
-    ensures { (k : ℕ) → k < length out.old → Grew «from» (slice_index bs.now k) (slice_index_or out.new k nan) }
+// A late pass: what stands in the places of `slow` is made by f, one behind the other, so that a processor works at several.
+fn settle<T: Copy, F: Fn(u64) -> T>(out: &mut [T], slow: &[usize], bs: &[u64], f: F)
+    requires as_many { length bs.now ≡ length out.old }
+    requires listed { (j : ℕ) → j < length slow.now → slice_index slow.now j < length out.old }
+    requires callable { Each (λ k b. F.pre f b) (length bs.now) bs.now }
+    ensures { Each (λ k y. F.post f (slice_index bs.now k) y ⊎ Left slow.now (length slow.now) out.old k y) (length out.old) out.new }
 {
-    let mut j = 0usize;
-    while j < count {
-        let i = slow[j];
-        out[i] = decays::grown_exact(table, from, bs[i]);
-        j += 1;
+    for i in slow.iter() {
+        out[*i] = f(bs[*i]);
     }
 }
 
@@ -523,7 +463,6 @@ fn is_middle(from: f64) -> bool
 // An exponential ramp's run by these passes, where all is seen.
 fn exponential_told(
     out: &mut [f32],
-    table: &[u32; 768],
     start_time: f64,
     duration: f64,
     from: f64,
@@ -531,34 +470,38 @@ fn exponential_told(
     time: f64,
     dt: f64,
 ) -> bool
-    requires { (length out.old ≤ 128) × (table.now ≡ estimates) × T (finite from) }
+    requires { (length out.old ≤ 128) × T (finite from) }
     ensures { result ≡ true → out.new ≡ run (exponential_over start_time duration «from» l) dt (length out.old) time }
 {
-    let n = out.len();
-    let mut bs = [0u64; 128];
     if !is_middle(from) {
         return false;
     }
-    if !lifts_at(&mut bs, n, l, start_time, duration, time, dt) {
+    let n = out.len();
+    let mut bs = [0u64; 128];
+    let bs = &mut bs[..n];
+    if !shown_at(bs, start_time, duration, time, dt, |x| lifted_at(l * x)) {
         return false;
     }
     let mut ns = [0u64; 128];
-    if !growths_by(&mut ns, &bs, n, table) {
+    let ns = &mut ns[..n];
+    if !growths_by(ns, bs) {
         return false;
     }
     let mut hs = [0u64; 128];
+    let hs = &mut hs[..n];
     let mut ls = [0u64; 128];
-    cells_of(out, &mut hs, &mut ls, &ns, from);
+    let ls = &mut ls[..n];
+    cells_of(out, hs, ls, ns, from);
     let mut slow = [0usize; 128];
-    let count = unsure_of(&mut slow, &hs, &ls, n);
-    grown_settle(out, &slow, count, &bs, table, from);
+    let slow = &mut slow[..n];
+    let count = unsure_of(slow, hs, ls);
+    settle(out, &slow[..count], bs, |b| decays::grown_exact(from, b));
     true
 }
 
 // Where not all is seen: each sample by itself.
 fn exponential_each(
     out: &mut [f32],
-    table: &[u32; 768],
     start_time: f64,
     duration: f64,
     from: f64,
@@ -566,22 +509,17 @@ fn exponential_each(
     time: f64,
     dt: f64,
 )
-    requires { (table.now ≡ estimates) × T (finite from) }
+    requires { T (finite from) }
     ensures { out.new ≡ run (exponential_over start_time duration «from» l) dt (length out.old) time }
 {
-    let mut i = 0usize;
-    let mut t = time;
-    while i < out.len() {
-        out[i] = decays::grown_at(table, from, l * ((t - start_time) / duration));
-        t = t + dt;
-        i += 1;
-    }
+    at_times(out, time, dt, |t| {
+        decays::grown_at(from, l * ((t - start_time) / duration))
+    });
 }
 
 // By these passes, which are not worth their arrays for a few samples, or else each sample by itself.
 fn exponential_rest(
     out: &mut [f32],
-    table: &[u32; 768],
     start_time: f64,
     duration: f64,
     from: f64,
@@ -589,20 +527,21 @@ fn exponential_rest(
     time: f64,
     dt: f64,
 )
-    requires { (length out.old ≤ 128) × (table.now ≡ estimates) × T (finite from) }
+    requires { (length out.old ≤ 128) × T (finite from) }
     ensures { out.new ≡ run (exponential_over start_time duration «from» l) dt (length out.old) time }
 {
     if out.len() < 16 {
-        exponential_each(out, table, start_time, duration, from, l, time, dt);
+        exponential_each(out, start_time, duration, from, l, time, dt);
         return;
     }
-    if exponential_told(out, table, start_time, duration, from, l, time, dt) {
+    if exponential_told(out, start_time, duration, from, l, time, dt) {
         return;
     }
-    exponential_each(out, table, start_time, duration, from, l, time, dt);
+    exponential_each(out, start_time, duration, from, l, time, dt);
 }
 
-// A sample at the start itself, whose x is 0 and shows nothing, is taken alone.
+// A sample at the start itself, whose x is 0 and shows nothing, is taken alone. A function of its own: put into the walk's loop it would slow down every head.
+#[inline(never)]
 fn exponential_finite(
     out: &mut [f32],
     start_time: f64,
@@ -615,41 +554,30 @@ fn exponential_finite(
     requires { (length out.old ≤ 128) × T (finite from) }
     ensures { out.new ≡ run (exponential_over start_time duration «from» l) dt (length out.old) time }
 {
-    let table = powers::table();
     if out.len() > 0 {
         if time == start_time {
-            out[0] = decays::grown_at(&table, from, l * ((time - start_time) / duration));
+            out[0] = decays::grown_at(from, l * ((time - start_time) / duration));
             let next = time + dt;
-            exponential_rest(
-                &mut out[1..],
-                &table,
-                start_time,
-                duration,
-                from,
-                l,
-                next,
-                dt,
-            );
+            exponential_rest(&mut out[1..], start_time, duration, from, l, next, dt);
             return;
         }
     }
-    exponential_rest(out, &table, start_time, duration, from, l, time, dt);
+    exponential_rest(out, start_time, duration, from, l, time, dt);
 }
 
 // The time 128 places on.
+#[tactic(auto, unfolding(crate::specs::After::after))]
 fn part_later(time: f64, dt: f64) -> f64
     ensures { result ≡ after dt 128 time }
 {
-    let mut i = 0usize;
     let mut t = time;
-    while i < 128 {
+    for _ in 0..128u64 {
         t = t + dt;
-        i += 1;
     }
     t
 }
 
-// By parts of up to 128. Called from two places a part stays a function of its own: put into the walk's loop it would slow down every head.
+// By parts of up to 128.
 fn exponential_parts(
     out: &mut [f32],
     start: f64,
@@ -662,16 +590,16 @@ fn exponential_parts(
     requires { T (finite from) }
     ensures { out.new ≡ run (exponential_over start duration «from» l) dt (length out.old) time }
 {
-    let mut i = 0usize;
+    let before = out.len().saturating_sub(1) / 128;
     let mut t = time;
-    while out.len() - i > 128 {
-        let e = i + 128;
+    for part in 0..before {
+        let i = part * 128;
         let next = part_later(t, dt);
-        exponential_finite(&mut out[i..e], start, duration, from, l, t, dt);
+        exponential_finite(&mut out[i..i + 128], start, duration, from, l, t, dt);
         t = next;
-        i = e;
     }
-    exponential_finite(&mut out[i..], start, duration, from, l, t, dt);
+    let last = before * 128;
+    exponential_finite(&mut out[last..], start, duration, from, l, t, dt);
 }
 
 pub fn compute_exponential_ramp_samples(
@@ -725,38 +653,9 @@ fn target_run(
 )
     ensures { out.new ≡ run (from_start start_time intrinsic (target_at start_time time_constant end_value diff)) dt (length out.old) time }
 {
-    let mut i = 0usize;
-    let mut t = time;
-    while i < out.len() {
-        out[i] = target_from(start_time, time_constant, end_value, diff, intrinsic, t);
-        t = t + dt;
-        i += 1;
-    }
-}
-
-// Where not all steps are seen: the phases become a target's factors, one by one.
-fn factors_of(xs: &mut [f64], table: &[u32; 768])
-    requires { table.now ≡ estimates }
-    ensures { xs.new ≡ each (λ x. decay (mul binary64 x log2e)) xs.old }
-{
-    let mut i = 0usize;
-    while i < xs.len() {
-        xs[i] = decays::decay_at(table, xs[i] * 1.4426950408889634);
-        i += 1;
-    }
-}
-
-// And the sum with each.
-fn faded_any(out: &mut [f32], fs: &[f64], a: f64, c: f64)
-    requires out_len { (length out.old ≡ length fs.now) × Every (λ f. T (fits binary32 f) × T (not (is_nan f))) fs.now }
-    requires t { T (fits binary32 a) × T (fits binary32 c) × T (finite a) × T (finite c) }
-    ensures { out.new ≡ each (λ f. fused binary32 a f c) fs.now }
-{
-    let mut i = 0usize;
-    while i < out.len() {
-        out[i] = rounding::fused_wide(a, fs[i], c);
-        i += 1;
-    }
+    at_times(out, time, dt, |t| {
+        target_from(start_time, time_constant, end_value, diff, intrinsic, t)
+    });
 }
 
 // How many times factors may halve: where sums are exact from the exponent's field b on, as often as that allows, if the phase x lies before (1.5 is more than log2(e)).
@@ -793,160 +692,32 @@ fn placed(x: f64, few: u64, top: f64) -> u64
     f64::to_bits(z + 25769803776.0)
 }
 
-// Sixteen phases placed from the place `at` on, and whether each shows its steps.
-fn places_of(bs: &mut [u64; 128], at: usize, xs: &[f64; 16], few: u64, top: f64) -> bool
-    requires few_bound { (few ≤ 124) × (top ≡ wide ((few + 1) * 2 ^ 24)) }
-    requires bs_len { (length bs.old ≡ 128) × (length xs.now ≡ 16) × (at + 16 ≤ 128) }
-    ensures { Stands at bs.old bs.new × (result ≡ true → (k : ℕ) → k < 16 → Placed few (slice_index_or xs.now k nan) (slice_index bs.new (at + k))) }
-{
-    let mut all = true;
-    let mut i = 0usize;
-    while i < 16 {
-        let b = placed(xs[i], few, top);
-        if b % 0x4_0000 == 0 {
-            all = false;
-        }
-        bs[at + i] = b;
-        i += 1;
-    }
-    all
-}
-
-// The same of the phases at times, from the place `at` up to n.
-fn places_rest(
-    bs: &mut [u64; 128],
-    at: usize,
-    n: usize,
-    few: u64,
-    top: f64,
-    start_time: f64,
-    duration: f64,
-    time: f64,
-    dt: f64,
-) -> bool
-    requires few_bound { (few ≤ 124) × (top ≡ wide ((few + 1) * 2 ^ 24)) }
-    requires bs_len { (length bs.old ≡ 128) × (at ≤ n) × (n ≤ 128) }
-    ensures { Stands at bs.old bs.new × (result ≡ true → (k : ℕ) → at + k < n → Placed few (phase_of start_time duration (after dt k time)) (slice_index bs.new (at + k))) }
-{
-    let mut all = true;
-    let mut i = at;
-    let mut t = time;
-    while i < n {
-        let b = placed((t - start_time) / duration, few, top);
-        if b % 0x4_0000 == 0 {
-            all = false;
-        }
-        bs[i] = b;
-        t = t + dt;
-        i += 1;
-    }
-    all
-}
-
-// The first pass of a target: the steps at each time, and whether all are seen.
-fn places_at(
-    bs: &mut [u64; 128],
-    n: usize,
-    few: u64,
-    top: f64,
-    start_time: f64,
-    duration: f64,
-    time: f64,
-    dt: f64,
-) -> bool
-    requires few_bound { (few ≤ 124) × (top ≡ wide ((few + 1) * 2 ^ 24)) }
-    requires bs_len { (length bs.old ≡ 128) × (n ≤ 128) }
-    ensures { (length bs.new ≡ 128) × (result ≡ true → (k : ℕ) → k < n → Placed few (phase_of start_time duration (after dt k time)) (slice_index bs.new k)) }
-{
-    let mut all = true;
-    let mut i = 0usize;
-    let mut t = time;
-    while n - i >= 16 {
-        let mut xs = [0.0; 16];
-        t = phases_from(&mut xs, start_time, duration, t, dt);
-        if !places_of(bs, i, &xs, few, top) {
-            all = false;
-        }
-        i += 16;
-    }
-    if places_rest(bs, i, n, few, top, start_time, duration, t, dt) {
-        return all;
-    }
-    false
-}
-
-// The second pass: what shows each factor but for those in `slow`; how many these are is given back. Nothing is chosen by a branch, which a processor would have to foresee.
-fn tell(
-    us: &mut [u64; 128],
-    slow: &mut [usize; 128],
-    bs: &[u64; 128],
-    n: usize,
-    table: &[u32; 768],
-) -> usize
-    requires us_len { (length us.old ≡ 128) × (length slow.old ≡ 128) × (length bs.now ≡ 128) × (n ≤ 128) × (table.now ≡ estimates) }
-    requires by_index { (k : ℕ) → k < n → Steps (slice_index bs.now k) }
-    ensures { (length us.new ≡ 128) × (length slow.new ≡ 128) × (result ≤ n) × ((j : ℕ) → j < result → slice_index slow.new j < n) × ((k : ℕ) → k < n → Shows (slice_index bs.now k) (slice_index us.new k) ⊎ Listed slow.new 0 result k) }
+// The second pass of a target: what shows each factor but for those in `slow`; how many these are is given back. Nothing is chosen by a branch, which a processor would have to foresee.
+fn tell(us: &mut [u64], slow: &mut [usize], bs: &[u64]) -> usize
+    requires as_many { (length us.old ≡ length bs.now) × (length slow.old ≡ length bs.now) }
+    requires by_index { Each (λ k b. Steps b) (length bs.now) bs.now }
+    ensures { (result ≤ length bs.now) × ((j : ℕ) → j < result → slice_index slow.new j < length bs.now) × ((k : ℕ) → k < length bs.now → Shows (slice_index bs.now k) (slice_index us.new k) ⊎ Listed slow.new 0 result k) }
 {
     let mut count = 0usize;
-    let mut i = 0usize;
-    while i < n {
-        let u = decays::near_of(table, bs[i]);
+    for (i, b) in bs.iter().enumerate() {
+        let u = decays::near_of(*b);
         slow[count] = i;
         if u % 256 > 234 {
             count += 1;
         }
         us[i] = u;
-        i += 1;
     }
     count
 }
 
-// The third pass: those in `slow` by the falling power itself, one behind the other, so that a processor works at several.
-fn settle(
-    us: &mut [u64; 128],
-    slow: &[usize; 128],
-    count: usize,
-    bs: &[u64; 128],
-    n: usize,
-    table: &[u32; 768],
-)
-    requires us_len { (length us.old ≡ 128) × (length slow.now ≡ 128) × (length bs.now ≡ 128) × (n ≤ 128) × (count ≤ n) × (table.now ≡ estimates) }
-    requires by_index { ((k : ℕ) → k < n → Steps (slice_index bs.now k)) × ((j : ℕ) → j < count → slice_index slow.now j < n) × ((k : ℕ) → k < n → Shows (slice_index bs.now k) (slice_index us.old k) ⊎ Listed slow.now 0 count k) }
-    ensures { (length us.new ≡ 128) × ((k : ℕ) → k < n → Shows (slice_index bs.now k) (slice_index us.new k)) }
+// The last pass of a target: what f makes of each factor that is shown.
+fn faded<F: Fn(f64) -> f32>(out: &mut [f32], us: &[u64], bs: &[u64], f: F)
+    requires as_many { (length us.now ≡ length out.old) × (length bs.now ≡ length out.old) }
+    requires factors { (k : ℕ) → k < length out.old → Factor (slice_index bs.now k) (slice_index us.now k) × F.pre f (from_bits binary64 (shown (slice_index bs.now k) (slice_index us.now k))) }
+    ensures { Each (λ k y. F.post f (from_bits binary64 (shown (slice_index bs.now k) (slice_index us.now k))) y) (length out.old) out.new }
 {
-    let mut j = 0usize;
-    while j < count {
-        let i = slow[j];
-        us[i] = decays::exact_of(table, bs[i]);
-        j += 1;
-    }
-}
-
-// The last pass: the sum with each factor that is shown, where nothing of it is left to test.
-fn faded_by(out: &mut [f32], us: &[u64; 128], bs: &[u64; 128], a: f64, c: f64)
-    requires t { T (fits binary32 a) × T (fits binary32 c) × T (finite a) × T (finite c) }
-    requires out_len_bound { (length out.old ≤ 128) × (length us.now ≡ 128) × (length bs.now ≡ 128) × ((k : ℕ) → k < length out.old → Factor (slice_index bs.now k) (slice_index us.now k) × Served a c (from_bits binary64 (shown (slice_index bs.now k) (slice_index us.now k)))) }
-    ensures { (k : ℕ) → k < length out.old → slice_index_or out.new k nan ≡ fused binary32 a (from_bits binary64 (shown (slice_index bs.now k) (slice_index us.now k))) c }
-{
-    let mut i = 0usize;
-    while i < out.len() {
-        let n = decays::shown_by(bs[i], us[i]);
-        out[i] = phases::sum_once(a, f64::from_bits(n), c);
-        i += 1;
-    }
-}
-
-// The last pass for any factors that are shown.
-fn faded_wide(out: &mut [f32], us: &[u64; 128], bs: &[u64; 128], a: f64, c: f64)
-    requires t { T (fits binary32 a) × T (fits binary32 c) × T (finite a) × T (finite c) }
-    requires out_len_bound { (length out.old ≤ 128) × (length us.now ≡ 128) × (length bs.now ≡ 128) × ((k : ℕ) → k < length out.old → Factor (slice_index bs.now k) (slice_index us.now k)) }
-    ensures { (k : ℕ) → k < length out.old → slice_index_or out.new k nan ≡ fused binary32 a (from_bits binary64 (shown (slice_index bs.now k) (slice_index us.now k))) c }
-{
-    let mut i = 0usize;
-    while i < out.len() {
-        let n = decays::shown_by(bs[i], us[i]);
-        out[i] = rounding::fused_wide(a, f64::from_bits(n), c);
-        i += 1;
+    for i in 0..out.len() {
+        out[i] = f(f64::from_bits(decays::shown_by(bs[i], us[i])));
     }
 }
 
@@ -961,7 +732,6 @@ fn steps_of(few: u64) -> f64
 // A target's samples by these passes, where all steps are seen and factors halve `few` times at most; `exact` says that sums are exact down to there.
 fn target_shown(
     out: &mut [f32],
-    table: &[u32; 768],
     start: f64,
     constant: f64,
     c: f64,
@@ -971,31 +741,35 @@ fn target_shown(
     time: f64,
     dt: f64,
 ) -> bool
-    requires out_len_bound { (length out.old ≤ 128) × (table.now ≡ estimates) × (few ≤ 124) × (exact ≡ true → Once a c ((1022 - few) * 2 ^ 52)) }
+    requires out_len_bound { (length out.old ≤ 128) × (few ≤ 124) × (exact ≡ true → Once a c ((1022 - few) * 2 ^ 52)) }
     requires t { T (fits binary32 a) × T (fits binary32 c) × T (finite a) × T (finite c) }
     ensures { result ≡ true → out.new ≡ run (target_at start constant c a) dt (length out.old) time }
 {
     let n = out.len();
+    let top = steps_of(few);
     let mut bs = [0u64; 128];
-    if !places_at(&mut bs, n, few, steps_of(few), start, constant, time, dt) {
+    let bs = &mut bs[..n];
+    if !shown_at(bs, start, constant, time, dt, |x| placed(x, few, top)) {
         return false;
     }
     let mut us = [0u64; 128];
+    let us = &mut us[..n];
     let mut slow = [0usize; 128];
-    let count = tell(&mut us, &mut slow, &bs, n, table);
-    settle(&mut us, &slow, count, &bs, n, table);
+    let slow = &mut slow[..n];
+    let count = tell(us, slow, bs);
+    settle(us, &slow[..count], bs, |b| decays::exact_of(b));
     if exact {
-        faded_by(out, &us, &bs, a, c);
+        // sums of which nothing is left to test
+        faded(out, us, bs, |x| phases::sum_once(a, x, c));
         return true;
     }
-    faded_wide(out, &us, &bs, a, c);
+    faded(out, us, bs, |x| rounding::fused_wide(a, x, c));
     true
 }
 
-// The same from behind the start on, for sixteen samples at least. A sample at the start, which shows no steps, is left to the passes below.
+// The same from behind the start on, for sixteen samples at least.
 fn target_told(
     out: &mut [f32],
-    table: &[u32; 768],
     start_time: f64,
     constant: f64,
     c: f64,
@@ -1003,7 +777,7 @@ fn target_told(
     time: f64,
     dt: f64,
 ) -> bool
-    requires out_len_bound { (length out.old ≤ 128) × (table.now ≡ estimates) }
+    requires out_len_bound { (length out.old ≤ 128) }
     requires t { T (fits binary32 a) × T (fits binary32 c) × T (finite a) × T (finite c) }
     ensures { result ≡ true → (v : Float) → out.new ≡ run (from_start start_time v (target_at start_time constant c a)) dt (length out.old) time }
 {
@@ -1013,54 +787,15 @@ fn target_told(
             if start_time < time {
                 let few = few_from(b, (time - start_time + dt * 128.0) / constant);
                 let exact = few + b == 1022;
-                return target_shown(out, table, start_time, constant, c, a, few, exact, time, dt);
+                return target_shown(out, start_time, constant, c, a, few, exact, time, dt);
             }
         }
     }
     false
 }
 
-// Both at the phases xs: to c, from a more.
-fn target_over(out: &mut [f32], xs: &mut [f64], table: &[u32; 768], c: f64, a: f64)
-    requires out_len { (length out.old ≡ length xs.old) × (table.now ≡ estimates) }
-    requires t { T (fits binary32 a) × T (fits binary32 c) × T (finite a) × T (finite c) }
-    ensures { out.new ≡ each (λ x. fused binary32 a (decay (mul binary64 x log2e)) c) xs.old }
-{
-    factors_of(xs, table);
-    faded_any(out, xs, a, c);
-}
-
-// A sample, or the intrinsic value before the start.
-fn held_at(start_time: f64, intrinsic: f32, time: f64, sample: f32) -> f32
-    ensures { result ≡ held_at start_time intrinsic time sample }
-{
-    if time < start_time { intrinsic } else { sample }
-}
-
-// The last pass, where some time lies before the start.
-fn hold_before(out: &mut [f32], start_time: f64, intrinsic: f32, time: f64, dt: f64)
-    ensures { out.new ≡ timed (held_at start_time intrinsic) dt out.old time }
-{
-    let mut i = 0usize;
-    let mut t = time;
-    while i < out.len() {
-        out[i] = held_at(start_time, intrinsic, t, out[i]);
-        t = t + dt;
-        i += 1;
-    }
-}
-
 // A target's value at a time by the table, or the intrinsic value before the start.
-fn target_by(
-    table: &[u32; 768],
-    start_time: f64,
-    constant: f64,
-    c: f64,
-    a: f64,
-    intrinsic: f32,
-    time: f64,
-) -> f32
-    requires table_value { table.now ≡ estimates }
+fn target_by(start_time: f64, constant: f64, c: f64, a: f64, intrinsic: f32, time: f64) -> f32
     requires t { T (fits binary32 a) × T (fits binary32 c) × T (finite a) × T (finite c) }
     ensures { result ≡ from_start start_time intrinsic (target_at start_time constant c a) time }
 {
@@ -1068,40 +803,84 @@ fn target_by(
         return intrinsic;
     }
     let x = (time - start_time) / constant;
-    let f = decays::decay_at(table, x * 1.4426950408889634);
+    let f = decays::decay_at(x * 1.4426950408889634);
     rounding::fused_wide(a, f, c)
 }
 
-// A target's run of up to 128 places, and its value at `end_time`.
-fn target_finite(
+// Where not all steps are seen: each sample by itself.
+fn target_each(
     out: &mut [f32],
     start_time: f64,
-    time_constant: f64,
+    constant: f64,
     c: f64,
     a: f64,
     intrinsic: f32,
     time: f64,
     dt: f64,
-    end_time: f64,
-) -> f32
+)
+    requires t { T (fits binary32 a) × T (fits binary32 c) × T (finite a) × T (finite c) }
+    ensures { out.new ≡ run (from_start start_time intrinsic (target_at start_time constant c a)) dt (length out.old) time }
+{
+    at_times(out, time, dt, |t| {
+        target_by(start_time, constant, c, a, intrinsic, t)
+    });
+}
+
+// By the passes, or else each sample by itself.
+fn target_rest(
+    out: &mut [f32],
+    start_time: f64,
+    constant: f64,
+    c: f64,
+    a: f64,
+    intrinsic: f32,
+    time: f64,
+    dt: f64,
+)
+    requires out_len_bound { (length out.old ≤ 128) }
+    requires t { T (fits binary32 a) × T (fits binary32 c) × T (finite a) × T (finite c) }
+    ensures { out.new ≡ run (from_start start_time intrinsic (target_at start_time constant c a)) dt (length out.old) time }
+{
+    if target_told(out, start_time, constant, c, a, time, dt) {
+        return;
+    }
+    target_each(out, start_time, constant, c, a, intrinsic, time, dt);
+}
+
+// A target's run of up to 128 places. A sample at the start itself, which shows no steps, is taken alone.
+#[inline(never)]
+fn target_finite(
+    out: &mut [f32],
+    start_time: f64,
+    constant: f64,
+    c: f64,
+    a: f64,
+    intrinsic: f32,
+    time: f64,
+    dt: f64,
+)
     requires out_len_bound { length out.old ≤ 128 }
     requires t { T (fits binary32 a) × T (fits binary32 c) × T (finite a) × T (finite c) }
-    ensures { (out.new ≡ run (from_start start_time intrinsic (target_at start_time time_constant c a)) dt (length out.old) time) × (result ≡ from_start start_time intrinsic (target_at start_time time_constant c a) end_time) }
+    ensures { out.new ≡ run (from_start start_time intrinsic (target_at start_time constant c a)) dt (length out.old) time }
 {
-    let table = powers::table();
-    let value = target_by(&table, start_time, time_constant, c, a, intrinsic, end_time);
-    if target_told(out, &table, start_time, time_constant, c, a, time, dt) {
-        return value;
+    if out.len() > 0 {
+        if time == start_time {
+            out[0] = target_by(start_time, constant, c, a, intrinsic, time);
+            let next = time + dt;
+            target_rest(
+                &mut out[1..],
+                start_time,
+                constant,
+                c,
+                a,
+                intrinsic,
+                next,
+                dt,
+            );
+            return;
+        }
     }
-    let n = out.len();
-    let mut xs = [0.0; 128];
-    let begun = phases_of(&mut xs[..n], start_time, time_constant, time, dt);
-    target_over(out, &mut xs[..n], &table, c, a);
-    if begun {
-        return value;
-    }
-    hold_before(out, start_time, intrinsic, time, dt);
-    value
+    target_rest(out, start_time, constant, c, a, intrinsic, time, dt);
 }
 
 // By parts, as those of an exponential ramp.
@@ -1114,24 +893,32 @@ fn target_parts(
     intrinsic: f32,
     time: f64,
     dt: f64,
-    end: f64,
-) -> f32
+)
     requires { T (fits binary32 a) × T (fits binary32 c) × T (finite a) × T (finite c) }
-    ensures { (out.new ≡ run (from_start start intrinsic (target_at start constant c a)) dt (length out.old) time) × (result ≡ from_start start intrinsic (target_at start constant c a) end) }
+    ensures { out.new ≡ run (from_start start intrinsic (target_at start constant c a)) dt (length out.old) time }
 {
-    let mut i = 0usize;
+    let before = out.len().saturating_sub(1) / 128;
     let mut t = time;
-    while out.len() - i > 128 {
-        let e = i + 128;
+    for part in 0..before {
+        let i = part * 128;
         let next = part_later(t, dt);
-        target_finite(&mut out[i..e], start, constant, c, a, intrinsic, t, dt, end);
+        target_finite(
+            &mut out[i..i + 128],
+            start,
+            constant,
+            c,
+            a,
+            intrinsic,
+            t,
+            dt,
+        );
         t = next;
-        i = e;
     }
-    target_finite(&mut out[i..], start, constant, c, a, intrinsic, t, dt, end)
+    let last = before * 128;
+    target_finite(&mut out[last..], start, constant, c, a, intrinsic, t, dt);
 }
 
-// A target's run, and its value at `end`: the table is at hand for both.
+// A target's run, and its value at `end`.
 pub fn compute_set_target_samples(
     out: &mut [f32],
     start: f64,
@@ -1149,7 +936,8 @@ pub fn compute_set_target_samples(
         if floats::is_finite(diff) {
             let c = target as f64;
             let a = diff as f64;
-            return target_parts(out, start, constant, c, a, intrinsic, time, dt, end);
+            target_parts(out, start, constant, c, a, intrinsic, time, dt);
+            return target_by(start, constant, c, a, intrinsic, end);
         }
     }
     target_run(out, start, constant, target, diff, intrinsic, time, dt);
@@ -1181,13 +969,9 @@ fn curve_run(
     requires { (2 ≤ length values.now) × (length values.now ≤ store_length) }
     ensures { out.new ≡ run (from_start start_time intrinsic (curve_sample values.now start_time duration)) dt (length out.old) time }
 {
-    let mut i = 0usize;
-    let mut t = time;
-    while i < out.len() {
-        out[i] = curve_from(start_time, duration, values, intrinsic, t);
-        t = t + dt;
-        i += 1;
-    }
+    at_times(out, time, dt, |t| {
+        curve_from(start_time, duration, values, intrinsic, t)
+    });
 }
 
 // x is a number from 0 up, and below y.
@@ -1214,14 +998,7 @@ fn positions_from(
     requires { length ps.old ≡ 16 }
     ensures { (ps.new ≡ run (position_of n start_time duration) dt 16 time) × (result ≡ after dt 16 time) }
 {
-    let mut i = 0usize;
-    let mut t = time;
-    while i < 16 {
-        ps[i] = n * (t - start_time) / duration;
-        t = t + dt;
-        i += 1;
-    }
-    t
+    at_times(ps, time, dt, |t| n * (t - start_time) / duration)
 }
 
 // What the positions have beyond k.
@@ -1229,11 +1006,7 @@ fn fractions(xs: &mut [f64; 16], ps: &[f64; 16], k: f64)
     requires { (length xs.old ≡ 16) × (length ps.now ≡ 16) }
     ensures { xs.new ≡ each (λ p. sub binary64 p k) ps.now }
 {
-    let mut i = 0usize;
-    while i < 16 {
-        xs[i] = ps[i] - k;
-        i += 1;
-    }
+    each_of(xs, ps, |p| p - k);
 }
 
 // Sixteen sums side by side, and whether all of them were seen.
@@ -1242,20 +1015,15 @@ fn sums_seen(out: &mut [f32], xs: &[f64; 16], c: f64, a: f64) -> bool
     requires out_len { (length out.old ≡ 16) × (length xs.now ≡ 16) × ((i : ℕ) → i < 16 → Within (898 * 2 ^ 52) (slice_index_or xs.now i nan)) }
     ensures { result ≡ true → out.new ≡ each (phase_sum c a) xs.now }
 {
-    let mut i = 0usize;
-    let mut seen = 0usize;
-    while i < 16 {
-        let n = phases::phase_sum_seen(a, xs[i], c);
-        out[i] = f64::from_bits(n) as f32;
-        if n != 0 {
-            seen += 1;
+    let mut seen = true;
+    for (i, x) in xs.iter().enumerate() {
+        let n = phases::phase_sum_seen(a, *x, c);
+        if n == 0 {
+            seen = false;
         }
-        i += 1;
+        out[i] = f64::from_bits(n) as f32;
     }
-    if seen == 16 {
-        return true;
-    }
-    false
+    seen
 }
 
 // The same with nothing to test, where all sums are exact.
@@ -1366,12 +1134,11 @@ fn curve_turns(
     requires { (2 ≤ length values.now) × (length values.now ≤ store_length) }
     ensures { out.new ≡ run (from_start start_time intrinsic (curve_sample values.now start_time duration)) dt (length out.old) time }
 {
-    let mut i = 0usize;
     let mut t = time;
-    while out.len() - i >= 16 {
-        let e = i + 16;
+    for turn in 0..out.len() / 16 {
+        let i = turn * 16;
         t = curve_sixteen(
-            &mut out[i..e],
+            &mut out[i..i + 16],
             start_time,
             duration,
             values,
@@ -1379,10 +1146,10 @@ fn curve_turns(
             t,
             dt,
         );
-        i = e;
     }
+    let left = out.len() / 16 * 16;
     curve_run(
-        &mut out[i..],
+        &mut out[left..],
         start_time,
         duration,
         values,

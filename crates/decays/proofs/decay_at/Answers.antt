@@ -32,7 +32,7 @@ unfolding of_bits
 returns-then-y c = decay_gone c.args.y c.if-y.true
 
 pub told_of-requires : goal.told_of-requires
-told_of-requires c = (c.requires, steps c)
+told_of-requires c = steps c
 
 pub shown_by-requires : goal.shown_by-requires
 shown_by-requires c = (steps (goal.at.shown_by-requires c).Then-b-lt4763106361758187520, c.told_of.ensures.high)

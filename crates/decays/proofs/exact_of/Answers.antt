@@ -21,5 +21,5 @@ overflow_add-result-2 c = record { fits = omega (arith, most c) }
 pub returns : goal.returns
 returns c =
     let b = c.args.b in
-    let s = c.requires.1 in
+    let s = c.requires in
     shows_even b s c.falling_by-d.result (c.falling_by-d.ensures ∙ ap falling (last_steps b s))

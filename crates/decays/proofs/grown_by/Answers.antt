@@ -13,7 +13,7 @@ use Rattle.decays.proofs.grown_by.Goals as goal
 use Rattle.decays.proofs.grown_by.Goals.{Start, Then-n-ne0, Then-s-ne0}
 
 grown : (c : Then-n-ne0) → Grown c.args.x c.args.n
-grown c = seen c.args.n c.requires.2 c.if-n-ne0.true
+grown c = seen c.args.n c.requires.1 c.if-n-ne0.true
 
 -- where the cell is known
 module _ (c : Then-s-ne0) where
@@ -24,13 +24,13 @@ module _ (c : Then-s-ne0) where
   cell = seen c.cell_of-s.result c.cell_of-s.ensures c.if-s-ne0.true
 
   sample : of_bits binary64 c.cell_of-s.result ≡ narrowed (mul binary64 start.args.from (factor_of start.args.x))
-  sample = (grown c.before.before).tells start.args.from c.cell_of-s.result start.requires.1 cell
+  sample = (grown c.before.before).tells start.args.from c.cell_of-s.result start.requires.0 cell
 
   no_nan : T (not (nan_bits binary64 c.cell_of-s.result))
   no_nan = cell_nan start.args.from start.args.n c.cell_of-s.result cell
 
 pub cell_of-s-requires : goal.cell_of-s-requires
-cell_of-s-requires c = (c.requires.1, (grown c).least, (grown c).most)
+cell_of-s-requires c = (c.requires.0, (grown c).least, (grown c).most)
 
 pub float_from_bits-result : goal.float_from_bits-result
 float_from_bits-result c = no_nan c

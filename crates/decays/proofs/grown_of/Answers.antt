@@ -7,8 +7,8 @@ use Rattle.decays.proofs.grown_of.Goals as goal
 pub returns : goal.returns
 returns c =
     let b = c.args.b in
-    let lo = c.requires.1 in
-    let hi = c.requires.2 in
+    let lo = c.requires.0 in
+    let hi = c.requires.1 in
     let e = c.falling_near-e.result in
     let f = c.falling_near-e.ensures.0 in
     let l = falling_low (missing b lo hi) in (

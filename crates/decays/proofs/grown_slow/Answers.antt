@@ -18,7 +18,7 @@ returns-then-d-lt4294967296 c =
     let t = seen h c.lifted-h.ensures (λ z. omega (arith, c.if-h-ge3573547008.true)) in
     c.narrow.ensures
     ∙ ap narrowed
-    (by_itself c.args.x h t.0 c.if-h-ge3573547008.true c.if-h-lt12884901888.true c.if-h-ne0.true c.args.from c.falling_by-d.result c.requires.1 c.falling_by-d.ensures c.if-d-ge2147483648.true
+    (by_itself c.args.x h t.0 c.if-h-ge3573547008.true c.if-h-lt12884901888.true c.if-h-ne0.true c.args.from c.falling_by-d.result c.requires c.falling_by-d.ensures c.if-d-ge2147483648.true
     c.if-d-lt4294967296.true)
 
 pub returns : goal.returns

@@ -14,9 +14,6 @@ loop-i-preserved c =
     let r = c.without_subnormal in
     goes_on a.filled a.buffer.now c.loop-i.invariant (omega arith) _ r.result r.ensures
 
-pub shape_of-buffer : goal.shape_of-buffer
-shape_of-buffer c = c.loop-i.invariant.whole
-
 pub returns-after-loop-i : goal.returns-after-loop-i
 unfolding is_zero Ieee.of_bits
 returns-after-loop-i c =

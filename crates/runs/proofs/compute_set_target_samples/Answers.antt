@@ -24,3 +24,6 @@ float_to_float-a c = let f = fine (goal.at.float_to_float-a c).Then-is_finite-2 
 
 pub target_parts-requires : goal.target_parts-requires
 target_parts-requires c = asked _ _ (fine (goal.at.target_parts-requires c).Then-is_finite-2)
+
+pub target_by-requires : goal.target_by-requires
+target_by-requires c = record { t = asked _ _ (fine (goal.at.target_by-requires c).Then-is_finite-2) }

@@ -1,12 +1,9 @@
 -- `runs::curve_turns` meets its contract. Assumes nothing.
-use Rattle.std.proofs.Common.{◌-◌, length}
+use Rattle.std.proofs.Common.{◌*◌}
 use Rattle.rules.specs.Samples.{curve_sample}
 use Rattle.rules.specs.Walk.{from_start}
 use Rattle.runs.proofs.Filling.{Filled}
 use Rattle.runs.proofs.curve_turns.Given as goal
 
-abbrev pub invariant-loop-out : goal.invariant-loop-out
-invariant-loop-out l = Filled (from_start l.start_time l.intrinsic (curve_sample l.values l.start_time l.duration)) l.dt l.time l.initial.out l.out l.i l.t
-
-abbrev pub decreases-loop-out : goal.decreases-loop-out
-decreases-loop-out l = length l.initial.out - l.i
+abbrev pub invariant-loop-turn : goal.invariant-loop-turn
+invariant-loop-turn l = Filled (from_start l.start_time l.intrinsic (curve_sample l.values l.start_time l.duration)) l.dt l.time l.initial.out l.out (l.turn * 16) l.t

@@ -1,77 +1,27 @@
 -- `runs::exponential_parts` meets its contract. Assumes nothing.
-use Rattle.std.proofs.Common.{◌≡◌, ℕ, ◌+◌, ◌-◌, length, ◌∙◌, le_trans, le_of_eq, arith}
-use lib.Ieee.{Float}
-use borrow.Rule.Slice.PartMut.{mid_len}
+use Rattle.std.proofs.Common.{◌≡◌, ◌+◌, ◌-◌, ◌*◌, ◌≤◌, length, ◌∙◌, arith}
+use borrow.Rule.Slice.PartMut.{mid_of, mid_len}
 use Rattle.samples.specs.At.{exponential_over}
-use Rattle.runs.proofs.Filling.{none_filled, some_more, rest_filled, filled-length, all-filled}
+use Rattle.runs.proofs.Filling.{none_filled, turn_filled, left_filled}
 use Rattle.runs.proofs.exponential_parts.Goals as goal
-use Rattle.runs.proofs.exponential_parts.Goals.{At-loop-out, Start}
 
-abbrev start : At-loop-out → Start
-start a = a.before.before
+pub loop-part-init : goal.loop-part-init
+loop-part-init c = let a = c.args in none_filled (exponential_over a.start a.duration a.«from» a.l) a.dt a.time a.out.now
 
-abbrev sample : Start → Float → Float
-sample s = let a = s.args in exponential_over a.start a.duration a.«from» a.l
-
-kept : (c : At-loop-out) → length c.loop-out.out ≡ length (start c).args.out.now
-kept c = let s = start c in filled-length (sample s) s.args.dt s.args.time c.loop-out.invariant
-
-part : (i : ℕ) → i + 128 - i ≡ 128
-part i = omega arith
-
-pub loop-out-init : goal.loop-out-init
-loop-out-init c = let a = c.args in none_filled (sample (goal.at.loop-out-init c).Start) a.dt a.time a.out.now
-
-pub overflow_sub-out : goal.overflow_sub-out
-overflow_sub-out c = omega (arith, kept c, c.loop-out.invariant.within)
-
-pub overflow_add-e : goal.overflow_add-e
-overflow_add-e c = omega (arith, kept (goal.at.overflow_add-e c).At-loop-out, c.loop-out-test.true, (start (goal.at.overflow_add-e c).At-loop-out).well_formed)
-
-pub offset_bounds-out-i : goal.offset_bounds-out-i
-offset_bounds-out-i c = let a = (goal.at.offset_bounds-out-i c).At-loop-out in omega (arith, kept a, c.loop-out.invariant.within, (start a).well_formed)
-
-pub slice_bounds-exponential_finite-count : goal.slice_bounds-exponential_finite-count
-slice_bounds-exponential_finite-count c = omega arith
-
-pub exponential_finite-requires : goal.exponential_finite-requires
-exponential_finite-requires c =
-    let l = c.loop-out in
-    (le_of_eq (mid_len l.i (l.i + 128) l.out (omega (arith, c.loop-out-test.true)) ∙ part l.i), (start (goal.at.exponential_finite-requires c).At-loop-out).requires)
-
-pub loop-out-smaller : goal.loop-out-smaller
-loop-out-smaller c = omega (arith, kept (goal.at.loop-out-smaller c).At-loop-out, c.loop-out-test.true)
-
-pub loop-out-preserved : goal.loop-out-preserved
-loop-out-preserved c =
-    let l = c.loop-out in
-    let s = start (goal.at.loop-out-preserved c).At-loop-out in
+pub loop-part-preserved : goal.loop-part-preserved
+loop-part-preserved c =
+    let a = c.args in
+    let l = c.loop-part in
     let r = c.exponential_finite in
-    rw (part l.i, c.part_later-next.ensures)
-    (some_more (sample s) s.args.dt s.args.time l.invariant 128 (omega (arith, kept (goal.at.loop-out-preserved c).At-loop-out, c.loop-out-test.true)) r.new.out
-    (r.ensures ∙ rw (mid_len l.i (l.i + 128) l.out (omega (arith, c.loop-out-test.true)) ∙ part l.i)))
-
-pub offset_bounds-out-i-2 : goal.offset_bounds-out-i-2
-offset_bounds-out-i-2 c = omega (arith, kept (goal.at.offset_bounds-out-i-2 c).At-loop-out, c.loop-out.invariant.within, (start (goal.at.offset_bounds-out-i-2 c).At-loop-out).well_formed)
-
-pub slice_bounds-exponential_finite-count-2 : goal.slice_bounds-exponential_finite-count-2
-slice_bounds-exponential_finite-count-2 c = omega (arith, kept (goal.at.slice_bounds-exponential_finite-count-2 c).At-loop-out, c.loop-out.invariant.within)
-
-pub exponential_finite-requires-2 : goal.exponential_finite-requires-2
-exponential_finite-requires-2 c =
-    let a = (goal.at.exponential_finite-requires-2 c).At-loop-out in
-    let l = c.loop-out in
-    let e = mid_len l.i (length l.out) l.out (omega arith) in
-    (le_trans (le_of_eq e) (omega (arith, c.loop-out-test)), (start a).requires)
-
-pub shape_of-out : goal.shape_of-out
-shape_of-out c =
-    let a = (goal.at.shape_of-out c).At-loop-out in
-    let s = start a in
-    filled-length (sample s) s.args.dt s.args.time (rest_filled (sample s) s.args.dt s.args.time c.loop-out.invariant c.exponential_finite-2.new.out c.exponential_finite-2.ensures)
+    let i = l.part * 128 in
+    let room : i + 128 ≤ length a.out.now = omega (arith, c.loop-part-test.true, c.saturating_sub-before.ensures) in
+    let part : i + 128 - i ≡ 128 = omega arith in
+    let next : (l.part + 1) * 128 ≡ i + 128 = omega arith in
+    let long : length (mid_of i (i + 128 - i) l.out) ≡ 128 = mid_len i (i + 128) l.out (omega (arith, l.auto.out, room)) ∙ part in
+    turn_filled (exponential_over a.start a.duration a.«from» a.l) a.dt a.time l.invariant 128 (i + 128 - i) ((l.part + 1) * 128) part next room r.new.out (r.ensures ∙ rw long) _ c.part_later-next.ensures
 
 pub returns : goal.returns
 returns c =
-    let a = (goal.at.returns c).At-loop-out in
-    let s = start a in
-    all-filled (sample s) s.args.dt s.args.time (rest_filled (sample s) s.args.dt s.args.time c.loop-out.invariant c.exponential_finite-2.new.out c.exponential_finite-2.ensures) (omega (arith, kept a, c.loop-out.invariant.within))
+    let a = c.args in
+    let l = c.loop-part in
+    left_filled (exponential_over a.start a.duration a.«from» a.l) a.dt a.time l.invariant _ (omega (arith, l.auto, c.loop-part-test.false)) c.exponential_finite-2.new.out c.exponential_finite-2.ensures

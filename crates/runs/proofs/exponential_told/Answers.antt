@@ -1,16 +1,17 @@
 -- `runs::exponential_told` meets its contract. Assumes nothing.
-use Rattle.std.proofs.Common.{◌≡◌, ℕ, ◌<◌, ◌≤◌, T, length, get_or, sym, refl, ◌∙◌, subst, inl, inr, ⊎_elim, true≢false, ext_get_or}
+use Rattle.std.proofs.Common.{◌≡◌, ℕ, ◌/◌, ◌%◌, ◌^◌, ◌≢◌, ◌<◌, ◌⊎◌, T, length, get_or, sym, ◌∙◌, subst, inl, inr, ⊎_elim, rules, arith}
 use lib.Ieee.{Float, nan, binary64, fits, mul}
-use Rattle.rules.specs.Numbers.{run}
 use Rattle.rules.specs.Samples.{phase_of}
+use Rattle.phases.proofs.Seen.{seen}
 use Rattle.samples.specs.At.{exponential_over}
 use Rattle.decays.specs.Cell.{Lifts, Middle}
 use Rattle.runs.specs.After.{after}
-use Rattle.runs.specs.Placed.{InGrown, Grows, Celled}
-use Rattle.runs.proofs.Filling.{run_length, run_at}
+use Rattle.runs.specs.Placed.{InLifts, InGrown, Grows, Celled, Grew}
 use Rattle.runs.proofs.Cells.{ordered, told}
-use Rattle.runs.proofs.exponential_told.Goals as goal
+use Rattle.runs.proofs.Filling.{run_told}
+use Rattle.runs.proofs.Telling.{settled}
 use Rattle.runs.proofs.exponential_told.Goals.{After-cells_of}
+use Rattle.runs.proofs.exponential_told.Goals as goal
 
 -- what the first three passes have seen
 module _ (u : After-cells_of) where
@@ -18,13 +19,13 @@ module _ (u : After-cells_of) where
   size = length u.args.out.now
 
   fit : T (fits binary64 u.args.«from»)
-  fit = subst T (sym u.well_formed.1.1.1.1.0.1) tt
+  fit = subst T (sym u.well_formed.1.1.1.0.1) tt
 
   middle : Middle u.args.«from»
   middle = u.is_middle.ensures u.if-not-is_middle.false
 
   abbrev b : ℕ → ℕ
-  b k = get_or u.lifts_at.new.bs k 0
+  b k = get_or u.shown_at.new.bs k 0
 
   abbrev n : ℕ → ℕ
   n k = get_or u.growths_by.new.ns k 0
@@ -38,76 +39,49 @@ module _ (u : After-cells_of) where
   abbrev y : ℕ → Float
   y k = get_or u.cells_of.new.out k nan
 
-  lifted : (k : ℕ) → k < size → Lifts (mul binary64 u.args.l (phase_of u.args.start_time u.args.duration (after u.args.dt k u.args.time))) (b k)
-  lifted = u.lifts_at.ensures.2 u.if-not-lifts_at.false
+  long : length u.shown_at.new.bs ≡ size
+  long = search rules
+
+  long_ns : length u.growths_by.new.ns ≡ size
+  long_ns = search rules
+
+  long_hs : length u.cells_of.new.hs ≡ size
+  long_hs = search rules
+
+  lifted : (k : ℕ) → k < size → InLifts (b k) × Lifts (mul binary64 u.args.l (phase_of u.args.start_time u.args.duration (after u.args.dt k u.args.time))) (b k)
+  lifted k m =
+      let p = (u.shown_at.ensures u.if-not-shown_at.false).at k 0 (omega (arith, long)) in
+      let w : InLifts (b k) × ((b k % 2 ^ 18 ≡ 0) ⊎ Lifts (mul binary64 u.args.l (phase_of u.args.start_time u.args.duration (after u.args.dt k u.args.time))) (b k)) = search rules in
+      (w.0, seen (b k % 2 ^ 18) w.1 p.1)
 
   grown : (k : ℕ) → k < size → InGrown (n k)
-  grown = u.growths_by.ensures.1
+  grown k m = (u.growths_by.ensures.at k 0 0 (omega (arith, long))).0
 
   grows : (k : ℕ) → k < size → Grows (b k) (n k)
-  grows = u.growths_by.ensures.2 u.if-not-growths_by.false
+  grows k m = (u.growths_by.ensures.at k 0 0 (omega (arith, long))).1 u.if-not-growths_by.false
 
   cells : (k : ℕ) → k < size → Celled u.args.«from» (n k) (h k) (low k) (y k)
-  cells = u.cells_of.ensures.2
+  cells k m = u.cells_of.ensures k (omega (arith, long_ns))
 
-  kept : length u.cells_of.new.out ≡ size
-  kept = u.cells_of.auto.out
-
-  inside : (k : ℕ) → k < length u.cells_of.new.out → k < size
-  inside k l = subst (λ (m : ℕ). k < m) kept l
-
-pub returns-then-not-is_middle : goal.returns-then-not-is_middle
-returns-then-not-is_middle c = λ t. absurd (true≢false (sym t))
-
-pub returns-then-not-lifts_at : goal.returns-then-not-lifts_at
-returns-then-not-lifts_at c = λ t. absurd (true≢false (sym t))
-
-pub returns-then-not-growths_by : goal.returns-then-not-growths_by
-returns-then-not-growths_by c = λ t. absurd (true≢false (sym t))
-
-pub cells_of-requires : goal.cells_of-requires
-cells_of-requires c = record {
-  out_len_bound = (c.requires.0, refl, refl, c.growths_by.ensures.0, c.is_middle.ensures c.if-not-is_middle.false);
-  by_index = c.growths_by.ensures.1;
-}
-
-pub unsure_of-count-requires : goal.unsure_of-count-requires
-unsure_of-count-requires c =
-    let u = (goal.at.unsure_of-count-requires c).After-cells_of in
-    record {
-      slow_len = (refl, c.cells_of.ensures.0, c.cells_of.ensures.1, c.requires.0);
-      by_index = λ k l. ordered _ (b u k) (n u k) (h u k) (low u k) (y u k) (fit u) (middle u) (grown u k l) (cells u k l);
-    }
-
-pub grown_settle-requires : goal.grown_settle-requires
-grown_settle-requires c =
-    let u = (goal.at.grown_settle-requires c).After-cells_of in
-    let p = c.requires in
-    let w = c.unsure_of-count.ensures in
-    let slow = c.unsure_of-count.new.slow in
-    let count = c.unsure_of-count.result in
-    let len = sym (kept u) in
-    record {
-      out_len_bound = (subst (λ (m : ℕ). m ≤ 128) len p.0, w.0, c.lifts_at.ensures.0, subst (λ (m : ℕ). count ≤ m) len w.1, p.1, middle u);
-      by_index = (
-        (λ k l. (c.lifts_at.ensures.1 k (inside u k l), (grows u k (inside u k l)).0)),
-        (λ j l. subst (λ (m : ℕ). get_or slow j 0 < m) len (w.2 j l)),
-        -- a sample, or a place in the list
-        λ k l.
-            let i = inside u k l in
-            ⊎_elim (λ o. inl (told _ (b u k) (n u k) (h u k) (low u k) (y u k) (fit u) (middle u) (grown u k i) (cells u k i) (grows u k i) o)) (λ o. inr o) (w.3 k i),
-      );
-    }
+pub unsure_of-count-requires-clause-by_index : goal.unsure_of-count-requires-clause-by_index
+unsure_of-count-requires-clause-by_index c = λ k l.
+    let u = (goal.at.unsure_of-count-requires-clause-by_index c).After-cells_of in
+    let m : k < size u = omega (arith, long_hs u) in
+    ordered _ (b u k) (n u k) (h u k) (low u k) (y u k) (fit u) (middle u) (grown u k m) (cells u k m)
 
 pub returns : goal.returns
 unfolding exponential_over
 returns c = λ t.
     let u = (goal.at.returns c).After-cells_of in
     let a = c.args in
-    let sample = exponential_over a.start_time a.duration a.«from» a.l in
-    let last = c.grown_settle.new.out in
-    let len : length last ≡ size u = c.grown_settle.auto.out ∙ kept u in
-    ext_get_or nan last (run sample a.dt (size u) a.time) (len ∙ sym (run_length sample a.dt (size u) a.time))
-    (λ k l.
-    let m : k < size u = subst (λ (i : ℕ). k < i) len l in
-    c.grown_settle.ensures k (subst (λ (i : ℕ). k < i) (sym (kept u)) m) _ (lifted u k m) ∙ sym (run_at sample a.dt (size u) k a.time nan m))
+    let w = c.unsure_of-count in
+    let slow = w.new.slow in
+    let out = c.cells_of.new.out in
+    let last = c.settle.new.out in
+    let long_out : length out ≡ size u = search rules in
+    let long_slow : length slow ≡ size u = search rules in
+    run_told (exponential_over a.start_time a.duration a.«from» a.l) a.dt (size u) a.time last (c.settle.auto.out ∙ long_out)
+    (λ k m.
+    settled (λ k v. Grew a.«from» (b u k) v) slow w.result out k nan (get_or last k nan) (omega (arith, long_out)) (omega (arith, w.ensures.0, long_hs u, long_slow))
+    (⊎_elim (λ o. inl (told _ (b u k) (n u k) (h u k) (low u k) (y u k) (fit u) (middle u) (grown u k m) (cells u k m) (grows u k m) o)) (λ o. inr o) (w.ensures.2 k (omega (arith, long_hs u))))
+    (⊎_elim (λ q. let e : (b u k / 2 ^ 18 % 2 ^ 24 ≢ 0) → Grew a.«from» (b u k) (get_or last k nan) = search rules in inl (e (grows u k m).0)) (λ q. inr q) (c.settle.ensures.at k nan (omega (arith, long_out)))) _ (lifted u k m).1)
