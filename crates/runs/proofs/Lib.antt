@@ -11,5 +11,4 @@ pub mod Later
 pub mod Shown
 pub mod Cells
 pub mod Filling
-pub mod Fine
 pub mod Passing

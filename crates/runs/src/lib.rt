@@ -19,6 +19,10 @@ ghost use Rattle.runs.specs.Passes.{each, phase_sum};
 ghost use Rattle.runs.specs.Placed.{Placed, Listed, Left, Factor, InLifts, InGrown, Grows, Celled, Ordered, OneCell, Grew};
 ghost use Rattle.runs.specs.Rising.{Plain, Steady, Started, Rises, Spans, Between, Climbs, position_of, at_position};
 
+mod line;
+
+use line::Line;
+
 // Every place takes what f makes of its time: the first `time`, each next one `dt` later. The time after them is given back.
 #[tactic(auto, unfolding(crate::specs::After::after))]
 fn at_times<T: Copy, F: Fn(f64) -> T>(out: &mut [T], time: f64, dt: f64, f: F) -> f64
@@ -67,21 +71,19 @@ fn linear_rest(
     out: &mut [f32],
     start_time: f64,
     duration: f64,
-    c: f64,
-    a: f64,
+    line: Line,
     bx: u64,
     time: f64,
     dt: f64,
 )
-    requires t { T (fits binary32 a) × T (fits binary32 c) × T (finite a) × T (finite c) }
-    requires once { Once a c bx }
-    ensures { out.new ≡ run (linear_at start_time duration c a) dt (length out.old) time }
+    requires once { Once line.a line.c bx }
+    ensures { out.new ≡ run (linear_at start_time duration line.c line.a) dt (length out.old) time }
 {
     at_times(
         out,
         time,
         dt,
-        |t| phases::phase_sum_once(a, (t - start_time) / duration, c, bx),
+        |t| phases::phase_sum_once(line.a, (t - start_time) / duration, line.c, bx),
     );
 }
 
@@ -166,20 +168,18 @@ fn phases_from(xs: &mut [f64; 16], start_time: f64, duration: f64, time: f64, dt
 }
 
 // Sixteen samples with nothing to test: they are worked out side by side.
-fn sums_within(out: &mut [f32], xs: &[f64; 16], c: f64, a: f64, bx: u64)
-    requires t { T (fits binary32 a) × T (fits binary32 c) × T (finite a) × T (finite c) }
-    requires once { Once a c bx × (length out.old ≡ 16) × (length xs.now ≡ 16) × ((i : ℕ) → i < 16 → Within bx (slice_index_or xs.now i nan)) }
-    ensures { out.new ≡ each (phase_sum c a) xs.now }
+fn sums_within(out: &mut [f32], xs: &[f64; 16], line: Line, bx: u64)
+    requires once { Once line.a line.c bx × (length out.old ≡ 16) × (length xs.now ≡ 16) × ((i : ℕ) → i < 16 → Within bx (slice_index_or xs.now i nan)) }
+    ensures { out.new ≡ each (phase_sum line.c line.a) xs.now }
 {
-    each_of(out, xs, |x| phases::phase_sum_within(a, x, c, bx));
+    each_of(out, xs, |x| phases::phase_sum_within(line.a, x, line.c, bx));
 }
 
-fn sums_tested(out: &mut [f32], xs: &[f64; 16], c: f64, a: f64, bx: u64)
-    requires t { T (fits binary32 a) × T (fits binary32 c) × T (finite a) × T (finite c) }
-    requires once { Once a c bx × (length out.old ≡ 16) × (length xs.now ≡ 16) }
-    ensures { out.new ≡ each (phase_sum c a) xs.now }
+fn sums_tested(out: &mut [f32], xs: &[f64; 16], line: Line, bx: u64)
+    requires once { Once line.a line.c bx × (length out.old ≡ 16) × (length xs.now ≡ 16) }
+    ensures { out.new ≡ each (phase_sum line.c line.a) xs.now }
 {
-    each_of(out, xs, |x| phases::phase_sum_once(a, x, c, bx));
+    each_of(out, xs, |x| phases::phase_sum_once(line.a, x, line.c, bx));
 }
 
 // Sixteen samples, and the time after them. Whether phases rise is tested once a run, but for the time.
@@ -188,27 +188,25 @@ fn linear_sixteen(
     steady: bool,
     start_time: f64,
     duration: f64,
-    c: f64,
-    a: f64,
+    line: Line,
     bx: u64,
     time: f64,
     dt: f64,
 ) -> f64
-    requires t { T (fits binary32 a) × T (fits binary32 c) × T (finite a) × T (finite c) }
-    requires once { Once a c bx × (length out.old ≡ 16) × (steady ≡ true → Steady start_time duration dt) }
-    ensures { (out.new ≡ run (linear_at start_time duration c a) dt 16 time) × (result ≡ after dt 16 time) }
+    requires once { Once line.a line.c bx × (length out.old ≡ 16) × (steady ≡ true → Steady start_time duration dt) }
+    ensures { (out.new ≡ run (linear_at start_time duration line.c line.a) dt 16 time) × (result ≡ after dt 16 time) }
 {
     let mut xs = [0.0; 16];
     let next = phases_from(&mut xs, start_time, duration, time, dt);
     if steady {
         if is_begun(start_time, time) {
             if spans(xs[0], xs[15], bx) {
-                sums_within(out, &xs, c, a, bx);
+                sums_within(out, &xs, line, bx);
                 return next;
             }
         }
     }
-    sums_tested(out, &xs, c, a, bx);
+    sums_tested(out, &xs, line, bx);
     next
 }
 
@@ -216,15 +214,13 @@ fn linear_once(
     out: &mut [f32],
     start_time: f64,
     duration: f64,
-    c: f64,
-    a: f64,
+    line: Line,
     bx: u64,
     time: f64,
     dt: f64,
 )
-    requires t { T (fits binary32 a) × T (fits binary32 c) × T (finite a) × T (finite c) }
-    requires once { Once a c bx }
-    ensures { out.new ≡ run (linear_at start_time duration c a) dt (length out.old) time }
+    requires once { Once line.a line.c bx }
+    ensures { out.new ≡ run (linear_at start_time duration line.c line.a) dt (length out.old) time }
 {
     let steady = is_steady_for(out.len(), start_time, duration, dt);
     let mut t = time;
@@ -235,15 +231,14 @@ fn linear_once(
             steady,
             start_time,
             duration,
-            c,
-            a,
+            line,
             bx,
             t,
             dt,
         );
     }
     let left = out.len() / 16 * 16;
-    linear_rest(&mut out[left..], start_time, duration, c, a, bx, t, dt);
+    linear_rest(&mut out[left..], start_time, duration, line, bx, t, dt);
 }
 
 pub fn compute_linear_ramp_samples(
@@ -257,15 +252,11 @@ pub fn compute_linear_ramp_samples(
 )
     ensures { out.new ≡ run (linear_at start_time duration start_value diff) dt (length out.old) time }
 {
-    if floats::is_finite(start_value) {
-        if floats::is_finite(diff) {
-            let c = start_value as f64;
-            let a = diff as f64;
-            let bx = phases::once_from(a, c);
-            if bx != 0 {
-                linear_once(out, start_time, duration, c, a, bx, time, dt);
-                return;
-            }
+    if let Some(line) = Line::between(start_value, diff) {
+        let bx = phases::once_from(line.a, line.c);
+        if bx != 0 {
+            linear_once(out, start_time, duration, line, bx, time, dt);
+            return;
         }
     }
     linear_run(out, start_time, duration, start_value, diff, time, dt);
@@ -734,16 +725,14 @@ fn target_shown(
     out: &mut [f32],
     start: f64,
     constant: f64,
-    c: f64,
-    a: f64,
+    line: Line,
     few: u64,
     exact: bool,
     time: f64,
     dt: f64,
 ) -> bool
-    requires out_len_bound { (length out.old ≤ 128) × (few ≤ 124) × (exact ≡ true → Once a c ((1022 - few) * 2 ^ 52)) }
-    requires t { T (fits binary32 a) × T (fits binary32 c) × T (finite a) × T (finite c) }
-    ensures { result ≡ true → out.new ≡ run (target_at start constant c a) dt (length out.old) time }
+    requires out_len_bound { (length out.old ≤ 128) × (few ≤ 124) × (exact ≡ true → Once line.a line.c ((1022 - few) * 2 ^ 52)) }
+    ensures { result ≡ true → out.new ≡ run (target_at start constant line.c line.a) dt (length out.old) time }
 {
     let n = out.len();
     let top = steps_of(few);
@@ -760,10 +749,10 @@ fn target_shown(
     settle(us, &slow[..count], bs, |b| decays::exact_of(b));
     if exact {
         // sums of which nothing is left to test
-        faded(out, us, bs, |x| phases::sum_once(a, x, c));
+        faded(out, us, bs, |x| phases::sum_once(line.a, x, line.c));
         return true;
     }
-    faded(out, us, bs, |x| rounding::fused_wide(a, x, c));
+    faded(out, us, bs, |x| rounding::fused_wide(line.a, x, line.c));
     true
 }
 
@@ -772,22 +761,20 @@ fn target_told(
     out: &mut [f32],
     start_time: f64,
     constant: f64,
-    c: f64,
-    a: f64,
+    line: Line,
     time: f64,
     dt: f64,
 ) -> bool
     requires out_len_bound { (length out.old ≤ 128) }
-    requires t { T (fits binary32 a) × T (fits binary32 c) × T (finite a) × T (finite c) }
-    ensures { result ≡ true → (v : Float) → out.new ≡ run (from_start start_time v (target_at start_time constant c a)) dt (length out.old) time }
+    ensures { result ≡ true → (v : Float) → out.new ≡ run (from_start start_time v (target_at start_time constant line.c line.a)) dt (length out.old) time }
 {
-    let b = phases::once_from(a, c) / 0x10_0000_0000_0000;
+    let b = phases::once_from(line.a, line.c) / 0x10_0000_0000_0000;
     if is_steady_for(out.len(), start_time, constant, dt) {
         if is_begun(start_time, time) {
             if start_time < time {
                 let few = few_from(b, (time - start_time + dt * 128.0) / constant);
                 let exact = few + b == 1022;
-                return target_shown(out, start_time, constant, c, a, few, exact, time, dt);
+                return target_shown(out, start_time, constant, line, few, exact, time, dt);
             }
         }
     }
@@ -795,16 +782,15 @@ fn target_told(
 }
 
 // A target's value at a time by the table, or the intrinsic value before the start.
-fn target_by(start_time: f64, constant: f64, c: f64, a: f64, intrinsic: f32, time: f64) -> f32
-    requires t { T (fits binary32 a) × T (fits binary32 c) × T (finite a) × T (finite c) }
-    ensures { result ≡ from_start start_time intrinsic (target_at start_time constant c a) time }
+fn target_by(start_time: f64, constant: f64, line: Line, intrinsic: f32, time: f64) -> f32
+    ensures { result ≡ from_start start_time intrinsic (target_at start_time constant line.c line.a) time }
 {
     if time < start_time {
         return intrinsic;
     }
     let x = (time - start_time) / constant;
     let f = decays::decay_at(x * 1.4426950408889634);
-    rounding::fused_wide(a, f, c)
+    rounding::fused_wide(line.a, f, line.c)
 }
 
 // Where not all steps are seen: each sample by itself.
@@ -812,17 +798,15 @@ fn target_each(
     out: &mut [f32],
     start_time: f64,
     constant: f64,
-    c: f64,
-    a: f64,
+    line: Line,
     intrinsic: f32,
     time: f64,
     dt: f64,
 )
-    requires t { T (fits binary32 a) × T (fits binary32 c) × T (finite a) × T (finite c) }
-    ensures { out.new ≡ run (from_start start_time intrinsic (target_at start_time constant c a)) dt (length out.old) time }
+    ensures { out.new ≡ run (from_start start_time intrinsic (target_at start_time constant line.c line.a)) dt (length out.old) time }
 {
     at_times(out, time, dt, |t| {
-        target_by(start_time, constant, c, a, intrinsic, t)
+        target_by(start_time, constant, line, intrinsic, t)
     });
 }
 
@@ -831,20 +815,18 @@ fn target_rest(
     out: &mut [f32],
     start_time: f64,
     constant: f64,
-    c: f64,
-    a: f64,
+    line: Line,
     intrinsic: f32,
     time: f64,
     dt: f64,
 )
     requires out_len_bound { (length out.old ≤ 128) }
-    requires t { T (fits binary32 a) × T (fits binary32 c) × T (finite a) × T (finite c) }
-    ensures { out.new ≡ run (from_start start_time intrinsic (target_at start_time constant c a)) dt (length out.old) time }
+    ensures { out.new ≡ run (from_start start_time intrinsic (target_at start_time constant line.c line.a)) dt (length out.old) time }
 {
-    if target_told(out, start_time, constant, c, a, time, dt) {
+    if target_told(out, start_time, constant, line, time, dt) {
         return;
     }
-    target_each(out, start_time, constant, c, a, intrinsic, time, dt);
+    target_each(out, start_time, constant, line, intrinsic, time, dt);
 }
 
 // A target's run of up to 128 places. A sample at the start itself, which shows no steps, is taken alone.
@@ -853,26 +835,23 @@ fn target_finite(
     out: &mut [f32],
     start_time: f64,
     constant: f64,
-    c: f64,
-    a: f64,
+    line: Line,
     intrinsic: f32,
     time: f64,
     dt: f64,
 )
     requires out_len_bound { length out.old ≤ 128 }
-    requires t { T (fits binary32 a) × T (fits binary32 c) × T (finite a) × T (finite c) }
-    ensures { out.new ≡ run (from_start start_time intrinsic (target_at start_time constant c a)) dt (length out.old) time }
+    ensures { out.new ≡ run (from_start start_time intrinsic (target_at start_time constant line.c line.a)) dt (length out.old) time }
 {
     if out.len() > 0 {
         if time == start_time {
-            out[0] = target_by(start_time, constant, c, a, intrinsic, time);
+            out[0] = target_by(start_time, constant, line, intrinsic, time);
             let next = time + dt;
             target_rest(
                 &mut out[1..],
                 start_time,
                 constant,
-                c,
-                a,
+                line,
                 intrinsic,
                 next,
                 dt,
@@ -880,7 +859,7 @@ fn target_finite(
             return;
         }
     }
-    target_rest(out, start_time, constant, c, a, intrinsic, time, dt);
+    target_rest(out, start_time, constant, line, intrinsic, time, dt);
 }
 
 // By parts, as those of an exponential ramp.
@@ -888,14 +867,12 @@ fn target_parts(
     out: &mut [f32],
     start: f64,
     constant: f64,
-    c: f64,
-    a: f64,
+    line: Line,
     intrinsic: f32,
     time: f64,
     dt: f64,
 )
-    requires { T (fits binary32 a) × T (fits binary32 c) × T (finite a) × T (finite c) }
-    ensures { out.new ≡ run (from_start start intrinsic (target_at start constant c a)) dt (length out.old) time }
+    ensures { out.new ≡ run (from_start start intrinsic (target_at start constant line.c line.a)) dt (length out.old) time }
 {
     let before = out.len().saturating_sub(1) / 128;
     let mut t = time;
@@ -906,8 +883,7 @@ fn target_parts(
             &mut out[i..i + 128],
             start,
             constant,
-            c,
-            a,
+            line,
             intrinsic,
             t,
             dt,
@@ -915,7 +891,7 @@ fn target_parts(
         t = next;
     }
     let last = before * 128;
-    target_finite(&mut out[last..], start, constant, c, a, intrinsic, t, dt);
+    target_finite(&mut out[last..], start, constant, line, intrinsic, t, dt);
 }
 
 // A target's run, and its value at `end`.
@@ -932,13 +908,9 @@ pub fn compute_set_target_samples(
 ) -> f32
     ensures { (out.new ≡ run (from_start start intrinsic (target_at start constant target diff)) dt (length out.old) time) × (result ≡ from_start start intrinsic (target_at start constant target diff) end) }
 {
-    if floats::is_finite(target) {
-        if floats::is_finite(diff) {
-            let c = target as f64;
-            let a = diff as f64;
-            target_parts(out, start, constant, c, a, intrinsic, time, dt);
-            return target_by(start, constant, c, a, intrinsic, end);
-        }
+    if let Some(line) = Line::between(target, diff) {
+        target_parts(out, start, constant, line, intrinsic, time, dt);
+        return target_by(start, constant, line, intrinsic, end);
     }
     target_run(out, start, constant, target, diff, intrinsic, time, dt);
     target_from(start, constant, target, diff, intrinsic, end)
@@ -1010,14 +982,13 @@ fn fractions(xs: &mut [f64; 16], ps: &[f64; 16], k: f64)
 }
 
 // Sixteen sums side by side, and whether all of them were seen.
-fn sums_seen(out: &mut [f32], xs: &[f64; 16], c: f64, a: f64) -> bool
-    requires t { T (fits binary32 a) × T (fits binary32 c) × T (finite a) × T (finite c) }
+fn sums_seen(out: &mut [f32], xs: &[f64; 16], line: Line) -> bool
     requires out_len { (length out.old ≡ 16) × (length xs.now ≡ 16) × ((i : ℕ) → i < 16 → Within (898 * 2 ^ 52) (slice_index_or xs.now i nan)) }
-    ensures { result ≡ true → out.new ≡ each (phase_sum c a) xs.now }
+    ensures { result ≡ true → out.new ≡ each (phase_sum line.c line.a) xs.now }
 {
     let mut seen = true;
     for (i, x) in xs.iter().enumerate() {
-        let n = phases::phase_sum_seen(a, *x, c);
+        let n = phases::phase_sum_seen(line.a, *x, line.c);
         if n == 0 {
             seen = false;
         }
@@ -1027,19 +998,18 @@ fn sums_seen(out: &mut [f32], xs: &[f64; 16], c: f64, a: f64) -> bool
 }
 
 // The same with nothing to test, where all sums are exact.
-fn sums_between(out: &mut [f32], xs: &[f64; 16], c: f64, a: f64) -> bool
-    requires t { T (fits binary32 a) × T (fits binary32 c) × T (finite a) × T (finite c) }
+fn sums_between(out: &mut [f32], xs: &[f64; 16], line: Line) -> bool
     requires out_len { (length out.old ≡ 16) × (length xs.now ≡ 16) × Between xs.now × Spans (898 * 2 ^ 52) (slice_index_or xs.now 0 nan) (slice_index_or xs.now 15 nan) }
-    ensures { result ≡ true → out.new ≡ each (phase_sum c a) xs.now }
+    ensures { result ≡ true → out.new ≡ each (phase_sum line.c line.a) xs.now }
 {
-    let bx = phases::once_from(a, c);
+    let bx = phases::once_from(line.a, line.c);
     if bx != 0 {
         if spans(xs[0], xs[15], bx) {
-            sums_within(out, xs, c, a, bx);
+            sums_within(out, xs, line, bx);
             return true;
         }
     }
-    sums_seen(out, xs, c, a)
+    sums_seen(out, xs, line)
 }
 
 // Sixteen samples between two numbers of a curve.
@@ -1047,12 +1017,10 @@ fn curve_part(out: &mut [f32], xs: &[f64; 16], from: f32, diff: f32) -> bool
     requires { (length out.old ≡ 16) × (length xs.now ≡ 16) × Between xs.now × Spans (898 * 2 ^ 52) (slice_index_or xs.now 0 nan) (slice_index_or xs.now 15 nan) }
     ensures { result ≡ true → out.new ≡ each (phase_sum «from» diff) xs.now }
 {
-    if floats::is_finite(from) {
-        if floats::is_finite(diff) {
-            return sums_between(out, xs, from as f64, diff as f64);
-        }
+    match Line::between(from, diff) {
+        Some(line) => sums_between(out, xs, line),
+        None => false,
     }
-    false
 }
 
 // The same by their positions, where all lie between the same two.

@@ -29,15 +29,15 @@ lanes f bx xs e r h i l =
     let a = s.args in
     subst (λ (ys : List Float). Within bx (get_or ys i nan)) (sym e)
     (sixteen_within a.start_time a.duration a.time a.dt
-    (subst T (sym s.well_formed.1.1.0.1) tt) (subst T (sym s.well_formed.1.1.1.0.1) tt) (subst T (sym s.well_formed.1.1.1.1.1.1.1.0.1) tt) (subst T (sym s.well_formed.1.1.1.1.1.1.1.1.0.1) tt)
+    (subst T (sym s.well_formed.1.1.0.1) tt) (subst T (sym s.well_formed.1.1.1.0.1) tt) (subst T (sym s.well_formed.1.1.1.1.1.1.0.1) tt) (subst T (sym s.well_formed.1.1.1.1.1.1.1.0.1) tt)
     r bx (subst (λ (ys : List Float). Spans bx (get_or ys 0 nan) (get_or ys 15 nan)) e h) i l)
 
-samples : (f : After-phases_from-next) (xs out : List Float) → xs ≡ ramp f → out ≡ each (phase_sum (start f).args.«c» (start f).args.a) xs
-    → out ≡ run (linear_at (start f).args.start_time (start f).args.duration (start f).args.«c» (start f).args.a) (start f).args.dt 16 (start f).args.time
+samples : (f : After-phases_from-next) (xs out : List Float) → xs ≡ ramp f → out ≡ each (phase_sum (start f).args.line.«c» (start f).args.line.a) xs
+    → out ≡ run (linear_at (start f).args.start_time (start f).args.duration (start f).args.line.«c» (start f).args.line.a) (start f).args.dt 16 (start f).args.time
 unfolding linear_at phase_sum
 samples f xs out e o =
     let a = (start f).args in
-    o ∙ ap (each (phase_sum a.«c» a.a)) e ∙ each-run (phase_sum a.«c» a.a) (phase_of a.start_time a.duration) a.dt 16 a.time
+    o ∙ ap (each (phase_sum a.line.«c» a.line.a)) e ∙ each-run (phase_sum a.line.«c» a.line.a) (phase_of a.start_time a.duration) a.dt 16 a.time
 
 pub sums_within-requires : goal.sums_within-requires
 sums_within-requires c =
@@ -45,7 +45,6 @@ sums_within-requires c =
     let s = start f in
     let e = c.phases_from-next.ensures.0 in
     record {
-      t = s.requires.t;
       once = (s.requires.once.0, s.requires.once.1, sixteen f _ e, lanes f _ _ e (record { steady = s.requires.once.2 c.if-steady.true; started = c.is_begun.ensures c.if-is_begun.true }) (c.spans.ensures c.if-spans.true));
     }
 
@@ -59,7 +58,6 @@ sums_tested-requires c =
     let f = (goal.at.sums_tested-requires c).After-phases_from-next in
     let s = start f in
     record {
-      t = s.requires.t;
       once = (s.requires.once.0, s.requires.once.1, sixteen f _ c.phases_from-next.ensures.0);
     }
 

@@ -7,7 +7,6 @@ pub sums_within-requires : goal.sums_within-requires
 sums_within-requires c =
     let p = c.requires in
     record {
-      t = p.t;
       once = (seen c.once_from-bx.result c.once_from-bx.ensures c.if-bx-ne0.true, p.out_len.0, p.out_len.1, p.out_len.2 _ (c.spans.ensures c.if-spans.true));
     }
 
@@ -18,6 +17,5 @@ pub sums_seen-requires : goal.sums_seen-requires
 sums_seen-requires c =
     let p = c.requires in
     record {
-      t = p.t;
       out_len = (p.out_len.0, p.out_len.1, p.out_len.2 (898 * 2 ^ 52) p.out_len.3);
     }

@@ -46,11 +46,11 @@ loop-i-preserved c =
       | then-n-eq0 w ↦ λ t. absurd (true≢false (sym t ∙ w.seen-is))
       | else-n-eq0 w ↦ λ t.
           one_each _ (l.invariant (sym w.seen-is ∙ t)) some (of_bits binary64 n.result)
-          (λ x. subst (λ (y : Float). of_bits binary64 n.result ≡ phase_sum a.«c» a.a y) (get_or_default a.xs.now l.i nan x (omega (arith, c.requires.out_len.1, c.loop-i-test.true))) (seen n.result n.ensures w.if-n-eq0.false).0)
+          (λ x. subst (λ (y : Float). of_bits binary64 n.result ≡ phase_sum a.line.«c» a.line.a y) (get_or_default a.xs.now l.i nan x (omega (arith, c.requires.out_len.1, c.loop-i-test.true))) (seen n.result n.ensures w.if-n-eq0.false).0)
     ])
 
 pub returns : goal.returns
 returns c = λ t.
     let l = c.loop-i in
     let a = c.args in
-    each_told (phase_sum a.«c» a.a) a.xs.now l.out (omega (arith, l.auto.out, c.requires.out_len.0, c.requires.out_len.1)) (λ k h. (l.invariant t).at k nan (omega (arith, l.auto, c.loop-i-test.false)) nan)
+    each_told (phase_sum a.line.«c» a.line.a) a.xs.now l.out (omega (arith, l.auto.out, c.requires.out_len.0, c.requires.out_len.1)) (λ k h. (l.invariant t).at k nan (omega (arith, l.auto, c.loop-i-test.false)) nan)

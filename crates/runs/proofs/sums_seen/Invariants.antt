@@ -5,4 +5,4 @@ use Rattle.runs.specs.Passes.{phase_sum}
 use Rattle.runs.proofs.sums_seen.Given as goal
 
 abbrev pub invariant-loop-i : goal.invariant-loop-i
-invariant-loop-i l = l.seen ≡ true → Each (λ k y. (x : _) → y ≡ phase_sum l.c l.a (slice_index_or l.xs k x)) l.i l.out
+invariant-loop-i l = l.seen ≡ true → Each (λ k y. (x : _) → y ≡ phase_sum l.line.c l.line.a (slice_index_or l.xs k x)) l.i l.out

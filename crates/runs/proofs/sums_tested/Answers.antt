@@ -9,4 +9,4 @@ pub returns : goal.returns
 unfolding phase_sum
 returns c =
     let a = c.args in
-    each_told (phase_sum a.«c» a.a) a.xs.now c.each_of.new.out c.each_of.ensures.as_many (λ k h. let p = c.each_of.ensures.at k nan nan h in search rules)
+    each_told (phase_sum a.line.«c» a.line.a) a.xs.now c.each_of.new.out c.each_of.ensures.as_many (λ k h. let p = c.each_of.ensures.at k nan nan h in search rules)

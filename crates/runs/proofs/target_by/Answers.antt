@@ -15,7 +15,7 @@ returns-then-time-start_time c = rw c.if-time-start_time.true
 
 pub fused_wide-requires : goal.fused_wide-requires
 fused_wide-requires c =
-    let p = c.requires.t in
+    let p = c.args.line.ends in
     let e = sym c.decay_at-f.ensures in
     record {
       t = (p.0, subst (λ (v : Float). T (fits binary32 v)) e (decay_fits _), p.1);
@@ -26,4 +26,4 @@ pub returns : goal.returns
 unfolding from_start target_at phase_of of_bits
 returns c =
     let a = c.args in
-    rw c.if-time-start_time.false (c.fused_wide.ensures ∙ ap (λ (v : Float). fused binary32 a.a v a.«c») c.decay_at-f.ensures)
+    rw c.if-time-start_time.false (c.fused_wide.ensures ∙ ap (λ (v : Float). fused binary32 a.line.a v a.line.«c») c.decay_at-f.ensures)

@@ -48,19 +48,19 @@ module _ (z : After-settle) where
       (⊎_elim (λ q. inl (search rules)) (λ q. inr q) (z.settle.ensures.at k 0 (omega (arith, long_us))))
 
   -- the sums with these factors are the samples
-  samples : (out : List Float) → length out ≡ n → ((k : ℕ) → k < n → get_or out k nan ≡ fused binary32 z.args.a (of_bits binary64 (shown (b k) (u k))) z.args.«c»)
-      → out ≡ run (target_at z.args.start z.args.constant z.args.«c» z.args.a) z.args.dt n z.args.time
+  samples : (out : List Float) → length out ≡ n → ((k : ℕ) → k < n → get_or out k nan ≡ fused binary32 z.args.line.a (of_bits binary64 (shown (b k) (u k))) z.args.line.«c»)
+      → out ≡ run (target_at z.args.start z.args.constant z.args.line.«c» z.args.line.a) z.args.dt n z.args.time
   unfolding target_at
   samples out e h =
       let a = z.args in
-      run_told (target_at a.start a.constant a.«c» a.a) a.dt n a.time out e
-      (λ k m. h k m ∙ ap (λ (x : Float). fused binary32 a.a x a.«c») (factor_shown a.few _ (b k) z.requires.out_len_bound.1 (place k m) (u k) (shows k m)))
+      run_told (target_at a.start a.constant a.line.«c» a.line.a) a.dt n a.time out e
+      (λ k m. h k m ∙ ap (λ (x : Float). fused binary32 a.line.a x a.line.«c») (factor_shown a.few _ (b k) z.requires.out_len_bound.1 (place k m) (u k) (shows k m)))
 
 pub faded-requires-clause-factors : goal.faded-requires-clause-factors
 faded-requires-clause-factors c = λ k h.
     let z = (goal.at.faded-requires-clause-factors c).After-settle in
     let p = c.requires.out_len_bound in
-    (factor c.args.few _ (b z k) p.1 (place z k h) (u z k) (shows z k h), λ l r x v. (c.requires.t, served c.args.few _ (b z k) p.1 (place z k h) (u z k) (shows z k h) _ _ (p.2 c.if-exact.true)))
+    (factor c.args.few _ (b z k) p.1 (place z k h) (u z k) (shows z k h), λ l r x v. (c.args.line.ends, served c.args.few _ (b z k) p.1 (place z k h) (u z k) (shows z k h) _ _ (p.2 c.if-exact.true)))
 
 pub returns-then-exact : goal.returns-then-exact
 returns-then-exact c = λ t. let z = (goal.at.returns-then-exact c).After-settle in samples z c.faded.new.out c.faded.auto.out (λ k h. let p = c.faded.ensures.at k nan h in search rules)
@@ -68,7 +68,7 @@ returns-then-exact c = λ t. let z = (goal.at.returns-then-exact c).After-settle
 pub faded-requires-2-clause-factors : goal.faded-requires-2-clause-factors
 faded-requires-2-clause-factors c = λ k h.
     let z = (goal.at.faded-requires-2-clause-factors c).After-settle in
-    let t = c.requires.t in
+    let t = c.args.line.ends in
     let f = factor c.args.few _ (b z k) c.requires.out_len_bound.1 (place z k h) (u z k) (shows z k h) in
     (f, λ l r x v. ((t.0, f.fit, t.1), (finite_no_nan _ t.2, no_nan f, finite_no_nan _ t.3)))
 

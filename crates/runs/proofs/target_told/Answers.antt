@@ -31,7 +31,6 @@ target_shown-requires c =
     let f = c.few_from-few in
     record {
       out_len_bound = (c.requires.out_len_bound, f.ensures, λ e. once_cut _ _ c.once_from-b.result f.result c.once_from-b.ensures f.ensures (eqb-true _ _ e));
-      t = c.requires.t;
     }
 
 pub returns-then-start_time-time : goal.returns-then-start_time-time
@@ -39,10 +38,10 @@ unfolding from_start
 returns-then-start_time-time c = λ t v.
     let a = c.args in
     let r : Rises a.start_time a.constant a.time a.dt = record { steady = c.is_steady_for.ensures c.if-is_steady_for.true; started = c.is_begun.ensures c.if-is_begun.true } in
-    let sample = target_at a.start_time a.constant a.«c» a.a in
+    let sample = target_at a.start_time a.constant a.line.«c» a.line.a in
     c.target_shown.ensures t
     ∙ run-same sample (from_start a.start_time v sample) a.dt (length a.out.now) a.time
-    (λ k h. rw (not_before a.start_time a.constant a.time a.dt (subst T (sym c.well_formed.1.0.1) tt) (subst T (sym c.well_formed.1.1.1.1.1.0.1) tt) (subst T (sym c.well_formed.1.1.1.1.1.1.0.1) tt) r k))
+    (λ k h. rw (not_before a.start_time a.constant a.time a.dt (subst T (sym c.well_formed.1.0.1) tt) (subst T (sym c.well_formed.1.1.1.1.0.1) tt) (subst T (sym c.well_formed.1.1.1.1.1.0.1) tt) r k))
 
 pub returns-else-start_time-time : goal.returns-else-start_time-time
 returns-else-start_time-time c = λ t. absurd (true≢false (sym t))
