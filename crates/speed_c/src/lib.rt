@@ -19,13 +19,11 @@ pub extern "C" fn speed_value(
     let mut p = d.param;
     let mut t = time;
     let mut steps = 0usize;
-    let mut i = 0usize;
-    while i < blocks {
+    for _ in 0..blocks {
         let r = p.process(t, period, count, input, output, store);
         steps = r.steps;
         p = r.param;
         t = t + advance;
-        i += 1;
     }
     steps
 }

@@ -22,15 +22,13 @@ pub extern "C" fn speed_plain(
     let mut p = d.param;
     let mut t = time;
     let mut steps = 0usize;
-    let mut i = 0usize;
-    while i < blocks {
+    for _ in 0..blocks {
         let r = process(p, t, period, count, input, output, store);
         steps = r.steps;
         if !again {
             p = r.param;
         }
         t = t + advance;
-        i += 1;
     }
     steps
 }

@@ -5,8 +5,5 @@ use lib.ListN.{length}
 use Rattle.param.specs.Param.{SoundParam}
 use Rattle.speed_p.proofs.speed_plain.Given as goal
 
-abbrev pub invariant-loop-i : goal.invariant-loop-i
-invariant-loop-i l = SoundParam l.p × (length l.output ≡ length l.initial.output) × (length l.store ≡ length l.initial.store)
-
-abbrev pub decreases-loop-i : goal.decreases-loop-i
-decreases-loop-i l = l.blocks - l.i
+abbrev pub invariant-loop : goal.invariant-loop
+invariant-loop l = SoundParam l.p × (length l.output ≡ length l.initial.output) × (length l.store ≡ length l.initial.store)
