@@ -6,6 +6,7 @@ ghost use Rattle.coding.specs.Coding.{is_state};
 ghost use Rattle.card_reader.specs.Reader.{window_length};
 ghost use Rattle.card_coding.specs.Array.{card_length, state_in, bit_of, are_long, is_head, is_waiting, bytes_counted, is_counted, is_card, Numbers, ReadsCard, PutsHead, PutsCard};
 
+use card::Fault;
 use card_reader::CardReader;
 use card_reader::field::is_whole;
 use coding::event::{flag_of, time_bits, time_in};

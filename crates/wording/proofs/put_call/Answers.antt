@@ -60,21 +60,21 @@ unfolding Wrote Room
 returns-in_default-put_form c = (no_call _ (a_next _ _ c.next_word.ensures.0 c.in-Word.is) c.form_of-form.ensures (ran-unread _ _ _ _ _ c.put_form.ensures.0 c.in_default-put_form.is), tt)
 
 pub next_word-requires-2 : goal.next_word-requires-2
-next_word-requires-2 c = (inside_to _ _ c.put_form.ensures.1 c.in-Some.is).0
+next_word-requires-2 c = (inside_to _ _ c.put_form.ensures.1 c.in-At.is).0
 
 pub returns-in-Word-next_word : goal.returns-in-Word-next_word
 unfolding Wrote Room
 returns-in-Word-next_word c =
-    let v = ran_to _ c.put_form.ensures.0 c.in-Some.is in
+    let v = ran_to _ c.put_form.ensures.0 c.in-At.is in
     (no_end _ (a_next _ _ c.next_word.ensures.0 c.in-Word.is) c.form_of-form.ensures v.1 _ _ (a_next _ _ c.next_word-2.ensures.0 c.in-Word-next_word.is), tt)
 
 pub returns-in-End : goal.returns-in-End
 unfolding Wrote Room
 returns-in-End c =
-    let i = inside_to _ _ c.put_form.ensures.1 c.in-Some.is in
+    let i = inside_to _ _ c.put_form.ensures.1 c.in-At.is in
     let p = places _ _ c.next_word.ensures.1 c.in-Word.is in
     let long = part_length c.args.line.now c.in-Word.from c.in-Word.to p.2 in
-    let v = ran_to _ c.put_form.ensures.0 c.in-Some.is in (
+    let v = ran_to _ c.put_form.ensures.0 c.in-At.is in (
       (
         _,
         a_call _ (a_next _ _ c.next_word.ensures.0 c.in-Word.is) c.form_of-form.ensures v.1 (no_next _ _ c.next_word-2.ensures.0 c.in-End.is),

@@ -18,13 +18,13 @@ returns-in_default-put_fields c =
 
 pub put_tail-requires : goal.put_tail-requires
 put_tail-requires c =
-    let p = passed_to _ _ _ c.put_fields.ensures.1 c.in-Some.is in
+    let p = passed_to _ _ _ c.put_fields.ensures.1 c.in-At.is in
     (p.0, omega arith)
 
 pub returns : goal.returns
 returns c =
-    let p = passed_to _ _ _ c.put_fields.ensures.1 c.in-Some.is in
-    let v = ran_to _ c.put_fields.ensures.0 c.in-Some.is in (
+    let p = passed_to _ _ _ c.put_fields.ensures.1 c.in-At.is in
+    let v = ran_to _ c.put_fields.ensures.0 c.in-At.is in (
       ran-same _ _ _ _ _ (sym (formed_then _ c.in-Is.is v.1))
           (ran-after _ _ _ _ v.2 (omega arith) c.put_tail.ensures.0),
       inside_same _ c.put_fields.new.out c.args.out.now _ (search rules) c.put_tail.ensures.1,

@@ -12,13 +12,13 @@ returns-in_default c = (made_none _ (ran-unread _ _ _ _ _ c.put_fields.ensures.0
 
 pub put_edition-requires : goal.put_edition-requires
 put_edition-requires c =
-    let p = passed_to _ _ _ c.put_fields.ensures.1 c.in-Some.is in
+    let p = passed_to _ _ _ c.put_fields.ensures.1 c.in-At.is in
     (p.0, omega arith)
 
 pub returns : goal.returns
 returns c =
-    let p = passed_to _ _ _ c.put_fields.ensures.1 c.in-Some.is in
-    let v = ran_to _ c.put_fields.ensures.0 c.in-Some.is in (
+    let p = passed_to _ _ _ c.put_fields.ensures.1 c.in-At.is in
+    let v = ran_to _ c.put_fields.ensures.0 c.in-At.is in (
       ran-same _ _ _ _ _ (sym (made_then _ v.1)) (ran-after _ _ _ _ v.2 (omega arith) c.put_edition.ensures.0),
       inside_same _ c.put_fields.new.out c.args.out.now _ (search rules) c.put_edition.ensures.1,
     )
