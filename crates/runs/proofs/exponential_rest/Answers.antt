@@ -10,4 +10,4 @@ returns-then-exponential_told c = c.exponential_told.ensures c.if-exponential_to
 pub returns : goal.returns
 returns c =
     let a = c.args in
-    c.exponential_each-2.ensures ∙ ap (λ (n : ℕ). run (exponential_over a.start_time a.duration a.«from» a.l) a.dt n a.time) c.exponential_told.auto.out
+    c.exponential_each-2.ensures ∙ ap (λ (n : ℕ). run (exponential_over a.start_time a.duration a.«from» a.l) a.times.period n a.times.first) c.exponential_told.auto.out
