@@ -1,5 +1,5 @@
 -- `runs::curve_tried` meets its contract (`proofs/Climb.antt`). Assumes nothing.
-use Rattle.std.proofs.Common.{◌≡◌, ℕ, ◌-◌, ◌≤◌, true, T, List, length, get_or, sym, refl, ap, ◌∙◌, subst, true≢false, arith, lit≤}
+use Rattle.std.proofs.Common.{◌≡◌, ℕ, ◌-◌, ◌≤◌, true, T, List, length, get_or, sym, refl, ap, ◌∙◌, subst, arith, lit≤}
 use lib.Ieee.{Float, nan, binary64, sub, lt, fits}
 use Rattle.rules.specs.Numbers.{wide, run}
 use Rattle.rules.specs.Samples.{curve_sample}
@@ -87,12 +87,3 @@ pub returns-then-short_of-2 : goal.returns-then-short_of-2
 returns-then-short_of-2 c = λ e v.
     let s = (goal.at.returns-then-short_of-2 c).Start in
     samples s (c.rises.ensures c.if-rises.true) (c.short_of.ensures c.if-short_of.true) (c.short_of-then-short_of.ensures c.if-short_of-2.true) _ v (c.curve_within.ensures e)
-
-pub returns-else-short_of-2 : goal.returns-else-short_of-2
-returns-else-short_of-2 c = λ e. absurd (true≢false (sym e))
-
-pub returns-else-short_of : goal.returns-else-short_of
-returns-else-short_of c = λ e. absurd (true≢false (sym e))
-
-pub returns-else-rises : goal.returns-else-rises
-returns-else-rises c = λ e. absurd (true≢false (sym e))

@@ -1,5 +1,5 @@
 -- `runs::target_told` meets its contract. Assumes nothing.
-use Rattle.std.proofs.Common.{◌≡◌, ℕ, ◌+◌, ◌-◌, ◌*◌, ◌/◌, ◌^◌, ◌≤◌, ◌⊎◌, length, sym, ◌∙◌, subst, true≢false, arith, eqb-true}
+use Rattle.std.proofs.Common.{◌≡◌, ℕ, ◌+◌, ◌-◌, ◌*◌, ◌/◌, ◌^◌, ◌≤◌, ◌⊎◌, length, sym, ◌∙◌, subst, arith, eqb-true}
 use lib.Ieee.{Float}
 use Rattle.rules.specs.Walk.{from_start}
 use Rattle.samples.specs.At.{target_at}
@@ -42,12 +42,3 @@ returns-then-start_time-times c = λ t v.
     c.target_shown.ensures t
     ∙ run-same sample (from_start a.start_time v sample) a.times.period (length a.out.now) a.times.first
     (λ k h. rw (not_before a.start_time a.constant a.times.first a.times.period r.steady.start_plain.2 r.started.time_plain.2 r.steady.period_plain.2 r k))
-
-pub returns-else-start_time-times : goal.returns-else-start_time-times
-returns-else-start_time-times c = λ t. absurd (true≢false (sym t))
-
-pub returns-else-is_begun : goal.returns-else-is_begun
-returns-else-is_begun c = λ t. absurd (true≢false (sym t))
-
-pub returns-else-is_steady_for : goal.returns-else-is_steady_for
-returns-else-is_steady_for c = λ t. absurd (true≢false (sym t))
