@@ -1,7 +1,7 @@
 // What fast paths share: floors and sums seen in the patterns of `f64` values, and with them the sum of a linear or a curve's sample.
 #![tactic(auto)]
 
-ghost use Rattle.std.specs.Prelude.{◌≡◌, true, ◌⊎◌, ◌+◌, ◌*◌, ◌^◌, ◌≤◌, ◌<◌, T};
+ghost use Rattle.std.specs.Prelude.{◌≡◌, true, IfSome, ◌⊎◌, ◌+◌, ◌*◌, ◌^◌, ◌≤◌, ◌<◌, T};
 ghost use Rattle.std.specs.Float.{binary32};
 ghost use Rattle.std.specs.Float.Ieee.{fits, eq};
 ghost use Rattle.std.specs.Float.Ieee.Scale.{finite};
@@ -45,56 +45,48 @@ pub fn raised(x: f64) -> u64
     0
 }
 
-// The pattern of x rounded to an `f32`, or 0 where x lies outside the range of the normal ones above 0.
-pub fn cut_phase(x: f64) -> u64
-    ensures { (result ≡ 0) ⊎ Holds result (narrowed x) }
+// The pattern of x rounded to an `f32`, where x lies in the range of the normal ones above 0.
+pub fn cut_phase(x: f64) -> Option<u64>
+    ensures { IfSome result (λ n. Holds n (narrowed x)) }
 {
-    if x == x {
-        let b = f64::to_bits(x);
-        if b >= 0x3820_0000_0000_0000 {
-            if b < 0x47d0_0000_0000_0000 {
-                let q = b + 0xfff_ffff + b / 0x2000_0000 % 2;
-                return q - q % 0x2000_0000;
-            }
-        }
+    if x.is_nan() {
+        return None;
     }
-    0
+    let b = f64::to_bits(x);
+    if b < 0x3820_0000_0000_0000 || b >= 0x47d0_0000_0000_0000 {
+        return None;
+    }
+    let q = b + 0xfff_ffff + b / 0x2000_0000 % 2;
+    Some(q - q % 0x2000_0000)
 }
 
-// The pattern of a * b + c rounded once to an `f32`, or 0. The sum as an `f64` rounds to the same one unless it is a midpoint of two.
-pub fn cut_sum(a: f64, b: f64, c: f64) -> u64
+// The pattern of a * b + c rounded once to an `f32`. The sum as an `f64` rounds to the same one unless it is a midpoint of two.
+pub fn cut_sum(a: f64, b: f64, c: f64) -> Option<u64>
     requires { T (fits binary32 a) × T (fits binary32 b) × T (fits binary32 c) }
-    ensures { (result ≡ 0) ⊎ Holds result (fused binary32 a b c) }
+    ensures { IfSome result (λ n. Holds n (fused binary32 a b c)) }
 {
     let s = a * b + c;
-    if s == s {
-        let n = f64::to_bits(s);
-        let m = n % 0x8000_0000_0000_0000;
-        if m >= 0x3820_0000_0000_0000 {
-            if m < 0x47d0_0000_0000_0000 {
-                let r = n + 0x1000_0000;
-                let l = r % 0x2000_0000;
-                if l != 0 {
-                    return r - l;
-                }
-            }
-        }
+    if s.is_nan() {
+        return None;
     }
-    0
+    let n = f64::to_bits(s);
+    let m = n % 0x8000_0000_0000_0000;
+    if m < 0x3820_0000_0000_0000 || m >= 0x47d0_0000_0000_0000 {
+        return None;
+    }
+    let r = n + 0x1000_0000;
+    let l = r % 0x2000_0000;
+    if l != 0 { Some(r - l) } else { None }
 }
 
 // a * y + c, where y is x rounded to an `f32`.
 pub fn phase_sum_of(a: f32, x: f64, c: f32) -> f32
     ensures { result ≡ fused binary32 a (narrowed x) c }
 {
-    if a == a {
-        if c == c {
-            let y = cut_phase(x);
-            if y != 0 {
-                let s = cut_sum(a as f64, f64::from_bits(y), c as f64);
-                if s != 0 {
-                    return f64::from_bits(s) as f32;
-                }
+    if !a.is_nan() && !c.is_nan() {
+        if let Some(y) = cut_phase(x) {
+            if let Some(s) = cut_sum(a as f64, f64::from_bits(y), c as f64) {
+                return f64::from_bits(s) as f32;
             }
         }
     }
@@ -205,24 +197,25 @@ fn higher(a: u64, b: u64) -> u64
     a + 2
 }
 
-// Which power of two divides a, by its pattern; 0 where nothing is said.
-fn grid_of(a: f64) -> u64
+// Which power of two divides a, by its pattern.
+fn grid_of(a: f64) -> Option<u64>
     requires { T (finite a) }
-    ensures { ((result ≡ 0) ⊎ Grid a result) × (result < 4096) }
+    ensures { IfSome result (λ grid. Grid a grid × (grid < 4096)) }
 {
     let b = f64::to_bits(a);
     let m = b % 0x8000_0000_0000_0000;
     if m == 0 {
-        return 1196;
+        return Some(1196);
     }
     let f = m / 0x10_0000_0000_0000;
-    if f >= 897 {
-        if b % 0x2000_0000_0000 == 0 {
-            return f + 16;
-        }
-        return f;
+    if f < 897 {
+        return None;
     }
-    0
+    if b % 0x2000_0000_0000 == 0 {
+        Some(f + 16)
+    } else {
+        Some(f)
+    }
 }
 
 // The smallest pattern of an x from which on `phase_sum_once` serves a and c, or 0 where there is none.
@@ -233,10 +226,9 @@ pub fn once_from(a: f64, c: f64) -> u64
     let z = f64::to_bits(c) % 0x8000_0000_0000_0000;
     let fa = f64::to_bits(a) % 0x8000_0000_0000_0000 / 0x10_0000_0000_0000;
     let high = higher(fa, z / 0x10_0000_0000_0000);
-    let grid = grid_of(a);
-    if grid == 0 {
+    let Some(grid) = grid_of(a) else {
         return 0;
-    }
+    };
     if high > 1147 {
         return 0;
     }

@@ -1,39 +1,12 @@
 -- The whole part of a float, and how comparisons bound it. Assumes nothing.
-use Rattle.std.proofs.Common.{◌≡◌, ℕ, zero, suc, ◌+◌, ◌-◌, ◌*◌, ◌/◌, ◌%◌, ◌^◌, ◌<◌, ◌≤◌, min, Bool, true, false, cond, ◌&&◌, ◌||◌, T, eqb, ltb, pos, sym, refl, ap, ◌∙◌, subst, true≢false, zero-le, le_trans, le_of_eq, lt_of_lt_of_le, lt_of_le_of_lt, le_of_lt, lt_irrefl, mul_assoc, mul_comm, div-lt_iff_lt-mul, le_antisymm, lt_of_mul-lt-mul_right, mul-pos, lt_of_not-le, le-div_iff_mul-le, mul-one, mul_right_comm, mul_left_comm, arith, lit<, lit≤, ltb-false, ltb-true, eq-eqb, eqb-true}
+use Rattle.std.proofs.Common.{◌≡◌, ℕ, zero, suc, ◌+◌, ◌-◌, ◌*◌, ◌/◌, ◌%◌, ◌^◌, ◌<◌, ◌≤◌, Bool, true, false, cond, ◌&&◌, ◌||◌, T, eqb, ltb, pos, sym, refl, ap, ◌∙◌, subst, true≢false, zero-le, le_trans, le_of_eq, lt_of_lt_of_le, lt_of_le_of_lt, le_of_lt, mul_assoc, mul_comm, div-lt_iff_lt-mul, le_antisymm, lt_of_mul-lt-mul_right, mul-pos, lt_of_not-le, le-div_iff_mul-le, mul-one, mul_right_comm, mul_left_comm, arith, lit<, ltb-false, ltb-true, eq-eqb, eqb-true}
 use mathlib.Core.Bool.{false≢true}
 use native.Mathlib.Nat.{div-le_of_le-mul, min-eq_left, min-eq_right, min-le_left, le-min}
-use lib.Ieee.{Float, nan, inf, fin, Format, binary64, prec, low, emax, up, down, odd, units, round, mul, lt, le, to_unsigned, size, nearest}
+use lib.Ieee.{Float, nan, inf, fin, Format, binary64, prec, low, emax, up, down, odd, units, round, mul, le, to_unsigned, size, nearest}
 use lib.Ieee.Fits.{down_pos}
 use lib.Ieee.Exact.{HasValue}
 use lib.Ieee.Order.{round_mono}
 use lib.Ieee.Positive.{positive, above, positive_of_value, above_of_le, values_of_le}
-
--- ---- the whole part of x, 0 below 0 and the largest number past the end
-end_of_lem : (a d : ℕ) → 0 < d → 2 ^ 64 * d ≤ a → 2 ^ 64 - 1 ≡ min (a / d) (2 ^ 64 - 1)
-end_of_lem a d D h = sym (min-eq_right (le_trans (lit≤ tt) ((le-div_iff_mul-le D).1 h)))
-
-pub past_end : (x : Float) → lt (fin true 1 (pos 0)) x ≡ true → lt x (fin false 1 (pos 64)) ≡ false → 2 ^ 64 - 1 ≡ to_unsigned 64 x
-unfolding lt to_unsigned
-past_end nan p q = absurd (false≢true p)
-past_end (inf true) p q = absurd (false≢true p)
-past_end (inf false) p q = refl
-past_end (fin true m e) p q = absurd (lt_irrefl 0 (lt_of_lt_of_le (mul-pos (lit< tt) (down_pos e)) (none (m * up e * 1) (1 * 2 ^ 64 * down e) (ltb-false 0 (m * up e * 1 + 1 * 2 ^ 64 * down e) q))))
-  where
-    none : (a b : ℕ) → a + b ≤ 0 → b ≤ 0
-    none a b h = omega arith
-past_end (fin false m e) p q =
-    end_of_lem (m * up e) (down e) (down_pos e) (le_trans (ltb-false (m * up e * 1) (1 * 2 ^ 64 * down e) q) (le_of_eq (mul-one (m * up e))))
-
-pub under_zero : (x : Float) → lt (fin true 1 (pos 0)) x ≡ false → 0 ≡ to_unsigned 64 x
-unfolding lt to_unsigned
-under_zero nan p = refl
-under_zero (inf true) p = refl
-under_zero (inf false) p = absurd (true≢false p)
-under_zero (fin true m e) p = refl
-under_zero (fin false m e) p = absurd (lt_irrefl 0 (lt_of_lt_of_le (mul-pos (lit< tt) (down_pos e)) (none (1 * 1 * down e) (m * up e * 1) (ltb-false 0 (1 * 1 * down e + m * up e * 1) p))))
-  where
-    none : (a b : ℕ) → a + b ≤ 0 → a ≤ 0
-    none a b h = omega arith
 
 -- ---- comparisons of two numbers that are not negative
 or_eq : (x y : Bool) → x ≡ true → (x || y) ≡ true

@@ -10,37 +10,16 @@ ghost use Rattle.samples.specs.Search.{Among, FewTests};
 
 use rules::{BlockInfos, Finished};
 
-// Rust's `x as u64`: without the fraction, 0 below 0 and for a NaN, and the largest number past the end.
-fn whole_of(x: f64) -> u64
-    ensures { result ≡ whole_part x }
-{
-    if x > -1.0 {
-        if x < 18446744073709551616.0 {
-            std::num::truncating_f64_to_u64(x)
-        } else {
-            18446744073709551615
-        }
-    } else {
-        0
-    }
-}
-
-// The same, fast below 2^33, by the pattern of x + 3 * 2^33 (see `phases::lifted`).
+// Rust's `x as u64`: without the fraction, 0 below 0 and for a NaN, and the largest number past the end. Fast below 2^33 (see `phases::raised`).
+#[tactic(auto, unfolding(rules::specs::Numbers::whole_part))]
 pub fn whole(x: f64) -> u64
     ensures { result ≡ whole_part x }
 {
-    let v = x + 25769803776.0;
-    if v == v {
-        let b = f64::to_bits(v);
-        if b >= 0x4218_0000_0000_0000 {
-            if b < 0x4220_0000_0000_0000 {
-                if b % 0x4_0000 != 0 {
-                    return (b - 0x4218_0000_0000_0000) / 0x4_0000;
-                }
-            }
-        }
+    let b = phases::raised(x);
+    if b != 0 {
+        return (b - 0x4218_0000_0000_0000) / 0x4_0000;
     }
-    whole_of(x)
+    std::num::saturating_f64_to_u64(x)
 }
 
 // The factor of a target after p steps of 2^-24.
@@ -271,7 +250,7 @@ fn candidates_of(q: f64, count: usize) -> Candidates
     ensures { Among q count result.low result.high × (is_number q ≡ true → result.high - result.low ≤ 1) }
 {
     if q == q {
-        let n = whole_of(q) as usize;
+        let n = std::num::saturating_f64_to_u64(q) as usize;
         if n < count {
             return Candidates {
                 low: n,

@@ -9,19 +9,16 @@ use Rattle.phases.specs.Once.{unsigned, field, Grid, Once}
 use Rattle.phases.proofs.once_from.Goals as goal
 use Rattle.phases.proofs.once_from.Goals.{Joined-z-ne0, then-z-ne0+else-high-z, else-z-ne0}
 
-made : (a c : Float) (high grid x : ℕ) → (grid ≡ 0 → ⊥) → (grid ≡ 0) ⊎ Grid a grid → field a + 2 ≤ high → field c + 2 ≤ high → 950 ≤ high → high ≤ 1147 → 898 ≤ x → high + 1017 ≤ grid + x
+made : (a c : Float) (high grid x : ℕ) → Grid a grid → field a + 2 ≤ high → field c + 2 ≤ high → 950 ≤ high → high ≤ 1147 → 898 ≤ x → high + 1017 ≤ grid + x
     → (unsigned c ≡ 0) ⊎ (high ≤ field c + 29) → Once a c (x * 2 ^ 52)
-made a c high grid x n (inl e) u uc l h v w t = absurd (n e)
-made a c high grid x n (inr g) u uc l h v w t = record { high = high; grid = grid; few = g; over = u; over_c = uc; least = l; most = h; first = omega arith; room = omega arith; third = t }
+made a c high grid x g u uc l h v w t = record { high = high; grid = grid; few = g; over = u; over_c = uc; least = l; most = h; first = omega arith; room = omega arith; third = t }
 
 -- what is known behind the tests
-once : (c : Joined-z-ne0) (x : ℕ) → 898 ≤ x → c.higher-high.result + 1017 ≤ c.grid_of-grid.result + x
+once : (c : Joined-z-ne0) (x : ℕ) → 898 ≤ x → c.higher-high.result + 1017 ≤ c.in-Some.grid + x
     → Once c.args.a c.args.c (x * 2 ^ 52)
 once c x k r =
-    let g = c.before.before.before.before in
-    let h = g.before in
-    let a = h.args in
-    made a.a a.c h.higher-high.result g.grid_of-grid.result x c.if-grid-eq0.false g.grid_of-grid.ensures.0 h.higher-high.ensures.0 h.higher-high.ensures.1 h.higher-high.ensures.2
+    let h = c.higher-high in
+    made c.args.a c.args.c h.result c.in-Some.grid x c.in-Some.ensures.0 h.ensures.0 h.ensures.1 h.ensures.2
     c.if-high-gt1147.false k r
     (elim c.if-z-ne0.branch [ then-z-ne0+else-high-z w ↦ inr w.if-high-z.false | else-z-ne0 w ↦ inl w.if-z-ne0.false ])
 
@@ -31,11 +28,8 @@ float_to_bits-z c = finite_no_nan c.args.c c.requires.1
 pub float_to_bits-fa : goal.float_to_bits-fa
 float_to_bits-fa c = finite_no_nan c.args.a c.requires.0
 
-pub grid_of-grid-requires : goal.grid_of-grid-requires
-grid_of-grid-requires c = c.requires.0
-
-pub returns-then-grid-eq0 : goal.returns-then-grid-eq0
-returns-then-grid-eq0 c = inl refl
+pub grid_of-requires : goal.grid_of-requires
+grid_of-requires c = c.requires.0
 
 pub returns-then-high-gt1147 : goal.returns-then-high-gt1147
 returns-then-high-gt1147 c = inl refl
@@ -52,4 +46,4 @@ returns-then-high-grid-2 c = inr (once (goal.at.returns-then-high-grid-2 c).Join
 pub returns : goal.returns
 returns c =
     let j = (goal.at.returns c).Joined-z-ne0 in
-    inr (once j (c.higher-high.result + 1017 - c.grid_of-grid.result) (omega arith) (omega arith))
+    inr (once j (c.higher-high.result + 1017 - c.in-Some.grid) (omega arith) (omega arith))
