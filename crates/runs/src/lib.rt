@@ -296,7 +296,7 @@ fn above(x: f64, low: f64) -> f64
     0.0
 }
 
-// The pattern that shows the floor of x, where x is less than 60 * 2^24 - 1 from 0; else one that ends in 18 zeros.
+// The pattern that shows the floor of x, where x is less than 60 * 2^24 - 1 from 0; else one that ends in 18 zeros (no Option: sixteen are made side by side, without a branch).
 fn lifted_at(x: f64) -> u64
     ensures { (1082820 * 2 ^ 42 ≤ result) × (result < 1082940 * 2 ^ 42) × ((result % 2 ^ 18 ≡ 0) ⊎ Lifts x result) }
 {
@@ -467,6 +467,7 @@ fn exponential_told(
     if !is_middle(from) {
         return false;
     }
+    // an array a pass, on the stack (no heap); one of structs would be lent whole to passes that read one field and write another
     let n = out.len();
     let mut bs = [0u64; 128];
     let bs = &mut bs[..n];
