@@ -206,6 +206,7 @@ fn linear_sixteen(
     next
 }
 
+// Sixteen places a turn, and what is left. Such a loop stands here, in curve_turns, exponential_parts and target_parts: a generic one would take a closure over a lent part and a ghost sample, and be no plainer.
 fn linear_once(out: &mut [f32], start_time: f64, duration: f64, line: Line, bx: u64, times: Times)
     requires once { Once line.a line.c bx }
     ensures { out.new ≡ run (linear_at start_time duration line.c line.a) times.period (length out.old) times.first }
