@@ -1,7 +1,7 @@
 // Target and exponential samples by a table: where both ends of its estimate of the falling power round alike, so does the falling power between them.
 #![tactic(auto)]
 
-ghost use Rattle.std.specs.Prelude.{◌≡◌, ◌⊎◌, ◌-◌, ◌*◌, ◌/◌, ◌%◌, ◌^◌, ◌≤◌, ◌<◌, T, Float};
+ghost use Rattle.std.specs.Prelude.{◌≡◌, ◌⊎◌, ◌-◌, ◌*◌, ◌/◌, ◌%◌, ◌^◌, ◌≤◌, ◌<◌, T, Float, IfSome};
 ghost use Rattle.std.specs.Float.{binary64};
 ghost use Rattle.std.specs.Float.Ieee.{mul, of_bits};
 ghost use Rattle.std.specs.Float.Ieee.Scale.{finite};
@@ -76,10 +76,10 @@ pub fn decay_at(y: f64) -> f64
     decay_by(y) as f64
 }
 
-// The pattern of `from` times what n is the pattern of, rounded to an `f32`, or 0 where a product with what lies up to 20 * 2^21 below n may round otherwise.
-fn cell_of(from: f64, n: u64) -> u64
+// The pattern of `from` times what n is the pattern of, rounded to an `f32`, where no product with what lies up to 20 * 2^21 below n may round otherwise.
+fn cell_of(from: f64, n: u64) -> Option<u64>
     requires { T (finite from) × (41943040 ≤ n) × (n ≤ 2046 * 2 ^ 52) }
-    ensures { (result ≡ 0) ⊎ Cell from n result }
+    ensures { IfSome result (λ s. Cell from n s) }
 {
     let high = f64::to_bits(from * f64::from_bits(n));
     let low = f64::to_bits(from * f64::from_bits(n - 0x280_0000));
@@ -89,12 +89,12 @@ fn cell_of(from: f64, n: u64) -> u64
             let r = high + 0x1000_0000;
             if low % 0x2000_0000 != 0x1000_0000 {
                 if (low / 0x1000_0000 + 1) / 2 == r / 0x2000_0000 {
-                    return r - r % 0x2000_0000;
+                    return Some(r - r % 0x2000_0000);
                 }
             }
         }
     }
-    0
+    None
 }
 
 fn grown_slow(from: f64, x: f64) -> f32
@@ -118,9 +118,9 @@ fn grown_slow(from: f64, x: f64) -> f32
     rounding::narrow(from * samples::factor(x))
 }
 
-// The pattern of an estimate of an exponential's factor for x = L * phase, from above, or 0 where there is none.
-fn grown_near(x: f64) -> u64
-    ensures { (result ≡ 0) ⊎ Grown x result }
+// The pattern of an estimate of an exponential's factor for x = L * phase, from above, where there is one.
+fn grown_near(x: f64) -> Option<u64>
+    ensures { IfSome result (λ n. Grown x n) }
 {
     let h = phases::lifted(x);
     if h >= 3573547008 {
@@ -129,23 +129,22 @@ fn grown_near(x: f64) -> u64
                 let e = powers::falling_near(16777216 - h % 16777216);
                 if e >= 2147483668 {
                     if e < 4294967296 {
-                        return (h / 16777216 + 510) * 0x10_0000_0000_0000 + e * 0x20_0000;
+                        return Some((h / 16777216 + 510) * 0x10_0000_0000_0000 + e * 0x20_0000);
                     }
                 }
             }
         }
     }
-    0
+    None
 }
 
-// An exponential sample, the start value times the factor for x, narrowed; n is the estimate's pattern, or 0.
-fn grown_by(from: f64, x: f64, n: u64) -> f32
-    requires { T (finite from) × ((n ≡ 0) ⊎ Grown x n) }
+// An exponential sample, the start value times the factor for x, narrowed; n is the estimate's pattern, if there is one.
+fn grown_by(from: f64, x: f64, n: Option<u64>) -> f32
+    requires { T (finite from) × IfSome n (λ m. Grown x m) }
     ensures { result ≡ narrowed (mul binary64 from (factor_of x)) }
 {
-    if n != 0 {
-        let s = cell_of(from, n);
-        if s != 0 {
+    if let Some(m) = n {
+        if let Some(s) = cell_of(from, m) {
             return f64::from_bits(s) as f32;
         }
     }

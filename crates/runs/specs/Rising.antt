@@ -1,7 +1,7 @@
 -- When the phases of a run, or its positions in a curve, rise, as far as a test of its numbers shows.
 use Rattle.std.specs.Prelude.{◌≡◌, ℕ, ◌+◌, ◌*◌, ◌^◌, ◌<◌, ◌≤◌, true, false, not, T, List, get_or, is_nan, slice_index_or, to_bits, Float}
 use Rattle.std.specs.Float.{nan, binary32, binary64}
-use Rattle.std.specs.Float.Ieee.{sub, mul, div, le, lt}
+use Rattle.std.specs.Float.Ieee.{fits, sub, mul, div, le, lt}
 use Rattle.std.specs.Float.Ieee.Exact.{HasValue}
 use Rattle.rules.specs.Numbers.{plus_zero, wide, whole_part}
 use Rattle.phases.specs.Once.{Within}
@@ -11,9 +11,9 @@ use Rattle.runs.specs.Passes.{phase_sum}
 abbrev pub Is : Float → ℕ → Type 0
 Is x n = HasValue x false n (2 ^ 1074)
 
--- a finite number that has no sign, by its pattern
+-- a finite number of f64 that has no sign, by its pattern
 abbrev pub Plain : Float → Type 0
-Plain x = T (not (is_nan x)) × (to_bits binary64 x < 2047 * 2 ^ 52)
+Plain x = T (not (is_nan x)) × (to_bits binary64 x < 2047 * 2 ^ 52) × T (fits binary64 x)
 
 -- phases rise with the time
 pub record Steady (start duration period : Float) : Type 0 where

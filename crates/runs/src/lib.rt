@@ -23,17 +23,24 @@ mod line;
 
 use line::Line;
 
+// When the places of a run are: the first, and each next one a period later.
+#[derive(Clone, Copy)]
+struct Times {
+    first: f64,
+    period: f64,
+}
+
 // Every place takes what f makes of its time: the first `time`, each next one `dt` later. The time after them is given back.
 #[tactic(auto, unfolding(crate::specs::After::after))]
-fn at_times<T: Copy, F: Fn(f64) -> T>(out: &mut [T], time: f64, dt: f64, f: F) -> f64
+fn at_times<T: Copy, F: Fn(f64) -> T>(out: &mut [T], times: Times, f: F) -> f64
     requires { F.IsAlwaysCallable f }
-    ensures each { Each (λ k y. F.post f (after dt k time) y) (length out.old) out.new }
-    ensures next { result ≡ after dt (length out.old) time }
+    ensures each { Each (λ k y. F.post f (after times.period k times.first) y) (length out.old) out.new }
+    ensures next { result ≡ after times.period (length out.old) times.first }
 {
-    let mut t = time;
+    let mut t = times.first;
     for o in out.iter_mut() {
         *o = f(t);
-        t = t + dt;
+        t = t + times.period;
     }
     t
 }
@@ -56,33 +63,23 @@ fn linear_run(
     duration: f64,
     start_value: f32,
     diff: f32,
-    time: f64,
-    dt: f64,
+    times: Times,
 )
-    ensures { out.new ≡ run (linear_at start_time duration start_value diff) dt (length out.old) time }
+    ensures { out.new ≡ run (linear_at start_time duration start_value diff) times.period (length out.old) times.first }
 {
-    at_times(out, time, dt, |t| {
+    at_times(out, times, |t| {
         samples::compute_linear_ramp_sample(start_time, duration, start_value, diff, t)
     });
 }
 
 // From c, by a, values of `f32` whose sums are exact from bx on.
-fn linear_rest(
-    out: &mut [f32],
-    start_time: f64,
-    duration: f64,
-    line: Line,
-    bx: u64,
-    time: f64,
-    dt: f64,
-)
+fn linear_rest(out: &mut [f32], start_time: f64, duration: f64, line: Line, bx: u64, times: Times)
     requires once { Once line.a line.c bx }
-    ensures { out.new ≡ run (linear_at start_time duration line.c line.a) dt (length out.old) time }
+    ensures { out.new ≡ run (linear_at start_time duration line.c line.a) times.period (length out.old) times.first }
 {
     at_times(
         out,
-        time,
-        dt,
+        times,
         |t| phases::phase_sum_once(line.a, (t - start_time) / duration, line.c, bx),
     );
 }
@@ -134,11 +131,11 @@ fn is_begun(start_time: f64, time: f64) -> bool
 }
 
 // Phases from this time on rise.
-fn rises(start_time: f64, duration: f64, time: f64, dt: f64) -> bool
-    ensures { result ≡ true → Rises start_time duration time dt }
+fn rises(start_time: f64, duration: f64, times: Times) -> bool
+    ensures { result ≡ true → Rises start_time duration times.first times.period }
 {
-    if is_steady(start_time, duration, dt) {
-        return is_begun(start_time, time);
+    if is_steady(start_time, duration, times.period) {
+        return is_begun(start_time, times.first);
     }
     false
 }
@@ -160,11 +157,11 @@ fn spans(x: f64, y: f64, bx: u64) -> bool
 }
 
 // Sixteen phases, and the time after them.
-fn phases_from(xs: &mut [f64; 16], start_time: f64, duration: f64, time: f64, dt: f64) -> f64
+fn phases_from(xs: &mut [f64; 16], start_time: f64, duration: f64, times: Times) -> f64
     requires { length xs.old ≡ 16 }
-    ensures { (xs.new ≡ run (phase_of start_time duration) dt 16 time) × (result ≡ after dt 16 time) }
+    ensures { (xs.new ≡ run (phase_of start_time duration) times.period 16 times.first) × (result ≡ after times.period 16 times.first) }
 {
-    at_times(xs, time, dt, |t| (t - start_time) / duration)
+    at_times(xs, times, |t| (t - start_time) / duration)
 }
 
 // Sixteen samples with nothing to test: they are worked out side by side.
@@ -190,16 +187,15 @@ fn linear_sixteen(
     duration: f64,
     line: Line,
     bx: u64,
-    time: f64,
-    dt: f64,
+    times: Times,
 ) -> f64
-    requires once { Once line.a line.c bx × (length out.old ≡ 16) × (steady ≡ true → Steady start_time duration dt) }
-    ensures { (out.new ≡ run (linear_at start_time duration line.c line.a) dt 16 time) × (result ≡ after dt 16 time) }
+    requires once { Once line.a line.c bx × (length out.old ≡ 16) × (steady ≡ true → Steady start_time duration times.period) }
+    ensures { (out.new ≡ run (linear_at start_time duration line.c line.a) times.period 16 times.first) × (result ≡ after times.period 16 times.first) }
 {
     let mut xs = [0.0; 16];
-    let next = phases_from(&mut xs, start_time, duration, time, dt);
+    let next = phases_from(&mut xs, start_time, duration, times);
     if steady {
-        if is_begun(start_time, time) {
+        if is_begun(start_time, times.first) {
             if spans(xs[0], xs[15], bx) {
                 sums_within(out, &xs, line, bx);
                 return next;
@@ -210,20 +206,13 @@ fn linear_sixteen(
     next
 }
 
-fn linear_once(
-    out: &mut [f32],
-    start_time: f64,
-    duration: f64,
-    line: Line,
-    bx: u64,
-    time: f64,
-    dt: f64,
-)
+// Sixteen places a turn, and what is left. Such a loop stands here, in curve_turns, exponential_parts and target_parts: a generic one would take a closure over a lent part and a ghost sample, and be no plainer.
+fn linear_once(out: &mut [f32], start_time: f64, duration: f64, line: Line, bx: u64, times: Times)
     requires once { Once line.a line.c bx }
-    ensures { out.new ≡ run (linear_at start_time duration line.c line.a) dt (length out.old) time }
+    ensures { out.new ≡ run (linear_at start_time duration line.c line.a) times.period (length out.old) times.first }
 {
-    let steady = is_steady_for(out.len(), start_time, duration, dt);
-    let mut t = time;
+    let steady = is_steady_for(out.len(), start_time, duration, times.period);
+    let mut t = times.first;
     for turn in 0..out.len() / 16 {
         let i = turn * 16;
         t = linear_sixteen(
@@ -233,12 +222,18 @@ fn linear_once(
             duration,
             line,
             bx,
-            t,
-            dt,
+            Times { first: t, ..times },
         );
     }
     let left = out.len() / 16 * 16;
-    linear_rest(&mut out[left..], start_time, duration, line, bx, t, dt);
+    linear_rest(
+        &mut out[left..],
+        start_time,
+        duration,
+        line,
+        bx,
+        Times { first: t, ..times },
+    );
 }
 
 pub fn compute_linear_ramp_samples(
@@ -252,14 +247,18 @@ pub fn compute_linear_ramp_samples(
 )
     ensures { out.new ≡ run (linear_at start_time duration start_value diff) dt (length out.old) time }
 {
+    let times = Times {
+        first: time,
+        period: dt,
+    };
     if let Some(line) = Line::between(start_value, diff) {
         let bx = phases::once_from(line.a, line.c);
         if bx != 0 {
-            linear_once(out, start_time, duration, line, bx, time, dt);
+            linear_once(out, start_time, duration, line, bx, times);
             return;
         }
     }
-    linear_run(out, start_time, duration, start_value, diff, time, dt);
+    linear_run(out, start_time, duration, start_value, diff, times);
 }
 
 // An exponential ramp's run, with L as an f64.
@@ -269,12 +268,11 @@ fn exponential_run(
     duration: f64,
     start_value: f32,
     l: f64,
-    time: f64,
-    dt: f64,
+    times: Times,
 )
-    ensures { out.new ≡ run (exponential_over start_time duration start_value l) dt (length out.old) time }
+    ensures { out.new ≡ run (exponential_over start_time duration start_value l) times.period (length out.old) times.first }
 {
-    at_times(out, time, dt, |t| {
+    at_times(out, times, |t| {
         samples::exponential_over(start_time, duration, start_value, l, t)
     });
 }
@@ -299,7 +297,7 @@ fn above(x: f64, low: f64) -> f64
     0.0
 }
 
-// The pattern that shows the floor of x, where x is less than 60 * 2^24 - 1 from 0; else one that ends in 18 zeros.
+// The pattern that shows the floor of x, where x is less than 60 * 2^24 - 1 from 0; else one that ends in 18 zeros (no Option: sixteen are made side by side, without a branch).
 fn lifted_at(x: f64) -> u64
     ensures { (1082820 * 2 ^ 42 ≤ result) × (result < 1082940 * 2 ^ 42) × ((result % 2 ^ 18 ≡ 0) ⊎ Lifts x result) }
 {
@@ -330,22 +328,21 @@ fn shown_rest<F: Fn(f64) -> u64>(
     bs: &mut [u64],
     start_time: f64,
     duration: f64,
-    time: f64,
-    dt: f64,
+    times: Times,
     f: F,
 ) -> bool
     requires { F.IsAlwaysCallable f }
-    ensures { Each (λ k b. F.post f (phase_of start_time duration (after dt k time)) b × (result ≡ true → b % 2 ^ 18 ≢ 0)) (length bs.old) bs.new }
+    ensures { Each (λ k b. F.post f (phase_of start_time duration (after times.period k times.first)) b × (result ≡ true → b % 2 ^ 18 ≢ 0)) (length bs.old) bs.new }
 {
     let mut all = true;
-    let mut t = time;
+    let mut t = times.first;
     for place in bs.iter_mut() {
         let b = f((t - start_time) / duration);
         if b % 0x4_0000 == 0 {
             all = false;
         }
         *place = b;
-        t = t + dt;
+        t = t + times.period;
     }
     all
 }
@@ -355,25 +352,30 @@ fn shown_at<F: Fn(f64) -> u64 + Copy>(
     bs: &mut [u64],
     start_time: f64,
     duration: f64,
-    time: f64,
-    dt: f64,
+    times: Times,
     f: F,
 ) -> bool
     requires { F.IsAlwaysCallable f }
-    ensures { result ≡ true → Each (λ k b. F.post f (phase_of start_time duration (after dt k time)) b × (b % 2 ^ 18 ≢ 0)) (length bs.old) bs.new }
+    ensures { result ≡ true → Each (λ k b. F.post f (phase_of start_time duration (after times.period k times.first)) b × (b % 2 ^ 18 ≢ 0)) (length bs.old) bs.new }
 {
     let mut all = true;
-    let mut t = time;
+    let mut t = times.first;
     for turn in 0..bs.len() / 16 {
         let i = turn * 16;
         let mut xs = [0.0; 16];
-        t = phases_from(&mut xs, start_time, duration, t, dt);
+        t = phases_from(&mut xs, start_time, duration, Times { first: t, ..times });
         if !shown_of(&mut bs[i..i + 16], &xs, f) {
             all = false;
         }
     }
     let i = bs.len() / 16 * 16;
-    if shown_rest(&mut bs[i..], start_time, duration, t, dt, f) {
+    if shown_rest(
+        &mut bs[i..],
+        start_time,
+        duration,
+        Times { first: t, ..times },
+        f,
+    ) {
         return all;
     }
     false
@@ -458,19 +460,19 @@ fn exponential_told(
     duration: f64,
     from: f64,
     l: f64,
-    time: f64,
-    dt: f64,
+    times: Times,
 ) -> bool
     requires { (length out.old ≤ 128) × T (finite from) }
-    ensures { result ≡ true → out.new ≡ run (exponential_over start_time duration «from» l) dt (length out.old) time }
+    ensures { result ≡ true → out.new ≡ run (exponential_over start_time duration «from» l) times.period (length out.old) times.first }
 {
     if !is_middle(from) {
         return false;
     }
+    // an array a pass, on the stack (no heap); one of structs would be lent whole to passes that read one field and write another
     let n = out.len();
     let mut bs = [0u64; 128];
     let bs = &mut bs[..n];
-    if !shown_at(bs, start_time, duration, time, dt, |x| lifted_at(l * x)) {
+    if !shown_at(bs, start_time, duration, times, |x| lifted_at(l * x)) {
         return false;
     }
     let mut ns = [0u64; 128];
@@ -497,13 +499,12 @@ fn exponential_each(
     duration: f64,
     from: f64,
     l: f64,
-    time: f64,
-    dt: f64,
+    times: Times,
 )
     requires { T (finite from) }
-    ensures { out.new ≡ run (exponential_over start_time duration «from» l) dt (length out.old) time }
+    ensures { out.new ≡ run (exponential_over start_time duration «from» l) times.period (length out.old) times.first }
 {
-    at_times(out, time, dt, |t| {
+    at_times(out, times, |t| {
         decays::grown_at(from, l * ((t - start_time) / duration))
     });
 }
@@ -515,20 +516,19 @@ fn exponential_rest(
     duration: f64,
     from: f64,
     l: f64,
-    time: f64,
-    dt: f64,
+    times: Times,
 )
     requires { (length out.old ≤ 128) × T (finite from) }
-    ensures { out.new ≡ run (exponential_over start_time duration «from» l) dt (length out.old) time }
+    ensures { out.new ≡ run (exponential_over start_time duration «from» l) times.period (length out.old) times.first }
 {
     if out.len() < 16 {
-        exponential_each(out, start_time, duration, from, l, time, dt);
+        exponential_each(out, start_time, duration, from, l, times);
         return;
     }
-    if exponential_told(out, start_time, duration, from, l, time, dt) {
+    if exponential_told(out, start_time, duration, from, l, times) {
         return;
     }
-    exponential_each(out, start_time, duration, from, l, time, dt);
+    exponential_each(out, start_time, duration, from, l, times);
 }
 
 // A sample at the start itself, whose x is 0 and shows nothing, is taken alone. A function of its own: put into the walk's loop it would slow down every head.
@@ -539,58 +539,73 @@ fn exponential_finite(
     duration: f64,
     from: f64,
     l: f64,
-    time: f64,
-    dt: f64,
+    times: Times,
 )
     requires { (length out.old ≤ 128) × T (finite from) }
-    ensures { out.new ≡ run (exponential_over start_time duration «from» l) dt (length out.old) time }
+    ensures { out.new ≡ run (exponential_over start_time duration «from» l) times.period (length out.old) times.first }
 {
     if out.len() > 0 {
-        if time == start_time {
-            out[0] = decays::grown_at(from, l * ((time - start_time) / duration));
-            let next = time + dt;
-            exponential_rest(&mut out[1..], start_time, duration, from, l, next, dt);
+        if times.first == start_time {
+            out[0] = decays::grown_at(from, l * ((times.first - start_time) / duration));
+            let next = times.first + times.period;
+            exponential_rest(
+                &mut out[1..],
+                start_time,
+                duration,
+                from,
+                l,
+                Times {
+                    first: next,
+                    ..times
+                },
+            );
             return;
         }
     }
-    exponential_rest(out, start_time, duration, from, l, time, dt);
+    exponential_rest(out, start_time, duration, from, l, times);
 }
 
 // The time 128 places on.
 #[tactic(auto, unfolding(crate::specs::After::after))]
-fn part_later(time: f64, dt: f64) -> f64
-    ensures { result ≡ after dt 128 time }
+fn part_later(times: Times) -> f64
+    ensures { result ≡ after times.period 128 times.first }
 {
-    let mut t = time;
+    let mut t = times.first;
     for _ in 0..128u64 {
-        t = t + dt;
+        t = t + times.period;
     }
     t
 }
 
 // By parts of up to 128.
-fn exponential_parts(
-    out: &mut [f32],
-    start: f64,
-    duration: f64,
-    from: f64,
-    l: f64,
-    time: f64,
-    dt: f64,
-)
+fn exponential_parts(out: &mut [f32], start: f64, duration: f64, from: f64, l: f64, times: Times)
     requires { T (finite from) }
-    ensures { out.new ≡ run (exponential_over start duration «from» l) dt (length out.old) time }
+    ensures { out.new ≡ run (exponential_over start duration «from» l) times.period (length out.old) times.first }
 {
     let before = out.len().saturating_sub(1) / 128;
-    let mut t = time;
+    let mut t = times.first;
     for part in 0..before {
         let i = part * 128;
-        let next = part_later(t, dt);
-        exponential_finite(&mut out[i..i + 128], start, duration, from, l, t, dt);
+        let next = part_later(Times { first: t, ..times });
+        exponential_finite(
+            &mut out[i..i + 128],
+            start,
+            duration,
+            from,
+            l,
+            Times { first: t, ..times },
+        );
         t = next;
     }
     let last = before * 128;
-    exponential_finite(&mut out[last..], start, duration, from, l, t, dt);
+    exponential_finite(
+        &mut out[last..],
+        start,
+        duration,
+        from,
+        l,
+        Times { first: t, ..times },
+    );
 }
 
 pub fn compute_exponential_ramp_samples(
@@ -604,13 +619,17 @@ pub fn compute_exponential_ramp_samples(
 )
     ensures { out.new ≡ run (exponential_at start_time duration start_value log) dt (length out.old) time }
 {
+    let times = Times {
+        first: time,
+        period: dt,
+    };
     let l = std::num::nearest_i64_to_f64(log);
     if floats::is_finite(start_value) {
         let from = start_value as f64;
-        exponential_parts(out, start_time, duration, from, l, time, dt);
+        exponential_parts(out, start_time, duration, from, l, times);
         return;
     }
-    exponential_run(out, start_time, duration, start_value, l, time, dt);
+    exponential_run(out, start_time, duration, start_value, l, times);
 }
 
 // A target's sample, or the intrinsic value before the start.
@@ -639,12 +658,11 @@ fn target_run(
     end_value: f32,
     diff: f32,
     intrinsic: f32,
-    time: f64,
-    dt: f64,
+    times: Times,
 )
-    ensures { out.new ≡ run (from_start start_time intrinsic (target_at start_time time_constant end_value diff)) dt (length out.old) time }
+    ensures { out.new ≡ run (from_start start_time intrinsic (target_at start_time time_constant end_value diff)) times.period (length out.old) times.first }
 {
-    at_times(out, time, dt, |t| {
+    at_times(out, times, |t| {
         target_from(start_time, time_constant, end_value, diff, intrinsic, t)
     });
 }
@@ -728,17 +746,16 @@ fn target_shown(
     line: Line,
     few: u64,
     exact: bool,
-    time: f64,
-    dt: f64,
+    times: Times,
 ) -> bool
     requires out_len_bound { (length out.old ≤ 128) × (few ≤ 124) × (exact ≡ true → Once line.a line.c ((1022 - few) * 2 ^ 52)) }
-    ensures { result ≡ true → out.new ≡ run (target_at start constant line.c line.a) dt (length out.old) time }
+    ensures { result ≡ true → out.new ≡ run (target_at start constant line.c line.a) times.period (length out.old) times.first }
 {
     let n = out.len();
     let top = steps_of(few);
     let mut bs = [0u64; 128];
     let bs = &mut bs[..n];
-    if !shown_at(bs, start, constant, time, dt, |x| placed(x, few, top)) {
+    if !shown_at(bs, start, constant, times, |x| placed(x, few, top)) {
         return false;
     }
     let mut us = [0u64; 128];
@@ -757,24 +774,20 @@ fn target_shown(
 }
 
 // The same from behind the start on, for sixteen samples at least.
-fn target_told(
-    out: &mut [f32],
-    start_time: f64,
-    constant: f64,
-    line: Line,
-    time: f64,
-    dt: f64,
-) -> bool
+fn target_told(out: &mut [f32], start_time: f64, constant: f64, line: Line, times: Times) -> bool
     requires out_len_bound { (length out.old ≤ 128) }
-    ensures { result ≡ true → (v : Float) → out.new ≡ run (from_start start_time v (target_at start_time constant line.c line.a)) dt (length out.old) time }
+    ensures { result ≡ true → (v : Float) → out.new ≡ run (from_start start_time v (target_at start_time constant line.c line.a)) times.period (length out.old) times.first }
 {
     let b = phases::once_from(line.a, line.c) / 0x10_0000_0000_0000;
-    if is_steady_for(out.len(), start_time, constant, dt) {
-        if is_begun(start_time, time) {
-            if start_time < time {
-                let few = few_from(b, (time - start_time + dt * 128.0) / constant);
+    if is_steady_for(out.len(), start_time, constant, times.period) {
+        if is_begun(start_time, times.first) {
+            if start_time < times.first {
+                let few = few_from(
+                    b,
+                    (times.first - start_time + times.period * 128.0) / constant,
+                );
                 let exact = few + b == 1022;
-                return target_shown(out, start_time, constant, line, few, exact, time, dt);
+                return target_shown(out, start_time, constant, line, few, exact, times);
             }
         }
     }
@@ -800,12 +813,11 @@ fn target_each(
     constant: f64,
     line: Line,
     intrinsic: f32,
-    time: f64,
-    dt: f64,
+    times: Times,
 )
-    ensures { out.new ≡ run (from_start start_time intrinsic (target_at start_time constant line.c line.a)) dt (length out.old) time }
+    ensures { out.new ≡ run (from_start start_time intrinsic (target_at start_time constant line.c line.a)) times.period (length out.old) times.first }
 {
-    at_times(out, time, dt, |t| {
+    at_times(out, times, |t| {
         target_by(start_time, constant, line, intrinsic, t)
     });
 }
@@ -817,16 +829,15 @@ fn target_rest(
     constant: f64,
     line: Line,
     intrinsic: f32,
-    time: f64,
-    dt: f64,
+    times: Times,
 )
     requires out_len_bound { (length out.old ≤ 128) }
-    ensures { out.new ≡ run (from_start start_time intrinsic (target_at start_time constant line.c line.a)) dt (length out.old) time }
+    ensures { out.new ≡ run (from_start start_time intrinsic (target_at start_time constant line.c line.a)) times.period (length out.old) times.first }
 {
-    if target_told(out, start_time, constant, line, time, dt) {
+    if target_told(out, start_time, constant, line, times) {
         return;
     }
-    target_each(out, start_time, constant, line, intrinsic, time, dt);
+    target_each(out, start_time, constant, line, intrinsic, times);
 }
 
 // A target's run of up to 128 places. A sample at the start itself, which shows no steps, is taken alone.
@@ -837,29 +848,30 @@ fn target_finite(
     constant: f64,
     line: Line,
     intrinsic: f32,
-    time: f64,
-    dt: f64,
+    times: Times,
 )
     requires out_len_bound { length out.old ≤ 128 }
-    ensures { out.new ≡ run (from_start start_time intrinsic (target_at start_time constant line.c line.a)) dt (length out.old) time }
+    ensures { out.new ≡ run (from_start start_time intrinsic (target_at start_time constant line.c line.a)) times.period (length out.old) times.first }
 {
     if out.len() > 0 {
-        if time == start_time {
-            out[0] = target_by(start_time, constant, line, intrinsic, time);
-            let next = time + dt;
+        if times.first == start_time {
+            out[0] = target_by(start_time, constant, line, intrinsic, times.first);
+            let next = times.first + times.period;
             target_rest(
                 &mut out[1..],
                 start_time,
                 constant,
                 line,
                 intrinsic,
-                next,
-                dt,
+                Times {
+                    first: next,
+                    ..times
+                },
             );
             return;
         }
     }
-    target_rest(out, start_time, constant, line, intrinsic, time, dt);
+    target_rest(out, start_time, constant, line, intrinsic, times);
 }
 
 // By parts, as those of an exponential ramp.
@@ -869,29 +881,34 @@ fn target_parts(
     constant: f64,
     line: Line,
     intrinsic: f32,
-    time: f64,
-    dt: f64,
+    times: Times,
 )
-    ensures { out.new ≡ run (from_start start intrinsic (target_at start constant line.c line.a)) dt (length out.old) time }
+    ensures { out.new ≡ run (from_start start intrinsic (target_at start constant line.c line.a)) times.period (length out.old) times.first }
 {
     let before = out.len().saturating_sub(1) / 128;
-    let mut t = time;
+    let mut t = times.first;
     for part in 0..before {
         let i = part * 128;
-        let next = part_later(t, dt);
+        let next = part_later(Times { first: t, ..times });
         target_finite(
             &mut out[i..i + 128],
             start,
             constant,
             line,
             intrinsic,
-            t,
-            dt,
+            Times { first: t, ..times },
         );
         t = next;
     }
     let last = before * 128;
-    target_finite(&mut out[last..], start, constant, line, intrinsic, t, dt);
+    target_finite(
+        &mut out[last..],
+        start,
+        constant,
+        line,
+        intrinsic,
+        Times { first: t, ..times },
+    );
 }
 
 // A target's run, and its value at `end`.
@@ -908,11 +925,15 @@ pub fn compute_set_target_samples(
 ) -> f32
     ensures { (out.new ≡ run (from_start start intrinsic (target_at start constant target diff)) dt (length out.old) time) × (result ≡ from_start start intrinsic (target_at start constant target diff) end) }
 {
+    let times = Times {
+        first: time,
+        period: dt,
+    };
     if let Some(line) = Line::between(target, diff) {
-        target_parts(out, start, constant, line, intrinsic, time, dt);
+        target_parts(out, start, constant, line, intrinsic, times);
         return target_by(start, constant, line, intrinsic, end);
     }
-    target_run(out, start, constant, target, diff, intrinsic, time, dt);
+    target_run(out, start, constant, target, diff, intrinsic, times);
     target_from(start, constant, target, diff, intrinsic, end)
 }
 
@@ -935,13 +956,12 @@ fn curve_run(
     duration: f64,
     values: &[f32],
     intrinsic: f32,
-    time: f64,
-    dt: f64,
+    times: Times,
 )
     requires { (2 ≤ length values.now) × (length values.now ≤ store_length) }
-    ensures { out.new ≡ run (from_start start_time intrinsic (curve_sample values.now start_time duration)) dt (length out.old) time }
+    ensures { out.new ≡ run (from_start start_time intrinsic (curve_sample values.now start_time duration)) times.period (length out.old) times.first }
 {
-    at_times(out, time, dt, |t| {
+    at_times(out, times, |t| {
         curve_from(start_time, duration, values, intrinsic, t)
     });
 }
@@ -959,18 +979,11 @@ fn short_of(x: f64, y: f64) -> bool
 }
 
 // Sixteen positions in a curve whose last number has the place n, and the time after them.
-fn positions_from(
-    ps: &mut [f64; 16],
-    n: f64,
-    start_time: f64,
-    duration: f64,
-    time: f64,
-    dt: f64,
-) -> f64
+fn positions_from(ps: &mut [f64; 16], n: f64, start_time: f64, duration: f64, times: Times) -> f64
     requires { length ps.old ≡ 16 }
-    ensures { (ps.new ≡ run (position_of n start_time duration) dt 16 time) × (result ≡ after dt 16 time) }
+    ensures { (ps.new ≡ run (position_of n start_time duration) times.period 16 times.first) × (result ≡ after times.period 16 times.first) }
 {
-    at_times(ps, time, dt, |t| n * (t - start_time) / duration)
+    at_times(ps, times, |t| n * (t - start_time) / duration)
 }
 
 // What the positions have beyond k.
@@ -1049,14 +1062,13 @@ fn curve_tried(
     next: f64,
     start_time: f64,
     duration: f64,
-    time: f64,
-    dt: f64,
+    times: Times,
 ) -> bool
-    requires out_len { (length out.old ≡ 16) × (2 ≤ length values.now) × (length values.now ≤ store_length) × (n ≡ wide (length values.now - 1)) × (next ≡ after dt 16 time) }
-    requires ps_value { ps.now ≡ run (position_of n start_time duration) dt 16 time }
-    ensures { result ≡ true → (v : Float) → out.new ≡ run (from_start start_time v (curve_sample values.now start_time duration)) dt 16 time }
+    requires out_len { (length out.old ≡ 16) × (2 ≤ length values.now) × (length values.now ≤ store_length) × (n ≡ wide (length values.now - 1)) × (next ≡ after times.period 16 times.first) }
+    requires ps_value { ps.now ≡ run (position_of n start_time duration) times.period 16 times.first }
+    ensures { result ≡ true → (v : Float) → out.new ≡ run (from_start start_time v (curve_sample values.now start_time duration)) times.period 16 times.first }
 {
-    if rises(start_time, duration, time, dt) {
+    if rises(start_time, duration, times) {
         if short_of(next - start_time, duration) {
             if short_of(ps[15], n) {
                 return curve_within(out, ps, values);
@@ -1073,19 +1085,18 @@ fn curve_sixteen(
     duration: f64,
     values: &[f32],
     intrinsic: f32,
-    time: f64,
-    dt: f64,
+    times: Times,
 ) -> f64
     requires { (length out.old ≡ 16) × (2 ≤ length values.now) × (length values.now ≤ store_length) }
-    ensures { (out.new ≡ run (from_start start_time intrinsic (curve_sample values.now start_time duration)) dt 16 time) × (result ≡ after dt 16 time) }
+    ensures { (out.new ≡ run (from_start start_time intrinsic (curve_sample values.now start_time duration)) times.period 16 times.first) × (result ≡ after times.period 16 times.first) }
 {
     let n = ((values.len() - 1) as i64) as f64;
     let mut ps = [0.0; 16];
-    let next = positions_from(&mut ps, n, start_time, duration, time, dt);
-    if curve_tried(out, &ps, values, n, next, start_time, duration, time, dt) {
+    let next = positions_from(&mut ps, n, start_time, duration, times);
+    if curve_tried(out, &ps, values, n, next, start_time, duration, times) {
         return next;
     }
-    curve_run(out, start_time, duration, values, intrinsic, time, dt);
+    curve_run(out, start_time, duration, values, intrinsic, times);
     next
 }
 
@@ -1096,13 +1107,12 @@ fn curve_turns(
     duration: f64,
     values: &[f32],
     intrinsic: f32,
-    time: f64,
-    dt: f64,
+    times: Times,
 )
     requires { (2 ≤ length values.now) × (length values.now ≤ store_length) }
-    ensures { out.new ≡ run (from_start start_time intrinsic (curve_sample values.now start_time duration)) dt (length out.old) time }
+    ensures { out.new ≡ run (from_start start_time intrinsic (curve_sample values.now start_time duration)) times.period (length out.old) times.first }
 {
-    let mut t = time;
+    let mut t = times.first;
     for turn in 0..out.len() / 16 {
         let i = turn * 16;
         t = curve_sixteen(
@@ -1111,8 +1121,7 @@ fn curve_turns(
             duration,
             values,
             intrinsic,
-            t,
-            dt,
+            Times { first: t, ..times },
         );
     }
     let left = out.len() / 16 * 16;
@@ -1122,8 +1131,7 @@ fn curve_turns(
         duration,
         values,
         intrinsic,
-        t,
-        dt,
+        Times { first: t, ..times },
     );
 }
 
@@ -1139,10 +1147,14 @@ pub fn compute_set_value_curve_samples(
     requires { (2 ≤ length values.now) × (length values.now ≤ store_length) }
     ensures { out.new ≡ run (from_start start_time intrinsic (curve_sample values.now start_time duration)) dt (length out.old) time }
 {
+    let times = Times {
+        first: time,
+        period: dt,
+    };
     // sixteen samples seldom lie between the same two numbers where there are fewer than twenty
     if (values.len() as f64) * (dt * 20.0) < duration {
-        curve_turns(out, start_time, duration, values, intrinsic, time, dt);
+        curve_turns(out, start_time, duration, values, intrinsic, times);
         return;
     }
-    curve_run(out, start_time, duration, values, intrinsic, time, dt);
+    curve_run(out, start_time, duration, values, intrinsic, times);
 }

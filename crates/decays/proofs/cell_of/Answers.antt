@@ -1,7 +1,6 @@
 -- `decays::cell_of` meets its contract. Assumes nothing.
 use mathlib.Core.Path.{◌≡◌, refl, ◌∙◌}
 use mathlib.Core.Bool.{not}
-use mathlib.Core.Logic.{inl, inr}
 use Prim.Native.Nat.{ℕ, ◌+◌, ◌-◌, ◌*◌, ◌/◌, ◌%◌, ◌^◌, ◌≤◌, ◌<◌}
 use native.Mathlib.Omega.{arith}
 use lib.Dec.{T}
@@ -56,16 +55,4 @@ pub returns-then-low-r : goal.returns-then-low-r
 returns-then-low-r c =
     let a = c.args in
     let u = half (product a.from (a.n - 41943040)) c.if-low-ne268435456.true in
-    inr (record { lo = c.if-m-ge4048736065006075904.true; hi = c.if-m-lt5174635971848699904.true; apart = u.0; same = u.1 ∙ c.if-low-r.true; cut = refl })
-
-pub returns-else-low-r : goal.returns-else-low-r
-returns-else-low-r c = inl refl
-
-pub returns-else-low-ne268435456 : goal.returns-else-low-ne268435456
-returns-else-low-ne268435456 c = inl refl
-
-pub returns-else-m-lt5174635971848699904 : goal.returns-else-m-lt5174635971848699904
-returns-else-m-lt5174635971848699904 c = inl refl
-
-pub returns-else-m-ge4048736065006075904 : goal.returns-else-m-ge4048736065006075904
-returns-else-m-ge4048736065006075904 c = inl refl
+    record { lo = c.if-m-ge4048736065006075904.true; hi = c.if-m-lt5174635971848699904.true; apart = u.0; same = u.1 ∙ c.if-low-r.true; cut = refl }

@@ -1,6 +1,4 @@
 -- `decays::grown_near` meets its contract. Assumes nothing.
-use mathlib.Core.Path.{refl}
-use mathlib.Core.Logic.{inl, inr}
 use Prim.Native.Nat.{ℕ, ◌≤◌}
 use native.Mathlib.Omega.{arith}
 use Rattle.phases.proofs.Seen.{seen}
@@ -15,27 +13,11 @@ returns-then-e-lt4294967296 c =
     let h = c.lifted-h.result in
     let e = c.falling_near-e.result in
     let t = seen h c.lifted-h.ensures (λ z. omega (arith, c.if-h-ge3573547008.true)) in
-    inr
-    (record {
+    record {
       least = raise_least h e c.if-h-ge3573547008.true;
       most = over_small h e c.if-h-lt12884901888.true c.if-e-lt4294967296.true;
       tells =
           λ from r f k.
           by_estimate c.args.x h t.0 c.if-h-ge3573547008.true c.if-h-lt12884901888.true c.if-h-ne0.true from e r f c.falling_near-e.ensures.0
           c.falling_near-e.ensures.1 c.if-e-ge2147483668.true c.if-e-lt4294967296.true k;
-    })
-
-pub returns-else-e-lt4294967296 : goal.returns-else-e-lt4294967296
-returns-else-e-lt4294967296 c = inl refl
-
-pub returns-else-e-ge2147483668 : goal.returns-else-e-ge2147483668
-returns-else-e-ge2147483668 c = inl refl
-
-pub returns-else-h-ne0 : goal.returns-else-h-ne0
-returns-else-h-ne0 c = inl refl
-
-pub returns-else-h-lt12884901888 : goal.returns-else-h-lt12884901888
-returns-else-h-lt12884901888 c = inl refl
-
-pub returns-else-h-ge3573547008 : goal.returns-else-h-ge3573547008
-returns-else-h-ge3573547008 c = inl refl
+    }

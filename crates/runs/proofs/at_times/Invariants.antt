@@ -6,6 +6,6 @@ use Rattle.runs.proofs.at_times.Given as goal
 
 abbrev pub invariant-loop-o : goal.invariant-loop-o
 invariant-loop-o g l = record {
-  next : l.t ≡ after l.dt l.o-index l.time;
-  each : Each (λ k y. goal.F-post g l.f (after l.dt k l.time) y) l.o-index l.out;
+  next : l.t ≡ after l.times.period l.o-index l.times.first;
+  each : Each (λ k y. goal.F-post g l.f (after l.times.period k l.times.first) y) l.o-index l.out;
 }

@@ -43,4 +43,4 @@ returns-then-curve_tried c =
 
 pub returns : goal.returns
 returns c =
-    (subst (λ (n : ℕ). c.curve_run.new.out ≡ run (from_start c.args.start_time c.args.intrinsic (curve_sample c.args.values.now c.args.start_time c.args.duration)) c.args.dt n c.args.time) (c.curve_tried.auto.out ∙ c.requires.0) c.curve_run.ensures, c.positions_from-next.ensures.1)
+    (subst (λ (n : ℕ). c.curve_run.new.out ≡ run (from_start c.args.start_time c.args.intrinsic (curve_sample c.args.values.now c.args.start_time c.args.duration)) c.args.times.period n c.args.times.first) (c.curve_tried.auto.out ∙ c.requires.0) c.curve_run.ensures, c.positions_from-next.ensures.1)

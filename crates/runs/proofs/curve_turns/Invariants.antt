@@ -6,4 +6,4 @@ use Rattle.runs.proofs.Filling.{Filled}
 use Rattle.runs.proofs.curve_turns.Given as goal
 
 abbrev pub invariant-loop-turn : goal.invariant-loop-turn
-invariant-loop-turn l = Filled (from_start l.start_time l.intrinsic (curve_sample l.values l.start_time l.duration)) l.dt l.time l.initial.out l.out (l.turn * 16) l.t
+invariant-loop-turn l = Filled (from_start l.start_time l.intrinsic (curve_sample l.values l.start_time l.duration)) l.times.period l.times.first l.initial.out l.out (l.turn * 16) l.t

@@ -1,5 +1,5 @@
 -- `runs::curve_within` meets its contract (`proofs/Climb.antt`). Assumes nothing.
-use Rattle.std.proofs.Common.{◌≡◌, ℕ, ◌+◌, ◌-◌, ◌*◌, ◌^◌, ◌<◌, ◌≤◌, List, length, get_or, pos, sym, ap, ◌∙◌, subst, true≢false, lt_of_lt_of_le, arith, lit≤, w64, to_z}
+use Rattle.std.proofs.Common.{◌≡◌, ℕ, ◌+◌, ◌-◌, ◌*◌, ◌^◌, ◌<◌, ◌≤◌, List, length, get_or, pos, sym, ap, ◌∙◌, subst, lt_of_lt_of_le, arith, lit≤, w64, to_z}
 use lib.Ieee.{Float, nan, binary32, binary64, of_int, sub, to_bits}
 use mir.Facts.{to_z_pos}
 use Rattle.rules.specs.Numbers.{wide}
@@ -104,9 +104,3 @@ curve_part-requires c =
 
 pub returns-then-xs-lt4607182418800017408 : goal.returns-then-xs-lt4607182418800017408
 returns-then-xs-lt4607182418800017408 c = λ e. samples (goal.at.returns-then-xs-lt4607182418800017408 c).After-whole-k _ c.fractions.ensures _ c.if-xs-lt4607182418800017408.true (c.curve_part.ensures e)
-
-pub returns-else-xs-lt4607182418800017408 : goal.returns-else-xs-lt4607182418800017408
-returns-else-xs-lt4607182418800017408 c = λ e. absurd (true≢false (sym e))
-
-pub returns-else-spans : goal.returns-else-spans
-returns-else-spans c = λ e. absurd (true≢false (sym e))

@@ -10,5 +10,5 @@ pub returns : goal.returns
 unfolding exponential_over phase_of
 returns c =
     let a = c.args in
-    run_told (exponential_over a.start_time a.duration a.«from» a.l) a.dt (length a.out.now) a.time c.at_times.new.out c.at_times.auto.out
+    run_told (exponential_over a.start_time a.duration a.«from» a.l) a.times.period (length a.out.now) a.times.first c.at_times.new.out c.at_times.auto.out
     (λ k h. let p = c.at_times.ensures.each.at k nan h in search rules)

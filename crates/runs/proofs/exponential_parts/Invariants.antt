@@ -5,4 +5,4 @@ use Rattle.runs.proofs.Filling.{Filled}
 use Rattle.runs.proofs.exponential_parts.Given as goal
 
 abbrev pub invariant-loop-part : goal.invariant-loop-part
-invariant-loop-part l = Filled (exponential_over l.start l.duration l.from l.l) l.dt l.time l.initial.out l.out (l.part * 128) l.t
+invariant-loop-part l = Filled (exponential_over l.start l.duration l.from l.l) l.times.period l.times.first l.initial.out l.out (l.part * 128) l.t

@@ -8,5 +8,5 @@ use Rattle.runs.proofs.exponential_run.Goals as goal
 pub returns : goal.returns
 returns c =
     let a = c.args in
-    run_told (exponential_over a.start_time a.duration a.start_value a.l) a.dt (length a.out.now) a.time c.at_times.new.out c.at_times.auto.out
+    run_told (exponential_over a.start_time a.duration a.start_value a.l) a.times.period (length a.out.now) a.times.first c.at_times.new.out c.at_times.auto.out
     (λ k h. let p = c.at_times.ensures.each.at k nan h in search rules)

@@ -48,10 +48,10 @@ module _ (u : After-cells_of) where
   long_hs : length u.cells_of.new.hs ≡ size
   long_hs = search rules
 
-  lifted : (k : ℕ) → k < size → InLifts (b k) × Lifts (mul binary64 u.args.l (phase_of u.args.start_time u.args.duration (after u.args.dt k u.args.time))) (b k)
+  lifted : (k : ℕ) → k < size → InLifts (b k) × Lifts (mul binary64 u.args.l (phase_of u.args.start_time u.args.duration (after u.args.times.period k u.args.times.first))) (b k)
   lifted k m =
       let p = (u.shown_at.ensures u.if-not-shown_at.false).at k 0 (omega (arith, long)) in
-      let w : InLifts (b k) × ((b k % 2 ^ 18 ≡ 0) ⊎ Lifts (mul binary64 u.args.l (phase_of u.args.start_time u.args.duration (after u.args.dt k u.args.time))) (b k)) = search rules in
+      let w : InLifts (b k) × ((b k % 2 ^ 18 ≡ 0) ⊎ Lifts (mul binary64 u.args.l (phase_of u.args.start_time u.args.duration (after u.args.times.period k u.args.times.first))) (b k)) = search rules in
       (w.0, seen (b k % 2 ^ 18) w.1 p.1)
 
   grown : (k : ℕ) → k < size → InGrown (n k)
@@ -80,7 +80,7 @@ returns c = λ t.
     let last = c.settle.new.out in
     let long_out : length out ≡ size u = search rules in
     let long_slow : length slow ≡ size u = search rules in
-    run_told (exponential_over a.start_time a.duration a.«from» a.l) a.dt (size u) a.time last (c.settle.auto.out ∙ long_out)
+    run_told (exponential_over a.start_time a.duration a.«from» a.l) a.times.period (size u) a.times.first last (c.settle.auto.out ∙ long_out)
     (λ k m.
     settled (λ k v. Grew a.«from» (b u k) v) slow w.result out k nan (get_or last k nan) (omega (arith, long_out)) (omega (arith, w.ensures.0, long_hs u, long_slow))
     (⊎_elim (λ o. inl (told _ (b u k) (n u k) (h u k) (low u k) (y u k) (fit u) (middle u) (grown u k m) (cells u k m) (grows u k m) o)) (λ o. inr o) (w.ensures.2 k (omega (arith, long_hs u))))

@@ -1,5 +1,4 @@
 -- `runs::is_middle` meets its contract. Assumes nothing.
-use Rattle.std.proofs.Common.{sym, true≢false}
 use Rattle.rounding_laws.proofs.Decode.{finite_no_nan}
 use Rattle.runs.proofs.is_middle.Goals as goal
 
@@ -8,9 +7,3 @@ float_to_bits-m c = finite_no_nan _ c.requires
 
 pub returns-then-m-le4877398396442247168 : goal.returns-then-m-le4877398396442247168
 returns-then-m-le4877398396442247168 c = λ t. record { fine = c.requires; low = c.if-m-ge4336966441157787648.true; high = c.if-m-le4877398396442247168.true }
-
-pub returns-else-m-le4877398396442247168 : goal.returns-else-m-le4877398396442247168
-returns-else-m-le4877398396442247168 c = λ t. absurd (true≢false (sym t))
-
-pub returns-else-m-ge4336966441157787648 : goal.returns-else-m-ge4336966441157787648
-returns-else-m-ge4336966441157787648 c = λ t. absurd (true≢false (sym t))

@@ -5,4 +5,4 @@ use Rattle.runs.proofs.Filling.{Filled}
 use Rattle.runs.proofs.linear_once.Given as goal
 
 abbrev pub invariant-loop-turn : goal.invariant-loop-turn
-invariant-loop-turn l = Filled (linear_at l.start_time l.duration l.line.c l.line.a) l.dt l.time l.initial.out l.out (l.turn * 16) l.t
+invariant-loop-turn l = Filled (linear_at l.start_time l.duration l.line.c l.line.a) l.times.period l.times.first l.initial.out l.out (l.turn * 16) l.t

@@ -10,5 +10,5 @@ pub returns : goal.returns
 unfolding linear_at phase_of
 returns c =
     let a = c.args in
-    run_told (linear_at a.start_time a.duration a.line.«c» a.line.a) a.dt (length a.out.now) a.time c.at_times.new.out c.at_times.auto.out
+    run_told (linear_at a.start_time a.duration a.line.«c» a.line.a) a.times.period (length a.out.now) a.times.first c.at_times.new.out c.at_times.auto.out
     (λ k h. let p = c.at_times.ensures.each.at k nan h in search rules)

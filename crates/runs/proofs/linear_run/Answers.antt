@@ -8,4 +8,4 @@ use Rattle.runs.proofs.linear_run.Goals as goal
 pub returns : goal.returns
 returns c =
     let a = c.args in
-    run_told (linear_at a.start_time a.duration a.start_value a.diff) a.dt (length a.out.now) a.time c.at_times.new.out c.at_times.auto.out (λ k h. let p = c.at_times.ensures.each.at k nan h in search rules)
+    run_told (linear_at a.start_time a.duration a.start_value a.diff) a.times.period (length a.out.now) a.times.first c.at_times.new.out c.at_times.auto.out (λ k h. let p = c.at_times.ensures.each.at k nan h in search rules)

@@ -1,5 +1,5 @@
 -- `runs::linear_sixteen` meets its contract: the phases between two that are within are within (`proofs/Ascent.antt`). Assumes nothing.
-use Rattle.std.proofs.Common.{◌≡◌, ℕ, ◌<◌, T, List, length, get_or, sym, ap, ◌∙◌, subst}
+use Rattle.std.proofs.Common.{◌≡◌, ℕ, ◌<◌, List, length, get_or, sym, ap, ◌∙◌, subst}
 use lib.Ieee.{Float, nan}
 use Rattle.rules.specs.Numbers.{run}
 use Rattle.rules.specs.Samples.{phase_of}
@@ -17,27 +17,27 @@ abbrev start : After-phases_from-next → Start
 start f = f.before.before.before.before
 
 abbrev ramp : After-phases_from-next → List Float
-ramp f = let a = (start f).args in run (phase_of a.start_time a.duration) a.dt 16 a.time
+ramp f = let a = (start f).args in run (phase_of a.start_time a.duration) a.times.period 16 a.times.first
 
 sixteen : (f : After-phases_from-next) (xs : List Float) → xs ≡ ramp f → length xs ≡ 16
-sixteen f xs e = let a = (start f).args in ap length e ∙ run_length (phase_of a.start_time a.duration) a.dt 16 a.time
+sixteen f xs e = let a = (start f).args in ap length e ∙ run_length (phase_of a.start_time a.duration) a.times.period 16 a.times.first
 
-lanes : (f : After-phases_from-next) (bx : ℕ) (xs : List Float) → xs ≡ ramp f → Rises (start f).args.start_time (start f).args.duration (start f).args.time (start f).args.dt
+lanes : (f : After-phases_from-next) (bx : ℕ) (xs : List Float) → xs ≡ ramp f → Rises (start f).args.start_time (start f).args.duration (start f).args.times.first (start f).args.times.period
     → Spans bx (get_or xs 0 nan) (get_or xs 15 nan) → (i : ℕ) → i < 16 → Within bx (get_or xs i nan)
 lanes f bx xs e r h i l =
     let s = start f in
     let a = s.args in
     subst (λ (ys : List Float). Within bx (get_or ys i nan)) (sym e)
-    (sixteen_within a.start_time a.duration a.time a.dt
-    (subst T (sym s.well_formed.1.1.0.1) tt) (subst T (sym s.well_formed.1.1.1.0.1) tt) (subst T (sym s.well_formed.1.1.1.1.1.1.0.1) tt) (subst T (sym s.well_formed.1.1.1.1.1.1.1.0.1) tt)
+    (sixteen_within a.start_time a.duration a.times.first a.times.period
+    r.steady.start_plain.2 r.steady.duration_plain.2 r.started.time_plain.2 r.steady.period_plain.2
     r bx (subst (λ (ys : List Float). Spans bx (get_or ys 0 nan) (get_or ys 15 nan)) e h) i l)
 
 samples : (f : After-phases_from-next) (xs out : List Float) → xs ≡ ramp f → out ≡ each (phase_sum (start f).args.line.«c» (start f).args.line.a) xs
-    → out ≡ run (linear_at (start f).args.start_time (start f).args.duration (start f).args.line.«c» (start f).args.line.a) (start f).args.dt 16 (start f).args.time
+    → out ≡ run (linear_at (start f).args.start_time (start f).args.duration (start f).args.line.«c» (start f).args.line.a) (start f).args.times.period 16 (start f).args.times.first
 unfolding linear_at phase_sum
 samples f xs out e o =
     let a = (start f).args in
-    o ∙ ap (each (phase_sum a.line.«c» a.line.a)) e ∙ each-run (phase_sum a.line.«c» a.line.a) (phase_of a.start_time a.duration) a.dt 16 a.time
+    o ∙ ap (each (phase_sum a.line.«c» a.line.a)) e ∙ each-run (phase_sum a.line.«c» a.line.a) (phase_of a.start_time a.duration) a.times.period 16 a.times.first
 
 pub sums_within-requires : goal.sums_within-requires
 sums_within-requires c =

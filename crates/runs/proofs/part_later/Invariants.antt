@@ -4,4 +4,4 @@ use Rattle.runs.specs.After.{after}
 use Rattle.runs.proofs.part_later.Given as goal
 
 abbrev pub invariant-loop : goal.invariant-loop
-invariant-loop l = l.t ≡ after l.dt l.counter l.time
+invariant-loop l = l.t ≡ after l.times.period l.counter l.times.first

@@ -9,7 +9,7 @@ pub returns : goal.returns
 unfolding phase_of
 returns c =
     let a = c.args in (
-      rw (← c.requires) (run_told (phase_of a.start_time a.duration) a.dt (length a.xs.now) a.time c.at_times.new.out c.at_times.auto.out
+      rw (← c.requires) (run_told (phase_of a.start_time a.duration) a.times.period (length a.xs.now) a.times.first c.at_times.new.out c.at_times.auto.out
           (λ k h. let p = c.at_times.ensures.each.at k nan h in search rules)),
       rw (← c.requires) c.at_times.ensures.next,
     )

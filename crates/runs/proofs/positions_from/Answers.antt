@@ -9,7 +9,7 @@ pub returns : goal.returns
 unfolding position_of
 returns c =
     let a = c.args in (
-      rw (← c.requires) (run_told (position_of a.n a.start_time a.duration) a.dt (length a.ps.now) a.time c.at_times.new.out c.at_times.auto.out
+      rw (← c.requires) (run_told (position_of a.n a.start_time a.duration) a.times.period (length a.ps.now) a.times.first c.at_times.new.out c.at_times.auto.out
           (λ k h. let p = c.at_times.ensures.each.at k nan h in search rules)),
       rw (← c.requires) c.at_times.ensures.next,
     )

@@ -24,13 +24,13 @@ loop-turn-preserved g c =
     let s : i + 16 - i ≡ 16 = omega arith in
     let room : i + 16 ≤ length l.bs = omega (arith, l.auto.bs, c.loop-turn-test.true) in
     record {
-      next = rw e (p.ensures.1 ∙ after_on a.dt a.time i 16 l.t l.invariant.next);
+      next = rw e (p.ensures.1 ∙ after_on a.times.period a.times.first i 16 l.t l.invariant.next);
       told = elim c.if-not-shown_of.branch [
         | then-not-shown_of w ↦ λ t. absurd (true≢false (sym t ∙ w.all-is))
         | else-not-shown_of w ↦ λ t.
             rw (e, s)
             (some_each _ (l.invariant.told (sym w.all-is ∙ t)) 16 room r.new.bs
-            (mapped R a.start_time a.duration a.dt a.time i l.t l.invariant.next 16 p.new.xs r.new.bs p.ensures.0
+            (mapped R a.start_time a.duration a.times.period a.times.first i l.t l.invariant.next 16 p.new.xs r.new.bs p.ensures.0
             (record { as_many = r.ensures.as_many; at = λ k x b h. let m = r.ensures.at k x b h in (m.0, m.1 w.if-not-shown_of.false) }))
             (r.ensures.as_many ∙ p.array_long))
       ];
@@ -50,6 +50,6 @@ returns-then-shown_rest g c = λ t.
     let before = rw e at (l.invariant.told t) in
     rw (← whole)
     (some_each _ before (n - i) (omega arith) r.new.bs
-    (on R a.start_time a.duration a.dt a.time i l.t (l.invariant.next ∙ rw e) (n - i) r.new.bs
+    (on R a.start_time a.duration a.times.period a.times.first i l.t (l.invariant.next ∙ rw e) (n - i) r.new.bs
     (record { at = λ k b h. let m = r.ensures.at k b (omega (arith, long)) in (m.0, m.1 c.if-shown_rest.true) }))
     (r.auto.bs ∙ long))

@@ -7,6 +7,6 @@ use Rattle.runs.proofs.shown_at.Given as goal
 
 abbrev pub invariant-loop-turn : goal.invariant-loop-turn
 invariant-loop-turn g l = record {
-  next : l.t ≡ after l.dt (l.turn * 16) l.time;
-  told : l.all ≡ true → Each (λ k b. goal.F-post g l.f (phase_of l.start_time l.duration (after l.dt k l.time)) b × (b % 2 ^ 18 ≢ 0)) (l.turn * 16) l.bs;
+  next : l.t ≡ after l.times.period (l.turn * 16) l.times.first;
+  told : l.all ≡ true → Each (λ k b. goal.F-post g l.f (phase_of l.start_time l.duration (after l.times.period k l.times.first)) b × (b % 2 ^ 18 ≢ 0)) (l.turn * 16) l.bs;
 }

@@ -13,7 +13,7 @@ loop-place-preserved g c =
     let l = c.loop-place in
     let some : l.place-index < length l.bs = omega (arith, l.auto.bs, c.loop-place-test.true) in
     record {
-      next = rw (add-one l.place-index) (ap (λ (u : Float). add binary64 u c.args.dt) l.invariant.next);
+      next = rw (add-one l.place-index) (ap (λ (u : Float). add binary64 u c.args.times.period) l.invariant.next);
       each = one_each _ l.invariant.each some c.f-b.result (subst (λ (t : Float). g.F.Fn.post c.args.f (phase_of c.args.start_time c.args.duration t, tt) c.f-b.result) l.invariant.next c.f-b.ensures);
       told = elim c.if-b-eq0.branch [
         | then-b-eq0 w ↦ λ t. absurd (true≢false (sym t ∙ w.all-is))

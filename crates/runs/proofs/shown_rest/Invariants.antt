@@ -7,7 +7,7 @@ use Rattle.runs.proofs.shown_rest.Given as goal
 
 abbrev pub invariant-loop-place : goal.invariant-loop-place
 invariant-loop-place g l = record {
-  next : l.t ≡ after l.dt l.place-index l.time;
-  each : Each (λ k b. goal.F-post g l.f (phase_of l.start_time l.duration (after l.dt k l.time)) b) l.place-index l.bs;
+  next : l.t ≡ after l.times.period l.place-index l.times.first;
+  each : Each (λ k b. goal.F-post g l.f (phase_of l.start_time l.duration (after l.times.period k l.times.first)) b) l.place-index l.bs;
   told : l.all ≡ true → Each (λ k b. b % 2 ^ 18 ≢ 0) l.place-index l.bs;
 }

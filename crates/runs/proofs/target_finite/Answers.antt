@@ -4,7 +4,7 @@ use Rattle.samples.specs.At.{target_at}
 use Rattle.runs.proofs.Filling.{one_and_rest}
 use Rattle.runs.proofs.target_finite.Goals as goal
 
-pub returns-then-time-start_time : goal.returns-then-time-start_time
-returns-then-time-start_time c =
+pub returns-then-times-start_time : goal.returns-then-times-start_time
+returns-then-times-start_time c =
     let a = c.args in
-    one_and_rest (from_start a.start_time a.intrinsic (target_at a.start_time a.constant a.line.«c» a.line.a)) a.dt a.time a.out.now c.if-out-gt0.true c.target_by.result c.target_by.ensures c.target_rest.new.out c.target_rest.ensures
+    one_and_rest (from_start a.start_time a.intrinsic (target_at a.start_time a.constant a.line.«c» a.line.a)) a.times.period a.times.first a.out.now c.if-out-gt0.true c.target_by.result c.target_by.ensures c.target_rest.new.out c.target_rest.ensures

@@ -6,4 +6,4 @@ use Rattle.runs.proofs.Filling.{Filled}
 use Rattle.runs.proofs.target_parts.Given as goal
 
 abbrev pub invariant-loop-part : goal.invariant-loop-part
-invariant-loop-part l = Filled (from_start l.start l.intrinsic (target_at l.start l.constant l.line.c l.line.a)) l.dt l.time l.initial.out l.out (l.part * 128) l.t
+invariant-loop-part l = Filled (from_start l.start l.intrinsic (target_at l.start l.constant l.line.c l.line.a)) l.times.period l.times.first l.initial.out l.out (l.part * 128) l.t

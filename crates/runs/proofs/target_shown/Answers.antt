@@ -35,10 +35,10 @@ module _ (z : After-settle) where
   long_slow = search rules
 
   -- what the first pass placed
-  place : (k : ℕ) → k < n → Placed z.args.few (phase_of z.args.start z.args.constant (after z.args.dt k z.args.time)) (b k)
+  place : (k : ℕ) → k < n → Placed z.args.few (phase_of z.args.start z.args.constant (after z.args.times.period k z.args.times.first)) (b k)
   place k h =
       let p = (z.shown_at.ensures z.if-not-shown_at.false).at k 0 (omega (arith, long)) in
-      let w : (b k % 2 ^ 18 ≡ 0) ⊎ Placed z.args.few (phase_of z.args.start z.args.constant (after z.args.dt k z.args.time)) (b k) = search rules in
+      let w : (b k % 2 ^ 18 ≡ 0) ⊎ Placed z.args.few (phase_of z.args.start z.args.constant (after z.args.times.period k z.args.times.first)) (b k) = search rules in
       seen (b k % 2 ^ 18) w p.1
 
   -- and the later passes told
@@ -49,11 +49,11 @@ module _ (z : After-settle) where
 
   -- the sums with these factors are the samples
   samples : (out : List Float) → length out ≡ n → ((k : ℕ) → k < n → get_or out k nan ≡ fused binary32 z.args.line.a (of_bits binary64 (shown (b k) (u k))) z.args.line.«c»)
-      → out ≡ run (target_at z.args.start z.args.constant z.args.line.«c» z.args.line.a) z.args.dt n z.args.time
+      → out ≡ run (target_at z.args.start z.args.constant z.args.line.«c» z.args.line.a) z.args.times.period n z.args.times.first
   unfolding target_at
   samples out e h =
       let a = z.args in
-      run_told (target_at a.start a.constant a.line.«c» a.line.a) a.dt n a.time out e
+      run_told (target_at a.start a.constant a.line.«c» a.line.a) a.times.period n a.times.first out e
       (λ k m. h k m ∙ ap (λ (x : Float). fused binary32 a.line.a x a.line.«c») (factor_shown a.few _ (b k) z.requires.out_len_bound.1 (place k m) (u k) (shows k m)))
 
 pub faded-requires-clause-factors : goal.faded-requires-clause-factors

@@ -1,5 +1,5 @@
 -- `runs::target_told` meets its contract. Assumes nothing.
-use Rattle.std.proofs.Common.{◌≡◌, ℕ, ◌+◌, ◌-◌, ◌*◌, ◌/◌, ◌^◌, ◌≤◌, T, ◌⊎◌, length, sym, ◌∙◌, subst, true≢false, arith, eqb-true}
+use Rattle.std.proofs.Common.{◌≡◌, ℕ, ◌+◌, ◌-◌, ◌*◌, ◌/◌, ◌^◌, ◌≤◌, ◌⊎◌, length, sym, ◌∙◌, subst, arith, eqb-true}
 use lib.Ieee.{Float}
 use Rattle.rules.specs.Walk.{from_start}
 use Rattle.samples.specs.At.{target_at}
@@ -33,21 +33,12 @@ target_shown-requires c =
       out_len_bound = (c.requires.out_len_bound, f.ensures, λ e. once_cut _ _ c.once_from-b.result f.result c.once_from-b.ensures f.ensures (eqb-true _ _ e));
     }
 
-pub returns-then-start_time-time : goal.returns-then-start_time-time
+pub returns-then-start_time-times : goal.returns-then-start_time-times
 unfolding from_start
-returns-then-start_time-time c = λ t v.
+returns-then-start_time-times c = λ t v.
     let a = c.args in
-    let r : Rises a.start_time a.constant a.time a.dt = record { steady = c.is_steady_for.ensures c.if-is_steady_for.true; started = c.is_begun.ensures c.if-is_begun.true } in
+    let r : Rises a.start_time a.constant a.times.first a.times.period = record { steady = c.is_steady_for.ensures c.if-is_steady_for.true; started = c.is_begun.ensures c.if-is_begun.true } in
     let sample = target_at a.start_time a.constant a.line.«c» a.line.a in
     c.target_shown.ensures t
-    ∙ run-same sample (from_start a.start_time v sample) a.dt (length a.out.now) a.time
-    (λ k h. rw (not_before a.start_time a.constant a.time a.dt (subst T (sym c.well_formed.1.0.1) tt) (subst T (sym c.well_formed.1.1.1.1.0.1) tt) (subst T (sym c.well_formed.1.1.1.1.1.0.1) tt) r k))
-
-pub returns-else-start_time-time : goal.returns-else-start_time-time
-returns-else-start_time-time c = λ t. absurd (true≢false (sym t))
-
-pub returns-else-is_begun : goal.returns-else-is_begun
-returns-else-is_begun c = λ t. absurd (true≢false (sym t))
-
-pub returns-else-is_steady_for : goal.returns-else-is_steady_for
-returns-else-is_steady_for c = λ t. absurd (true≢false (sym t))
+    ∙ run-same sample (from_start a.start_time v sample) a.times.period (length a.out.now) a.times.first
+    (λ k h. rw (not_before a.start_time a.constant a.times.first a.times.period r.steady.start_plain.2 r.started.time_plain.2 r.steady.period_plain.2 r k))
