@@ -5,7 +5,7 @@ ghost use Rattle.std.specs.Float.Ieee.Nearest.{closest};
 ghost use Rattle.text.specs.Put.{Put};
 ghost use Rattle.decimal.specs.Shown.{shown_as, shown as shown_of, sign_text, places_text, shown_text, plain_text};
 
-use text::write::{put_byte, put_count, put_digits, put_double, put_single, put_word};
+use text::write::{put_byte, put_count, put_digits, put_real, put_word};
 
 // What of a float is shown.
 #[derive(Clone, Copy)]
@@ -171,7 +171,7 @@ pub fn put_time(out: &mut [u8], at: usize, x: f64) -> usize
     let s = shown(x);
     if let Printed::Bits = s {
         let next = put_byte(out, at, b'x');
-        put_double(out, next, x)
+        put_real(out, next, x)
     } else {
         put_shown(out, at, s)
     }
@@ -185,7 +185,7 @@ pub fn put_value(out: &mut [u8], at: usize, x: f32) -> usize
     let s = shown(std::num::f32_to_f64_with_nan(x));
     if let Printed::Bits = s {
         let next = put_byte(out, at, b'x');
-        put_single(out, next, x)
+        put_real(out, next, x)
     } else {
         put_shown(out, at, s)
     }

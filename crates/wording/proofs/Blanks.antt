@@ -40,7 +40,7 @@ ends_last b s i h = rw (drop_of_length-le s h)
 -- ---- words
 
 kept_none : (ws : List Word) → kept [] ws ≡ ws
-unfolding kept is_small is_one same_word
+unfolding kept is_small is_one
 kept_none ws = refl
 
 -- blanks at the front say nothing
@@ -118,7 +118,7 @@ passes s i from to inside skipped ended = by_test (is_blank (get_or s i 0)) refl
 
 -- a word has a character
 pub some_character : (w : Word) → is_small w ≡ false → 0 < length w
-unfolding is_small is_one same_word
+unfolding is_small is_one
 some_character [] e = absurd (true≢false e)
 some_character (c ∷ cs) e = omega arith
 
@@ -146,11 +146,9 @@ only x w = by_test (same_word w x)
     by_test false = refl
 
 pub empty_word : (w : Word) → length w ≡ 0 → same_word w [] ≡ true
-unfolding same_word
 empty_word [] e = refl
 empty_word (c ∷ cs) e = absurd (omega arith)
 
 pub not_empty : (w : Word) → (length w ≡ 0 → ⊥) → same_word w [] ≡ false
-unfolding same_word
 not_empty [] n = absurd (n refl)
 not_empty (c ∷ cs) n = refl

@@ -2,7 +2,7 @@
 use mathlib.Core.Path.{◌≡◌, refl, sym, ap, ◌∙◌, subst}
 use mathlib.Core.Bool.{Bool, true, false, cond}
 use mathlib.Core.List.{List, [], ◌∷◌, ◌++◌, append_assoc, append-nil}
-use mathlib.Core.Option.{Option, none, some}
+use Rattle.std.specs.Prelude.{Option, None, Some}
 use Prim.Native.Nat.{ℕ, suc, ◌+◌, ◌-◌, ◌*◌, ◌≤◌, ◌<◌}
 use native.Mathlib.Nat.{sub-zero}
 use native.Mathlib.Omega.{arith}
@@ -32,7 +32,7 @@ use Rattle.wording.specs.Walked.{first_of, next_at, Behind, Wrote, Ran, Passed, 
 
 -- ---- the next word
 
-first_some : (xs : List Word) (w : Word) (ws : List Word) → some (w, ws) ≡ first_of xs → xs ≡ w ∷ ws
+first_some : (xs : List Word) (w : Word) (ws : List Word) → Some (w, ws) ≡ first_of xs → xs ≡ w ∷ ws
 unfolding first_of
 first_some [] w ws e = absurd (let z : ◌≡◌ {A = ℕ} 0 1 = cc in omega arith)
 first_some (x ∷ xs) w ws e =
@@ -40,7 +40,7 @@ first_some (x ∷ xs) w ws e =
     let q = sym p in
     λ i. (q i).0 ∷ (q i).1
 
-first_none : (xs : List Word) → none ≡ first_of xs → xs ≡ []
+first_none : (xs : List Word) → None ≡ first_of xs → xs ≡ []
 unfolding first_of
 first_none [] e = refl
 first_none (x ∷ xs) e = absurd (let z : ◌≡◌ {A = ℕ} 0 1 = cc in omega arith)
@@ -61,30 +61,30 @@ places s at b g = subst (Behind s at) g b
 -- ---- a field
 
 module _ (w : Word) {k : Kind} where
-  pub a_value : k ≡ Kind.Value → {x : Float} → plain_in binary32 w ≡ some x → field_of k w ≡ some (spaced (float_text binary32 x))
+  pub a_value : k ≡ Kind.Value → {x : Float} → plain_in binary32 w ≡ Some x → field_of k w ≡ Some (spaced (float_text binary32 x))
   unfolding field_of bits_of
   a_value g e = ap (λ (k : Kind). field_of k w) g ∙ ap (bits_of binary32) e
 
-  pub no_value : k ≡ Kind.Value → plain_in binary32 w ≡ none → field_of k w ≡ none
+  pub no_value : k ≡ Kind.Value → plain_in binary32 w ≡ None → field_of k w ≡ None
   unfolding field_of bits_of
   no_value g e = ap (λ (k : Kind). field_of k w) g ∙ ap (bits_of binary32) e
 
-  pub a_time : k ≡ Kind.Time → {x : Float} → plain_in binary64 w ≡ some x → field_of k w ≡ some (spaced (float_text binary64 x))
+  pub a_time : k ≡ Kind.Time → {x : Float} → plain_in binary64 w ≡ Some x → field_of k w ≡ Some (spaced (float_text binary64 x))
   unfolding field_of bits_of
   a_time g e = ap (λ (k : Kind). field_of k w) g ∙ ap (bits_of binary64) e
 
-  pub no_time : k ≡ Kind.Time → plain_in binary64 w ≡ none → field_of k w ≡ none
+  pub no_time : k ≡ Kind.Time → plain_in binary64 w ≡ None → field_of k w ≡ None
   unfolding field_of bits_of
   no_time g e = ap (λ (k : Kind). field_of k w) g ∙ ap (bits_of binary64) e
 
-  pub as_it_is : k ≡ Kind.AsItIs → field_of k w ≡ some (spaced w)
+  pub as_it_is : k ≡ Kind.AsItIs → field_of k w ≡ Some (spaced w)
   unfolding field_of
   as_it_is g = ap (λ (k : Kind). field_of k w) g
 
-bits_short : (f : Format) (w : Word) (o : Option Float) {t : List ℕ} → 0 < length w → bits_of f o ≡ some t → length t ≤ 17 * length w
+bits_short : (f : Format) (w : Word) (o : Option Float) {t : List ℕ} → 0 < length w → bits_of f o ≡ Some t → length t ≤ 17 * length w
 unfolding bits_of spaced
-bits_short f w none p e = absurd (let z : ◌≡◌ {A = ℕ} 0 1 = cc in omega arith)
-bits_short f w (some x) {t} p e =
+bits_short f w None p e = absurd (let z : ◌≡◌ {A = ℕ} 0 1 = cc in omega arith)
+bits_short f w (Some x) {t} p e =
     let is : spaced (float_text f x) ≡ t = cc in
     let long : length t ≡ suc (digits_for f) = sym (ap length is) ∙ ap suc (length_float f x) in
     omega (arith, by_format f)
@@ -94,17 +94,17 @@ bits_short f w (some x) {t} p e =
     by_format binary64 = omega arith
 
 -- a space and its digits, or a space and its own characters
-pub field_short : (k : Kind) (w : Word) {t : List ℕ} → 0 < length w → field_of k w ≡ some t → length t ≤ 17 * length w
+pub field_short : (k : Kind) (w : Word) {t : List ℕ} → 0 < length w → field_of k w ≡ Some t → length t ≤ 17 * length w
 unfolding field_of spaced
 field_short Kind.Value w p e = bits_short binary32 w (plain_in binary32 w) p e
 field_short Kind.Time w p e = bits_short binary64 w (plain_in binary64 w) p e
 field_short Kind.AsItIs w {t} p e = let is : spaced w ≡ t = cc in omega (arith, ap length is)
 
-pub wrote_to : {o : Option (List ℕ)} {l l' : List ℕ} {at p : ℕ} {r : Field} → Wrote o l at r l' → r ≡ Field.To p → (t : List ℕ) × (o ≡ some t) × Put l at t l' p
+pub wrote_to : {o : Option (List ℕ)} {l l' : List ℕ} {at p : ℕ} {r : Field} → Wrote o l at r l' → r ≡ Field.To p → (t : List ℕ) × (o ≡ Some t) × Put l at t l' p
 unfolding Wrote
 wrote_to {o} {l} {l'} {at} {p} {r} v g = subst (λ (f : Field). Wrote o l at f l') g v
 
-pub wrote_unread : (o : Option (List ℕ)) (l : List ℕ) (at : ℕ) {r : Field} (l' : List ℕ) → Wrote o l at r l' → r ≡ Field.Unread → o ≡ none
+pub wrote_unread : (o : Option (List ℕ)) (l : List ℕ) (at : ℕ) {r : Field} (l' : List ℕ) → Wrote o l at r l' → r ≡ Field.Unread → o ≡ None
 unfolding Wrote
 wrote_unread o l at l' v g = subst (λ (f : Field). Wrote o l at f l') g v
 
@@ -112,13 +112,13 @@ wrote_unread o l at l' v g = subst (λ (f : Field). Wrote o l at f l') g v
 
 in_front_none : (r : Fields) → in_front [] r ≡ r
 unfolding in_front
-in_front_none none = refl
-in_front_none (some p) = refl
+in_front_none None = refl
+in_front_none (Some p) = refl
 
 pub in_front_both : (t u : List ℕ) (r : Fields) → in_front t (in_front u r) ≡ in_front (t ++ u) r
 unfolding in_front
-in_front_both t u none = refl
-in_front_both t u (some p) = ap (λ (v : List ℕ). some (v, p.1)) (sym (append_assoc t u p.0))
+in_front_both t u None = refl
+in_front_both t u (Some p) = ap (λ (v : List ℕ). Some (v, p.1)) (sym (append_assoc t u p.0))
 
 one_more : (n i : ℕ) → i < n → n - i ≡ suc (n - (i + 1))
 one_more n i h = omega arith
@@ -129,20 +129,20 @@ module _ (k : Kind) where
 
   module _ (n i : ℕ) (h : i < n) (t : List ℕ) {ws : List Word} where
     -- no word is left, it is no number, or there is a field more
-    pub no_word_left : ws ≡ [] → in_front t (fields k (n - i) ws) ≡ none
+    pub no_word_left : ws ≡ [] → in_front t (fields k (n - i) ws) ≡ None
     unfolding fields in_front
     no_word_left e = rw (e, one_more n i h)
 
     module _ (w : Word) (rest : List Word) (e : ws ≡ w ∷ rest) where
-      pub no_number_there : field_of k w ≡ none → in_front t (fields k (n - i) ws) ≡ none
+      pub no_number_there : field_of k w ≡ None → in_front t (fields k (n - i) ws) ≡ None
       unfolding fields in_front with_field
       no_number_there f = rw (e, one_more n i h, f)
 
-      pub field_more : (f : List ℕ) → field_of k w ≡ some f → in_front t (fields k (n - i) ws) ≡ in_front (t ++ f) (fields k (n - (i + 1)) rest)
+      pub field_more : (f : List ℕ) → field_of k w ≡ Some f → in_front t (fields k (n - i) ws) ≡ in_front (t ++ f) (fields k (n - (i + 1)) rest)
       unfolding fields with_field
       field_more f g = rw (e, one_more n i h, g) (in_front_both t f (fields k (n - (i + 1)) rest))
 
-  pub at_last : (n i : ℕ) → i ≤ n → n ≤ i → (t : List ℕ) (ws : List Word) → in_front t (fields k (n - i) ws) ≡ some (t, ws)
+  pub at_last : (n i : ℕ) → i ≤ n → n ≤ i → (t : List ℕ) (ws : List Word) → in_front t (fields k (n - i) ws) ≡ Some (t, ws)
   unfolding fields in_front
   at_last n i h g t ws =
       let none_left : n - i ≡ 0 = omega arith in
@@ -164,11 +164,11 @@ module _ (s : List ℕ) where
   ran-after {t = t} o (Told.At next q) l₂ w h v = (_, ap (in_front t) v.1, put_then w v.2 h)
   ran-after {t = t} o Told.Unread l₂ w h v = ap (in_front t) v
 
-  pub ran_to : {o : Fields} {l l' : List ℕ} {at next p : ℕ} {r : Told} → Ran s o l at r l' → r ≡ Told.At next p → (t : List ℕ) × (o ≡ some (t, words_at s next)) × Put l at t l' p
+  pub ran_to : {o : Fields} {l l' : List ℕ} {at next p : ℕ} {r : Told} → Ran s o l at r l' → r ≡ Told.At next p → (t : List ℕ) × (o ≡ Some (t, words_at s next)) × Put l at t l' p
   unfolding Ran
   ran_to {o} {l} {l'} {at} v g = subst (λ (f : Told). Ran s o l at f l') g v
 
-  pub ran-unread : (o : Fields) (l : List ℕ) (at : ℕ) {r : Told} (l' : List ℕ) → Ran s o l at r l' → r ≡ Told.Unread → o ≡ none
+  pub ran-unread : (o : Fields) (l : List ℕ) (at : ℕ) {r : Told} (l' : List ℕ) → Ran s o l at r l' → r ≡ Told.Unread → o ≡ None
   unfolding Ran
   ran-unread o l at l' v g = subst (λ (f : Told). Ran s o l at f l') g v
 
@@ -194,16 +194,16 @@ module _ (s : List ℕ) where
 -- ---- a call's fields
 
 module _ (ws : List Word) {f : Form} where
-  pub unknown : f ≡ Form.Unknown → formed f ws ≡ none
+  pub unknown : f ≡ Form.Unknown → formed f ws ≡ None
   unfolding formed
   unknown g = ap (λ (f : Form). formed f ws) g
 
   module _ {k : Kind} {n : ℕ} {t : Tail} (g : f ≡ Form.Is k n t) where
-    pub formed_none : fields k n ws ≡ none → formed f ws ≡ none
+    pub formed_none : fields k n ws ≡ None → formed f ws ≡ None
     unfolding formed and_then
     formed_none e = ap (λ (f : Form). formed f ws) g ∙ ap (λ (o : Fields). and_then o (tail_of t)) e
 
-    pub formed_then : {u : List ℕ} {vs : List Word} → fields k n ws ≡ some (u, vs) → formed f ws ≡ in_front u (tail_of t vs)
+    pub formed_then : {u : List ℕ} {vs : List Word} → fields k n ws ≡ Some (u, vs) → formed f ws ≡ in_front u (tail_of t vs)
     unfolding formed and_then
     formed_then e = ap (λ (f : Form). formed f ws) g ∙ ap (λ (o : Fields). and_then o (tail_of t)) e
 
@@ -227,18 +227,18 @@ length_for_lem w = by_number (number_in 10 w)
     by_test false = omega arith
 
     by_number : (o : Option ℕ) → length (capped_at w o) ≤ length w + 4
-    by_number none = omega arith
-    by_number (some n) = by_test (leb n 4096)
+    by_number None = omega arith
+    by_number (Some n) = by_test (leb n 4096)
 
 -- ---- what is made: its rate, and the edition behind it
 
 module _ {ws : List Word} where
-  pub no_edition : ws ≡ [] → edition_fields ws ≡ some ([], ws)
+  pub no_edition : ws ≡ [] → edition_fields ws ≡ Some ([], ws)
   unfolding edition_fields
-  no_edition e = ap edition_fields e ∙ ap (λ (vs : List Word). some ([], vs)) (sym e)
+  no_edition e = ap edition_fields e ∙ ap (λ (vs : List Word). Some ([], vs)) (sym e)
 
   module _ {vs : List Word} (w : Word) (e : ws ≡ w ∷ vs) where
-    pub not_edition : same_word w (codes "edition") ≡ false → edition_fields ws ≡ none
+    pub not_edition : same_word w (codes "edition") ≡ false → edition_fields ws ≡ None
     unfolding edition_fields
     not_edition h = ap edition_fields e ∙ rw h
 
@@ -247,11 +247,11 @@ module _ {ws : List Word} where
     an_edition h = ap edition_fields e ∙ rw h
 
 module _ (ws : List Word) where
-  pub made_none : fields Kind.AsItIs 1 ws ≡ none → made_fields ws ≡ none
+  pub made_none : fields Kind.AsItIs 1 ws ≡ None → made_fields ws ≡ None
   unfolding made_fields and_then
   made_none e = ap (λ (o : Fields). and_then o edition_fields) e
 
-  pub made_then : {u : List ℕ} {vs : List Word} → fields Kind.AsItIs 1 ws ≡ some (u, vs) → made_fields ws ≡ in_front u (edition_fields vs)
+  pub made_then : {u : List ℕ} {vs : List Word} → fields Kind.AsItIs 1 ws ≡ Some (u, vs) → made_fields ws ≡ in_front u (edition_fields vs)
   unfolding made_fields and_then
   made_then e = ap (λ (o : Fields). and_then o edition_fields) e
 
@@ -281,18 +281,18 @@ module _ {ws vs : List Word} (w : Word) (e : ws ≡ w ∷ vs) {f : Form} (g : f 
   unfolding translated
   call_by = ap translated e ∙ ap (λ (f : Form). whole w (formed f vs)) (sym g)
 
-  pub no_call : formed f vs ≡ none → translated ws ≡ none
+  pub no_call : formed f vs ≡ None → translated ws ≡ None
   unfolding whole
   no_call h = call_by ∙ ap (whole w) h
 
-  module _ {t : List ℕ} {us : List Word} (h : formed f vs ≡ some (t, us)) where
+  module _ {t : List ℕ} {us : List Word} (h : formed f vs ≡ Some (t, us)) where
     -- a word is left, or none
-    pub no_end : (x : Word) (xs : List Word) → us ≡ x ∷ xs → translated ws ≡ none
-    unfolding whole ending is_over
+    pub no_end : (x : Word) (xs : List Word) → us ≡ x ∷ xs → translated ws ≡ None
+    unfolding whole is_over
     no_end x xs i = call_by ∙ ap (whole w) h ∙ ap (λ (us : List Word). ending us (w ++ t)) i
 
-    pub a_call : us ≡ [] → translated ws ≡ some (w ++ t)
-    unfolding whole ending is_over
+    pub a_call : us ≡ [] → translated ws ≡ Some (w ++ t)
+    unfolding whole is_over
     a_call i = call_by ∙ ap (whole w) h ∙ ap (λ (us : List Word). ending us (w ++ t)) i
 
 -- ---- a line, and what was written of it

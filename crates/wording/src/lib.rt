@@ -7,9 +7,9 @@ ghost use Rattle.wording.specs.Plain.{is_blank, is_small, words_at, spaced, fiel
 ghost use Rattle.wording.specs.Walked.{run_of, first_of, next_at, Behind, Wrote, Ran, Passed, Inside, Room};
 
 use decimal::read::{time_in, value_in};
-use text::read::{Double, Number, Single, count_in};
+use text::read::count_in;
 use text::words::same;
-use text::write::{put_byte, put_count, put_double, put_single, put_word};
+use text::write::{put_byte, put_count, put_real, put_word};
 
 // What a word is in the session language: a value's bits, a time's bits, or the same word.
 #[derive(Clone, Copy)]
@@ -148,18 +148,18 @@ fn put_field(out: &mut [u8], at: usize, kind: Kind, word: &[u8]) -> Field
 {
     match kind {
         Kind::Value => {
-            let Single::Is(x) = value_in(word) else {
+            let Some(x) = value_in(word) else {
                 return Field::Unread;
             };
             let to = put_byte(out, at, b' ');
-            Field::To(put_single(out, to, x))
+            Field::To(put_real(out, to, x))
         }
         Kind::Time => {
-            let Double::Is(x) = time_in(word) else {
+            let Some(x) = time_in(word) else {
                 return Field::Unread;
             };
             let to = put_byte(out, at, b' ');
-            Field::To(put_double(out, to, x))
+            Field::To(put_real(out, to, x))
         }
         Kind::AsItIs => Field::To(put_spaced(out, at, word)),
     }
@@ -224,14 +224,14 @@ fn put_length(out: &mut [u8], at: usize, count: &[u8]) -> usize
     ensures { Put out.old at (spaced (length_for count.now)) out.new result }
 {
     match count_in(count) {
-        Number::Is(n) => {
+        Some(n) => {
             if n <= 4096 {
                 put_spaced(out, at, count)
             } else {
                 put_spaced(out, at, b"4096")
             }
         }
-        Number::Unread => put_spaced(out, at, count),
+        None => put_spaced(out, at, count),
     }
 }
 

@@ -10,7 +10,7 @@ pub returns-in-Bits : goal.returns-in-Bits
 unfolding plain_text text_of
 returns-in-Bits c =
     put_same (ap (text_of binary32 _) (sym c.in-Bits.is ∙ c.shown-s.ensures ∙ ap shown c.f32_to_f64_with_nan.ensures))
-    (put_then c.put_byte-next.ensures c.put_single.ensures (omega (arith, c.put_byte-next.ensures.place)))
+    (put_then c.put_byte-next.ensures c.put_real.ensures (omega (arith, c.put_byte-next.ensures.place)))
 
 pub returns-in_default : goal.returns-in_default
 unfolding plain_text
