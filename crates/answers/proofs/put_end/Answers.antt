@@ -15,6 +15,6 @@ returns-in-Missing c = record {
 pub returns-in-At : goal.returns-in-At
 unfolding end_text
 returns-in-At c = record {
-  put = put_same (ap end_text (sym c.in-At.is)) c.put_double_behind.ensures.put;
+  put = put_same (ap end_text (sym c.in-At.is)) c.put_real_behind.ensures.put;
   upper_bound = omega arith;
 }

@@ -10,7 +10,7 @@ use Rattle.answers.proofs.put_time_behind.Goals as goal
 pub returns-in-At : goal.returns-in-At
 unfolding time_text
 returns-in-At c = record {
-  put = put_same (ap (λ (m : MaybeTime). c.args.mark ∷ time_text m) (sym c.in-At.is)) c.put_double_behind.ensures.put;
+  put = put_same (ap (λ (m : MaybeTime). c.args.mark ∷ time_text m) (sym c.in-At.is)) c.put_real_behind.ensures.put;
   upper_bound = omega arith;
 }
 
