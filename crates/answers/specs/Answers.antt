@@ -1,7 +1,8 @@
 -- The answers of the session language, as its page has them: the characters of each, without the newline.
 use Rattle.rules.specs.declared.Finished.{Finished}
 use Rattle.rules.specs.declared.Refusal.{Refusal}
-use Rattle.std.specs.Prelude.{Bool, true, cond, ◌&&◌, List, [], ◌∷◌, ◌++◌, ℕ, eqb, Float, Option, Some, None, Result, Ok, Err}
+use Rattle.std.specs.Prelude.{Bool, cond, List, [], ◌∷◌, ◌++◌, ℕ, eqb, Float, Option, Some, None, Result, Ok, Err}
+use Rattle.std.specs.List.{list_all}
 use Rattle.std.specs.Float.Ieee as Ieee
 use Rattle.std.specs.Float.{binary32, binary64}
 use Rattle.std.specs.Float.Ieee.{of_bits, to_bits}
@@ -128,11 +129,9 @@ event_text (Event.Curve s d n h) = (32 ∷ 99 ∷ 117 ∷ 114 ∷ 118 ∷ 101 �
 -- ---- what REST and ZEROS look at
 
 -- every place still has the mark `4b000000`
-unfoldable pub are_marks : List Float → Bool
-are_marks [] = true
-are_marks (x ∷ xs) = Ieee.eq x (of_bits binary32 0x4b000000) && are_marks xs
+abbrev pub are_marks : List Float → Bool
+are_marks = list_all (λ x. Ieee.eq x (of_bits binary32 0x4b000000))
 
 -- every number is +0, whose bits are 0
-unfoldable pub are_zeros : List Float → Bool
-are_zeros [] = true
-are_zeros (x ∷ xs) = eqb (to_bits binary32 x) 0 && are_zeros xs
+abbrev pub are_zeros : List Float → Bool
+are_zeros = list_all (λ x. eqb (to_bits binary32 x) 0)

@@ -2,34 +2,25 @@
 #![tactic(auto)]
 
 ghost use Rattle.std.specs.Prelude.{◌≡◌, List, [], ◌∷◌, ◌++◌, ℕ, ◌+◌, ◌*◌, ◌≤◌, length, drop, replicate};
-ghost use Rattle.std.specs.Float.{binary32, binary64};
 ghost use Rattle.text.specs.Digits.{decimal_of};
-ghost use Rattle.text.specs.Floats.{float_text};
+ghost use Rattle.text.specs.Floats.{digits_for, float_text};
 ghost use Rattle.text.specs.Put.{Put};
 ghost use Rattle.answers.specs.Answers.{time_text, last_text, rate_text, edition_text, kind_text, event_text, list_text, verdict_text, saved_text, fault_text, block_text, rest_text, zeros_text, bounds_text, end_text, span_text, state_text, step_text, ramp_text, target_text, curve_text, are_marks, are_zeros};
 
 use refusals::number_of;
 use rules::{AutomationRate, Bounds, Edition, Event, Finished, Refusal};
 use text::hex::put_bytes;
-use text::write::{put_byte, put_count, put_double, put_single, put_word, single_bits};
+use text::real::Real;
+use text::write::{put_byte, put_count, put_real, put_word};
 
 // A number behind a space, a colon or a comma.
-fn put_single_behind(out: &mut [u8], at: usize, mark: u8, x: f32) -> usize
-    requires { at + 9 ≤ length out.old }
-    ensures put { Put out.old at (mark ∷ float_text binary32 x) out.new result }
-    ensures upper_bound { result ≤ at + 9 }
+fn put_real_behind<T: Real>(out: &mut [u8], at: usize, mark: u8, x: T) -> usize
+    requires { at + (1 + digits_for T.format) ≤ length out.old }
+    ensures put { Put out.old at (mark ∷ float_text T.format (T.value x)) out.new result }
+    ensures upper_bound { result ≤ at + (1 + digits_for T.format) }
 {
     let next = put_byte(out, at, mark);
-    put_single(out, next, x)
-}
-
-fn put_double_behind(out: &mut [u8], at: usize, mark: u8, x: f64) -> usize
-    requires { at + 17 ≤ length out.old }
-    ensures put { Put out.old at (mark ∷ float_text binary64 x) out.new result }
-    ensures upper_bound { result ≤ at + 17 }
-{
-    let next = put_byte(out, at, mark);
-    put_double(out, next, x)
+    put_real(out, next, x)
 }
 
 fn put_count_behind(out: &mut [u8], at: usize, mark: u8, n: u64) -> usize
@@ -48,7 +39,7 @@ fn put_time_behind(out: &mut [u8], at: usize, mark: u8, time: Option<f64>) -> us
     ensures upper_bound { result ≤ at + 17 }
 {
     match time {
-        Some(t) => put_double_behind(out, at, mark, t),
+        Some(t) => put_real_behind(out, at, mark, t),
         None => {
             let next = put_byte(out, at, mark);
             put_byte(out, next, b'-')
@@ -63,11 +54,9 @@ pub fn put_list(out: &mut [u8], at: usize, first: u8, mark: u8, xs: &[f32]) -> u
 {
     let mut next = at;
     let mut before = first;
-    let mut i = 0;
-    while i < xs.len() {
-        next = put_single_behind(out, next, before, xs[i]);
+    for x in xs {
+        next = put_real_behind(out, next, before, *x);
         before = mark;
-        i += 1;
     }
     next
 }
@@ -115,7 +104,7 @@ pub fn put_block(out: &mut [u8], at: usize, steps: u64, current: f32, one: bool)
 {
     let next = put_word(out, at, b"block");
     let next = put_count_behind(out, next, b' ', steps);
-    let next = put_single_behind(out, next, b' ', current);
+    let next = put_real_behind(out, next, b' ', current);
     if one {
         put_word(out, next, b" 1")
     } else {
@@ -189,8 +178,8 @@ fn put_last(out: &mut [u8], at: usize, last: Option<Finished>) -> usize
     match last {
         None => put_word(out, at, b" -"),
         Some(e) => {
-            let next = put_double_behind(out, at, b' ', e.time);
-            put_single_behind(out, next, b':', e.value)
+            let next = put_real_behind(out, at, b' ', e.time);
+            put_real_behind(out, next, b':', e.value)
         }
     }
 }
@@ -200,9 +189,9 @@ fn put_bounds(out: &mut [u8], at: usize, bounds: Bounds) -> usize
     ensures put { Put out.old at (bounds_text bounds) out.new result }
     ensures upper_bound { result ≤ at + 27 }
 {
-    let next = put_single_behind(out, at, b' ', bounds.min);
-    let next = put_single_behind(out, next, b' ', bounds.default);
-    put_single_behind(out, next, b' ', bounds.max)
+    let next = put_real_behind(out, at, b' ', bounds.min);
+    let next = put_real_behind(out, next, b' ', bounds.default);
+    put_real_behind(out, next, b' ', bounds.max)
 }
 
 // The last block's end, where there is one, behind its time.
@@ -213,7 +202,7 @@ fn put_end(out: &mut [u8], at: usize, end: Option<f64>) -> usize
 {
     match end {
         None => at,
-        Some(t) => put_double_behind(out, at, b':', t),
+        Some(t) => put_real_behind(out, at, b':', t),
     }
 }
 
@@ -247,7 +236,7 @@ pub fn put_state(
     let next = put_word(out, at, b"state");
     let next = put_kind(out, next, rate, edition);
     let next = put_bounds(out, next, bounds);
-    let next = put_single_behind(out, next, b' ', intrinsic);
+    let next = put_real_behind(out, next, b' ', intrinsic);
     let next = put_span(out, next, block, end);
     let next = put_last(out, next, last);
     put_count_behind(out, next, b' ', count)
@@ -259,8 +248,8 @@ fn put_step(out: &mut [u8], at: usize, value: f32, time: f64) -> usize
     ensures put { Put out.old at (step_text value time) out.new result }
     ensures upper_bound { result ≤ at + 26 }
 {
-    let next = put_single_behind(out, at, b':', value);
-    put_double_behind(out, next, b':', time)
+    let next = put_real_behind(out, at, b':', value);
+    put_real_behind(out, next, b':', time)
 }
 
 fn put_ramp(out: &mut [u8], at: usize, value: f32, time: f64, hold: Option<f64>) -> usize
@@ -285,7 +274,7 @@ fn put_target(
     ensures upper_bound { result ≤ at + 60 }
 {
     let next = put_step(out, at, value, time);
-    let next = put_double_behind(out, next, b':', constant);
+    let next = put_real_behind(out, next, b':', constant);
     put_time_behind(out, next, b':', hold)
 }
 
@@ -301,8 +290,8 @@ fn put_curve(
     ensures put { Put out.old at (curve_text start duration hold len) out.new result }
     ensures upper_bound { result ≤ at + 72 }
 {
-    let next = put_double_behind(out, at, b':', start);
-    let next = put_double_behind(out, next, b':', duration);
+    let next = put_real_behind(out, at, b':', start);
+    let next = put_real_behind(out, next, b':', duration);
     let next = put_time_behind(out, next, b':', hold);
     put_count_behind(out, next, b':', len)
 }
@@ -351,26 +340,12 @@ pub fn put_event(out: &mut [u8], at: usize, event: Event) -> usize
 pub fn is_clean(output: &[f32], from: usize) -> bool
     ensures { result ≡ are_marks (drop from output.now) }
 {
-    let mut i = from;
-    while i < output.len() {
-        if output[i] != 8388608.0 {
-            return false;
-        }
-        i += 1;
-    }
-    true
+    output.iter().skip(from).all(|x| *x == 8388608.0)
 }
 
 // Whether every number of a store, behind the curves, is +0.
 pub fn is_zeros(store: &[f32], from: usize) -> bool
     ensures { result ≡ are_zeros (drop from store.now) }
 {
-    let mut i = from;
-    while i < store.len() {
-        if single_bits(store[i]) != 0 {
-            return false;
-        }
-        i += 1;
-    }
-    true
+    store.iter().skip(from).all(|x| x.bits() == 0)
 }

@@ -8,7 +8,7 @@ ghost use Rattle.beside.specs.Beside.{SameValue, FirstPlace, Tells, number_for};
 use rules::Refusal;
 use coding::encode;
 use param::{AudioParam, Processed};
-use text::write::single_bits;
+use text::real::Real;
 
 // A place of two runs of samples, or none of them.
 #[derive(Clone, Copy)]
@@ -21,7 +21,7 @@ pub enum Place {
 fn same_value(x: f32, y: f32) -> bool
     ensures { SameValue x y result }
 {
-    single_bits(x) == single_bits(y)
+    x.bits() == y.bits()
 }
 
 // The first place at which two runs of samples differ; where one is shorter, the place behind its end.

@@ -1,3 +1,2 @@
-pub mod Fields
 pub mod Numbers
 pub mod Rows

@@ -1,7 +1,7 @@
 -- A written file's numbers are bytes, so that its digits are read back: what `save` prints, `load` reads. Assumes nothing.
 use mathlib.Core.Path.{◌≡◌}
 use mathlib.Core.List.{List, [], ◌∷◌, ◌++◌}
-use mathlib.Core.Option.{some}
+use Rattle.std.specs.Prelude.{Some}
 use Prim.Native.Nat.{ℕ, ◌<◌}
 use native.Mathlib.Omega.{arith}
 use lib.ListN.{length}
@@ -47,5 +47,5 @@ pub file_bytes : (b : Bounds) (ws : List Waiting) → AreBytes (file_of b ws)
 unfolding file_of
 file_bytes b ws = bytes_append (range_field b) (fields_of ws) (range_bytes b) (fields_bytes ws)
 
-pub digits_back : (b : Bounds) (ws : List Waiting) → bytes_in (bytes_text (file_of b ws)) ≡ some (file_of b ws)
+pub digits_back : (b : Bounds) (ws : List Waiting) → bytes_in (bytes_text (file_of b ws)) ≡ Some (file_of b ws)
 digits_back b ws = unfold file_of range_field in text_back _ _ (unfold file_of range_field in file_bytes b ws)

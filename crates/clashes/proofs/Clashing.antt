@@ -41,7 +41,6 @@ pub no_clash : (q : List Event) (call : Call)
     → None ≡ clash_of q call
 unfolding clash_of
 no_clash q Call.Nothing set step linear exponential target curve = refl
-no_clash q Call.Unread set step linear exponential target curve = refl
 no_clash q (Call.Make b rate n) set step linear exponential target curve = refl
 no_clash q (Call.Set v) set step linear exponential target curve = absurd (set v refl)
 no_clash q (Call.Step v t) set step linear exponential target curve = absurd (step v t refl)

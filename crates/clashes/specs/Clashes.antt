@@ -43,7 +43,6 @@ holding q t d = let start = taken_time t in event_in (first_of (those (is_filed_
 -- what a call runs into: "An immediate set is a step at time 0"; of a curve, first the curve that its "start lies inside"
 unfoldable pub clash_of : List Event → Call → Option Clash
 clash_of q Call.Nothing = None
-clash_of q Call.Unread = None
 clash_of q (Call.Make b rate n) = None
 clash_of q (Call.Set v) = covered_by q plus_zero
 clash_of q (Call.Step v t) = covered_by q t

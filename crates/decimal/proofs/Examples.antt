@@ -1,13 +1,13 @@
 -- Words as a person writes them, and what is shown of a float, computed. Assumes nothing.
 use Rattle.std.proofs.Common.{◌≡◌, ℕ, true, false, pos, negsuc, refl}
-use mathlib.Core.Option.{none, some}
+use Rattle.std.specs.Prelude.{None, Some}
 use Prim.Native.String.{String}
 use lib.Ieee.{Float, nan, inf, fin, Format, binary32, binary64, round, of_bits, to_bits}
 use Rattle.rules.specs.Numbers.{narrowed}
 use Rattle.scan.specs.Bytes.{index_of, index_after}
 use Rattle.text.specs.Digits.{digit_of, are_digits, value_from, number_from, number_in, bits_in, glyph_of, digits_of, places_of, decimal_of}
 use Rattle.text.specs.Floats.{float_of, float_in, float_text}
-use Rattle.text.specs.Words.{same_word, up_to, count_in}
+use Rattle.text.specs.Words.{up_to, count_in}
 use Rattle.decimal.specs.Codes.{codes}
 use Rattle.decimal.specs.Decimals.{is_minus, sign_length, behind_sign, before, digits_part, whole_digits, fraction_digits, digits_in, tens_of, tens_in, scaled_by, scaled, unsigned_in, decimal_in, named_in, held, plain_in}
 use Rattle.decimal.specs.Shown.{millionths, shown_as, shown, sign_text, places_text, shown_text, text_of, plain_text}
@@ -15,10 +15,10 @@ use Rattle.decimal.specs.Shown.{millionths, shown_as, shown, sign_text, places_t
 -- ---- read
 
 abbrev Reads : Format → String → Float → Type 0
-Reads f w x = plain_in f (codes w) ≡ some x
+Reads f w x = plain_in f (codes w) ≡ Some x
 
 abbrev Refuses : String → Type 0
-Refuses w = plain_in binary64 (codes w) ≡ none
+Refuses w = plain_in binary64 (codes w) ≡ None
 
 pub examples_read :
     Reads binary64 "0.1" (of_bits binary64 4591870180066957722)
@@ -31,11 +31,11 @@ pub examples_read :
     × Reads binary64 "NaN" nan
     × Reads binary64 "-inf" (inf true)
     × Reads binary32 "x3f800000" (fin false 1 (pos 0))
-unfolding plain_in held named_in decimal_in unsigned_in scaled scaled_by tens_in tens_of digits_in fraction_digits whole_digits digits_part before behind_sign sign_length is_minus same_word float_in float_of bits_in count_in up_to number_in number_from are_digits value_from digit_of index_of index_after narrowed round of_bits
+unfolding plain_in held named_in decimal_in unsigned_in scaled scaled_by tens_in tens_of digits_in fraction_digits whole_digits digits_part before behind_sign sign_length is_minus float_in float_of bits_in count_in up_to number_in number_from are_digits value_from digit_of index_of index_after narrowed round of_bits
 examples_read = (refl, refl, refl, refl, refl, refl, refl, refl, refl, refl)
 
 pub examples_refused : Refuses "1e23" × Refuses "1e-40" × Refuses "9007199254740993" × Refuses "." × Refuses "1e" × Refuses "0x1" × Refuses "--1" × Refuses "x3f800000"
-unfolding plain_in held named_in decimal_in unsigned_in scaled scaled_by tens_in tens_of digits_in fraction_digits whole_digits digits_part before behind_sign sign_length is_minus same_word float_in float_of bits_in count_in up_to number_in number_from are_digits value_from digit_of index_of index_after
+unfolding plain_in held named_in decimal_in unsigned_in scaled scaled_by tens_in tens_of digits_in fraction_digits whole_digits digits_part before behind_sign sign_length is_minus float_in float_of bits_in count_in up_to number_in number_from are_digits value_from digit_of index_of index_after
 examples_refused = (refl, refl, refl, refl, refl, refl, refl, refl)
 
 -- ---- written

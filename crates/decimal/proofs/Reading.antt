@@ -1,6 +1,6 @@
 -- A word of a decimal read from the front: its sign, its digits up to a ceiling, and its tens. Assumes nothing.
 use Rattle.std.proofs.Common.{◌≡◌, ℕ, suc, ◌+◌, ◌-◌, ◌^◌, ◌<◌, ◌≤◌, Bool, true, false, cond, ◌&&◌, ◌||◌, eqb, ltb, leb, List, [], ◌∷◌, ◌++◌, length, get_or, take, drop, sym, refl, ap, ◌∙◌, lt_of_lt_of_le, zero-add, arith, lit<, length-append, length-drop, drop_of_length-le, length-take-le, take-take, ltb-false, eq-eqb, ne_eqb, le-leb, leb-false, leb-true}
-use mathlib.Core.Option.{Option, none, some}
+use Rattle.std.specs.Prelude.{Option, None, Some}
 use lib.Seq.{take-length}
 use lib.Ieee.{Float, Format, binary64}
 use borrow.Author.Rules.{part_to_end}
@@ -48,57 +48,57 @@ module _ (w : List ℕ) (some_character : length w ≡ 0 → ⊥) where
 
 module _ (b most : ℕ) (one : 1 ≤ b) (low : most < 2 ^ 64) where
   -- one test for both ceilings
-  limited : (v : ℕ) (cs : List ℕ) → up_to most (number_from b v cs) ≡ cond (are_digits b cs && leb (value_from b v cs) most) (some (value_from b v cs)) none
+  limited : (v : ℕ) (cs : List ℕ) → up_to most (number_from b v cs) ≡ cond (are_digits b cs && leb (value_from b v cs) most) (Some (value_from b v cs)) None
   unfolding number_from up_to
   limited v cs = by_test (are_digits b cs) (leb (value_from b v cs) most) (ltb (value_from b v cs) (2 ^ 64)) refl refl
     where
       x : ℕ
       x = value_from b v cs
 
-      by_test : (p q r : Bool) → leb x most ≡ q → ltb x (2 ^ 64) ≡ r → up_to most (cond (p && r) (some x) none) ≡ cond (p && q) (some x) none
+      by_test : (p q r : Bool) → leb x most ≡ q → ltb x (2 ^ 64) ≡ r → up_to most (cond (p && r) (Some x) None) ≡ cond (p && q) (Some x) None
       by_test false q r e f = refl
       by_test true q true e f = rw e
       by_test true true false e f = absurd (omega (arith, leb-true x most e, ltb-false x (2 ^ 64) f))
       by_test true false false e f = refl
 
-  pub over : (v : ℕ) (cs : List ℕ) → most < v → up_to most (number_from b v cs) ≡ none
+  pub over : (v : ℕ) (cs : List ℕ) → most < v → up_to most (number_from b v cs) ≡ None
   over v cs h = limited v cs ∙ by_digits (are_digits b cs)
     where
-      by_digits : (p : Bool) → cond (p && leb (value_from b v cs) most) (some (value_from b v cs)) none ≡ none
+      by_digits : (p : Bool) → cond (p && leb (value_from b v cs) most) (Some (value_from b v cs)) None ≡ None
       by_digits true = rw (lt-leb (value_from b v cs) most (lt_of_lt_of_le h (grows b one v cs)))
       by_digits false = refl
 
-  pub all-counted : (v : ℕ) → v ≤ most → up_to most (number_from b v []) ≡ some v
+  pub all-counted : (v : ℕ) → v ≤ most → up_to most (number_from b v []) ≡ Some v
   unfolding are_digits value_from
   all-counted v h = limited v [] ∙ rw (le-leb v most h)
 
   module _ (v : ℕ) (xs ys : List ℕ) where
-    both : up_to most (number_from b v (xs ++ ys)) ≡ cond ((are_digits b xs && are_digits b ys) && leb (value_from b (value_from b v xs) ys) most) (some (value_from b (value_from b v xs) ys)) none
+    both : up_to most (number_from b v (xs ++ ys)) ≡ cond ((are_digits b xs && are_digits b ys) && leb (value_from b (value_from b v xs) ys) most) (Some (value_from b (value_from b v xs) ys)) None
     both = limited v (xs ++ ys) ∙ rw (digits_append b xs ys, value_append b v xs ys)
 
     -- with the first digits counted
-    pub behind : (x : ℕ) → up_to most (number_from b v xs) ≡ some x → up_to most (number_from b v (xs ++ ys)) ≡ up_to most (number_from b x ys)
+    pub behind : (x : ℕ) → up_to most (number_from b v xs) ≡ Some x → up_to most (number_from b v (xs ++ ys)) ≡ up_to most (number_from b x ys)
     behind x e = both ∙ by_tests (are_digits b xs) (leb (value_from b v xs) most) refl refl (sym (limited v xs) ∙ e)
       where
-        by_tests : (p q : Bool) → are_digits b xs ≡ p → leb (value_from b v xs) most ≡ q → cond (p && q) (some (value_from b v xs)) none ≡ some x
-            → cond ((are_digits b xs && are_digits b ys) && leb (value_from b (value_from b v xs) ys) most) (some (value_from b (value_from b v xs) ys)) none ≡ up_to most (number_from b x ys)
+        by_tests : (p q : Bool) → are_digits b xs ≡ p → leb (value_from b v xs) most ≡ q → cond (p && q) (Some (value_from b v xs)) None ≡ Some x
+            → cond ((are_digits b xs && are_digits b ys) && leb (value_from b (value_from b v xs) ys) most) (Some (value_from b (value_from b v xs) ys)) None ≡ up_to most (number_from b x ys)
         by_tests true true i j k = let is : value_from b v xs ≡ x = cc in rw (i, is) (sym (limited x ys))
         by_tests true false i j k = absurd (let z : ◌≡◌ {A = ℕ} 0 1 = cc in omega arith)
         by_tests false q i j k = absurd (let z : ◌≡◌ {A = ℕ} 0 1 = cc in omega arith)
 
     -- they count too much, or are none
-    pub none_behind : up_to most (number_from b v xs) ≡ none → up_to most (number_from b v (xs ++ ys)) ≡ none
+    pub none_behind : up_to most (number_from b v xs) ≡ None → up_to most (number_from b v (xs ++ ys)) ≡ None
     none_behind e = both ∙ by_tests (are_digits b xs) (leb (value_from b v xs) most) refl refl (sym (limited v xs) ∙ e)
       where
         x : ℕ
         x = value_from b v xs
 
-        by_tests : (p q : Bool) → are_digits b xs ≡ p → leb x most ≡ q → cond (p && q) (some x) none ≡ none
-            → cond ((are_digits b xs && are_digits b ys) && leb (value_from b x ys) most) (some (value_from b x ys)) none ≡ none
+        by_tests : (p q : Bool) → are_digits b xs ≡ p → leb x most ≡ q → cond (p && q) (Some x) None ≡ None
+            → cond ((are_digits b xs && are_digits b ys) && leb (value_from b x ys) most) (Some (value_from b x ys)) None ≡ None
         by_tests true true i j k = absurd (let z : ◌≡◌ {A = ℕ} 0 1 = cc in omega arith)
         by_tests true false i j k = by_rest (are_digits b xs && are_digits b ys)
           where
-            by_rest : (p : Bool) → cond (p && leb (value_from b x ys) most) (some (value_from b x ys)) none ≡ none
+            by_rest : (p : Bool) → cond (p && leb (value_from b x ys) most) (Some (value_from b x ys)) None ≡ None
             by_rest true = rw (lt-leb (value_from b x ys) most (lt_of_lt_of_le (leb-false x most j) (grows b one x ys)))
             by_rest false = refl
         by_tests false q i j k = rw i
@@ -149,7 +149,7 @@ module _ (m : List ℕ) (point : ℕ) (is : point ≡ index_of 46 m) (in-word : 
           let at_end_lem = leb-false (suc point) (length m) t in
           drop_of_length-le m {i = from} (omega arith) ∙ sym (fraction_drop ∙ drop_of_length-le m {i = suc point} (omega arith))
 
-  pub no_digits : point + (length m - suc point) ≡ 0 → digits_in m ≡ none
+  pub no_digits : point + (length m - suc point) ≡ 0 → digits_in m ≡ None
   unfolding digits_in count_in up_to number_in
   no_digits h =
       ap (λ (cs : List ℕ). count_in (2 ^ 53) cs)
@@ -162,12 +162,12 @@ module _ (m : List ℕ) (point : ℕ) (is : point ≡ index_of 46 m) (in-word : 
       (at_least_one 10 (whole_digits m ++ fraction_digits m) (omega (arith, n, length-append (whole_digits m) (fraction_digits m), whole_length, fraction_length)))
 
   module _ (n : point + (length m - suc point) ≡ 0 → ⊥) where
-    pub digits_none : up_to (2 ^ 53) (number_from 10 0 (take point m)) ≡ none → digits_in m ≡ none
+    pub digits_none : up_to (2 ^ 53) (number_from 10 0 (take point m)) ≡ None → digits_in m ≡ None
     digits_none e =
         some_digits n
         ∙ none_behind 10 (2 ^ 53) (omega arith) (lit< tt) 0 (whole_digits m) (fraction_digits m) (ap (λ (cs : List ℕ). up_to (2 ^ 53) (number_from 10 0 cs)) whole_is ∙ e)
 
-    pub digits_behind : (x from : ℕ) → from ≡ length m - (length m - suc point) → up_to (2 ^ 53) (number_from 10 0 (take point m)) ≡ some x
+    pub digits_behind : (x from : ℕ) → from ≡ length m - (length m - suc point) → up_to (2 ^ 53) (number_from 10 0 (take point m)) ≡ Some x
         → digits_in m ≡ up_to (2 ^ 53) (number_from 10 x (take (length m - from) (drop from m)))
     digits_behind x from f e =
         some_digits n
@@ -175,22 +175,22 @@ module _ (m : List ℕ) (point : ℕ) (is : point ≡ index_of 46 m) (in-word : 
         ∙ ap (λ (cs : List ℕ). up_to (2 ^ 53) (number_from 10 x cs)) (sym (part_to_end m from ∙ fraction_is from f))
 
 -- what is read is at most the ceiling
-pub below_most : (most : ℕ) (o : Option ℕ) (n : ℕ) → up_to most o ≡ some n → n ≤ most
+pub below_most : (most : ℕ) (o : Option ℕ) (n : ℕ) → up_to most o ≡ Some n → n ≤ most
 unfolding up_to
-below_most most none n e = absurd (let z : ◌≡◌ {A = ℕ} 0 1 = cc in omega arith)
-below_most most (some m) n e = by_test (leb m most) refl e
+below_most most None n e = absurd (let z : ◌≡◌ {A = ℕ} 0 1 = cc in omega arith)
+below_most most (Some m) n e = by_test (leb m most) refl e
   where
-    by_test : (b : Bool) → leb m most ≡ b → cond b (some m) none ≡ some n → n ≤ most
+    by_test : (b : Bool) → leb m most ≡ b → cond b (Some m) None ≡ Some n → n ≤ most
     by_test true t e = let is : m ≡ n = cc in omega (arith, leb-true m most t)
     by_test false t e = absurd (let z : ◌≡◌ {A = ℕ} 0 1 = cc in omega arith)
 
-pub digits_below : (m : List ℕ) (n : ℕ) → digits_in m ≡ some n → n ≤ 2 ^ 53
+pub digits_below : (m : List ℕ) (n : ℕ) → digits_in m ≡ Some n → n ≤ 2 ^ 53
 unfolding digits_in count_in
 digits_below m n e = below_most (2 ^ 53) _ n e
 
 -- ---- tens
 
-pub no_tens : (w : List ℕ) → length w ≡ 0 → Tens.Up 0 ≡ tens_in w
+pub no_tens : (w : List ℕ) → length w ≡ 0 → Some (Tens.Up 0) ≡ tens_in w
 unfolding tens_in
 no_tens [] h = refl
 no_tens (c ∷ cs) h = absurd (omega arith)
@@ -246,13 +246,13 @@ unfolding decimal_in behind_sign
 decimal_by w minus len sign =
     ap (unsigned_in minus) (part_to_end w len) ∙ ap (λ (k : ℕ). unsigned_in minus (drop k w)) sign.1 ∙ ap (λ (b : Bool). unsigned_in b (drop (sign_length w) w)) sign.0
 
-pub scaled-same : (minus : Bool) {p q : ℕ} {o r : Option ℕ} {t u : Tens} → p ≡ q → o ≡ r → t ≡ u → scaled minus p o t ≡ scaled minus q r u
+pub scaled-same : (minus : Bool) {p q : ℕ} {o r : Option ℕ} {t u : Option Tens} → p ≡ q → o ≡ r → t ≡ u → scaled minus p o t ≡ scaled minus q r u
 scaled-same minus e f g = λ w. scaled minus (e w) (f w) (g w)
 
 -- ---- a float of a format
 
 module _ (f : Format) where
-  pub plain_none : (w : List ℕ) → length w ≡ 0 → plain_in f w ≡ none
+  pub plain_none : (w : List ℕ) → length w ≡ 0 → plain_in f w ≡ None
   unfolding plain_in
   plain_none [] h = refl
   plain_none (c ∷ cs) h = absurd (omega arith)
@@ -272,5 +272,5 @@ module _ (f : Format) where
 
 pub held-double : (o : Option Float) → held binary64 o ≡ o
 unfolding held
-held-double none = refl
-held-double (some x) = refl
+held-double None = refl
+held-double (Some x) = refl

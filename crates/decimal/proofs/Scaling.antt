@@ -1,6 +1,6 @@
 -- Powers of ten as f64s, and a whole number multiplied or divided by one: up to 10 ^ 22 each is exact, so there is one rounding. Assumes nothing.
 use Rattle.std.proofs.Common.{◌≡◌, ℕ, zero, suc, ◌+◌, ◌-◌, ◌*◌, ◌^◌, ◌<◌, ◌≤◌, Bool, true, false, pos, sym, refl, ap, ◌∙◌, true≢false, lt_of_lt_of_le, lt_of_le_of_lt, mul_assoc, mul_comm, mul-pos, pow-suc, zero-mul, mul-one, add-one, arith, lit<, pow_mono, pow-add, shl_lt, ne_eqb, le-leb}
-use mathlib.Core.Option.{none, some}
+use Rattle.std.specs.Prelude.{None, Some}
 use native.Mathlib.Nat.{mul-mul-mul_comm, pow-le-pow_right, one-le-pow}
 use lib.Ieee.{Float, nan, inf, fin, Format, binary64, up, down, unlike, round, mul, div, neg, of_int}
 use lib.Ieee.Fits.{up_pos, down_pos}
@@ -73,34 +73,34 @@ module _ (minus : Bool) (d : ℕ) (x : Float) (v : HasValue x minus d 1) (k : �
   divided = div_whole binary64 minus d (10 ^ k) (ten_pos k) x _ v (ten_exact k h)
 
 module _ (minus : Bool) (d up down : ℕ) where
-  within : up ≤ down + 22 → down ≤ up + 22 → scaled_by minus d up down ≡ some (round binary64 minus (d * 10 ^ up) (10 ^ down))
+  within : up ≤ down + 22 → down ≤ up + 22 → scaled_by minus d up down ≡ Some (round binary64 minus (d * 10 ^ up) (10 ^ down))
   unfolding scaled_by
   within g h = rw (le-leb up (down + 22) g, le-leb down (up + 22) h)
 
-  pub too_high : 22 < up - down → scaled_by minus d up down ≡ none
+  pub too_high : 22 < up - down → scaled_by minus d up down ≡ None
   unfolding scaled_by
   too_high h = rw (lt-leb up (down + 22) (omega arith))
 
-  pub too_low : 22 < down - up → scaled_by minus d up down ≡ none
+  pub too_low : 22 < down - up → scaled_by minus d up down ≡ None
   unfolding scaled_by
   too_low h = rw (le-leb up (down + 22) (omega arith), lt-leb down (up + 22) (omega arith))
 
   module _ (x : Float) (v : HasValue x minus d 1) where
-    pub raised : down ≤ up → up - down ≤ 22 → scaled_by minus d up down ≡ some (mul binary64 x (of_int binary64 (pos (10 ^ (up - down)))))
+    pub raised : down ≤ up → up - down ≤ 22 → scaled_by minus d up down ≡ Some (mul binary64 x (of_int binary64 (pos (10 ^ (up - down)))))
     raised le h =
         let k = up - down in
         let sum : up ≡ k + down = omega arith in
         within (omega arith) (omega arith)
-        ∙ ap some (round_same binary64 minus (d * 10 ^ up) (10 ^ down) (d * 10 ^ k) 1 (ten_pos down) (omega arith)
+        ∙ ap Some (round_same binary64 minus (d * 10 ^ up) (10 ^ down) (d * 10 ^ k) 1 (ten_pos down) (omega arith)
         (mul-one (d * 10 ^ up) ∙ ap (λ (j : ℕ). d * 10 ^ j) sum ∙ ap (λ (j : ℕ). d * j) (pow-add 10 k down) ∙ sym (mul_assoc d (10 ^ k) (10 ^ down)))
         ∙ sym (multiplied minus d x v k h))
 
-    pub lowered : up < down → down - up ≤ 22 → scaled_by minus d up down ≡ some (div binary64 x (of_int binary64 (pos (10 ^ (down - up)))))
+    pub lowered : up < down → down - up ≤ 22 → scaled_by minus d up down ≡ Some (div binary64 x (of_int binary64 (pos (10 ^ (down - up)))))
     lowered lt h =
         let k = down - up in
         let sum : up + k ≡ down = omega arith in
         within (omega arith) (omega arith)
-        ∙ ap some (round_same binary64 minus (d * 10 ^ up) (10 ^ down) d (10 ^ k) (ten_pos down) (ten_pos k)
+        ∙ ap Some (round_same binary64 minus (d * 10 ^ up) (10 ^ down) d (10 ^ k) (ten_pos down) (ten_pos k)
         (mul_assoc d (10 ^ up) (10 ^ k) ∙ ap (λ (j : ℕ). d * j) (sym (pow-add 10 up k) ∙ ap (λ (j : ℕ). 10 ^ j) sum))
         ∙ sym (divided minus d x v k h))
 

@@ -1,5 +1,5 @@
 -- A number in millionths, to the nearest: what code with 64 bits makes of it, by whole part and rest and by two halves. Assumes nothing.
-use Rattle.std.proofs.Common.{◌≡◌, ℕ, zero, suc, ◌+◌, ◌-◌, ◌*◌, ◌/◌, ◌%◌, ◌^◌, ◌<◌, ◌≤◌, Bool, true, false, cond, ◌&&◌, ◌||◌, eqb, ltb, ◌⊎◌, pos, sym, refl, ap, ◌∙◌, subst, inl, inr, true≢false, le_trans, lt_of_lt_of_le, le_of_lt, mul-le-mul_right, mod-eq_of_lt, mul_assoc, add-sub_of_le, lt_of_mul-lt-mul_right, mul-le-mul_left, mul-lt-mul_of_pos_right, mul-pos, one-mul, div-add-mod', le-div_iff_mul-le, zero-mul, mul-one, sub-add_cancel, mul_right_comm, arith, pow_pos, pow_mono, pow-add, shl_lt, ltb-false, ltb-true, le-ltb, lt-ltb, eq-eqb, ne_eqb, eqb-true}
+use Rattle.std.proofs.Common.{Option, None, Some, ◌≡◌, ℕ, zero, suc, ◌+◌, ◌-◌, ◌*◌, ◌/◌, ◌%◌, ◌^◌, ◌<◌, ◌≤◌, Bool, true, false, cond, ◌&&◌, ◌||◌, eqb, ltb, ◌⊎◌, pos, sym, refl, ap, ◌∙◌, subst, inl, inr, true≢false, le_trans, lt_of_lt_of_le, le_of_lt, mul-le-mul_right, mod-eq_of_lt, mul_assoc, add-sub_of_le, lt_of_mul-lt-mul_right, mul-le-mul_left, mul-lt-mul_of_pos_right, mul-pos, one-mul, div-add-mod', le-div_iff_mul-le, zero-mul, mul-one, sub-add_cancel, mul_right_comm, arith, pow_pos, pow_mono, pow-add, shl_lt, ltb-false, ltb-true, le-ltb, lt-ltb, eq-eqb, ne_eqb, eqb-true}
 use Prim.Native.Nat.{compare, Ordering}
 use native.Mathlib.Nat.{add-mul-div_right, add-mul-mod_self_right}
 use lib.Ieee.{Float, nan, inf, fin, up, down, nearest, lt, eq, ne}
@@ -9,7 +9,7 @@ use lib.Ieee.Nearest.{closest, closest_same}
 use lib.Ieee.Scale.{finite}
 use borrow.Author.Tests.{eqb-false}
 use Rattle.rounding_laws.proofs.Sticky.{closest_between, stuck_closest}
-use Rattle.decimal.specs.declared.write.Printed.TheVariants as Printed
+use Rattle.decimal.specs.declared.write.Printed.{Printed}
 use Rattle.decimal.specs.Shown.{millionths, shown_as, shown}
 
 -- ---- an even number of units beside a rest
@@ -72,6 +72,9 @@ whole_off m b B =
 
 -- ---- what is shown
 
+abbrev decimal_of : Bool → ℕ → ℕ → Option Printed
+decimal_of minus whole n = Some (Printed.Decimal minus whole n)
+
 or_true : (b : Bool) → b || true ≡ true
 or_true true = refl
 or_true false = refl
@@ -81,20 +84,20 @@ and_false true = refl
 and_false false = refl
 
 module _ (minus : Bool) (num den : ℕ) where
-  pub decimal : (n : ℕ) → n ≡ closest (num * 1000000) den → num < 2 ^ 64 * den → 0 < n → Printed.Decimal minus (n / 1000000) (n % 1000000) ≡ shown_as minus num den
+  pub decimal : (n : ℕ) → n ≡ closest (num * 1000000) den → num < 2 ^ 64 * den → 0 < n → decimal_of minus (n / 1000000) (n % 1000000) ≡ shown_as minus num den
   unfolding shown_as millionths
   decimal n e h p = rw (← e, lt-ltb num (2 ^ 64 * den) h, lt-ltb 0 n p, or_true (eqb num 0))
 
-  pub too_large : 2 ^ 64 * den ≤ num → Printed.Bits ≡ shown_as minus num den
+  pub too_large : 2 ^ 64 * den ≤ num → None ≡ shown_as minus num den
   unfolding shown_as
   too_large h = rw (le-ltb num (2 ^ 64 * den) h)
 
-  pub too_small : 0 < num → closest (num * 1000000) den ≡ 0 → Printed.Bits ≡ shown_as minus num den
+  pub too_small : 0 < num → closest (num * 1000000) den ≡ 0 → None ≡ shown_as minus num den
   unfolding shown_as millionths
   too_small p e = rw (e, ne_eqb num 0 (omega arith), and_false (ltb num (2 ^ 64 * den)))
 
 -- a zero, of whatever denominator
-pub zero_shown : (minus : Bool) (den : ℕ) → 0 < den → Printed.Decimal minus 0 0 ≡ shown_as minus 0 den
+pub zero_shown : (minus : Bool) (den : ℕ) → 0 < den → decimal_of minus 0 0 ≡ shown_as minus 0 den
 unfolding shown_as millionths
 zero_shown minus den D =
     let none : closest 0 den ≡ 0 = ap (λ (x : ℕ). closest x den) (sym (zero-mul den)) ∙ closest_whole 0 den D in
@@ -141,38 +144,38 @@ module _ (a b c d : ℕ) (B : 0 < b) (D : 0 < d) (e : a * d ≡ c * b) where
   unfolding shown_as
   shown-same minus =
       let n = alike a b c d B D e in
-      λ w. cond (same_below w && (same_zero w || ltb 0 (n w))) (Printed.Decimal minus (n w / 10 ^ 6) (n w % 10 ^ 6)) Printed.Bits
+      λ w. cond (same_below w && (same_zero w || ltb 0 (n w))) (decimal_of minus (n w / 10 ^ 6) (n w % 10 ^ 6)) None
 
 -- ---- by the size of the exponent
 
 module _ (minus : Bool) (m : ℕ) (most : m < 2 ^ 53) where
   -- the whole part taken off, and carried into where the rest rounds up to a whole one
-  pub coarse_shown : (k n : ℕ) → 2 ^ 52 ≤ m → k ≤ 32 → n ≡ closest (m % 2 ^ k * 1000000) (2 ^ k) → Printed.Decimal minus (m / 2 ^ k + n / 1000000) (n % 1000000) ≡ shown_as minus m (2 ^ k)
+  pub coarse_shown : (k n : ℕ) → 2 ^ 52 ≤ m → k ≤ 32 → n ≡ closest (m % 2 ^ k * 1000000) (2 ^ k) → decimal_of minus (m / 2 ^ k + n / 1000000) (n % 1000000) ≡ shown_as minus m (2 ^ k)
   coarse_shown k n least h e =
       let q = m / 2 ^ k in
       let all : q * 1000000 + n ≡ closest (m * 1000000) (2 ^ k) = ap (λ (x : ℕ). q * 1000000 + x) e ∙ sym (whole_off m (2 ^ k) (pow_pos k)) in
       let some-whole : 1 ≤ q = (le-div_iff_mul-le (pow_pos k)).1 (le_trans (subst (λ (x : ℕ). x ≤ 2 ^ 32) (sym (one-mul (2 ^ k))) (pow_mono h)) (omega arith)) in
       let whole : q + n / 1000000 ≡ (q * 1000000 + n) / 1000000 = omega arith in
       let rest : n % 1000000 ≡ (q * 1000000 + n) % 1000000 = omega arith in
-      (λ w. Printed.Decimal minus (whole w) (rest w))
+      (λ w. decimal_of minus (whole w) (rest w))
       ∙ decimal minus m (2 ^ k) (q * 1000000 + n) all (lt_of_lt_of_le most (le_trans (omega arith) (mul-le-mul_left (2 ^ 64) (pow_pos k)))) (omega arith)
 
-  pub fine_shown : (k n : ℕ) → n ≡ closest (m * 1000000) (2 ^ k) → 0 < n → Printed.Decimal minus (n / 1000000) (n % 1000000) ≡ shown_as minus m (2 ^ k)
+  pub fine_shown : (k n : ℕ) → n ≡ closest (m * 1000000) (2 ^ k) → 0 < n → decimal_of minus (n / 1000000) (n % 1000000) ≡ shown_as minus m (2 ^ k)
   fine_shown k n e p = decimal minus m (2 ^ k) n e (lt_of_lt_of_le most (le_trans (omega arith) (mul-le-mul_left (2 ^ 64) (pow_pos k)))) p
 
-  pub tiny_shown : (k : ℕ) → 0 < m → 73 < k → Printed.Bits ≡ shown_as minus m (2 ^ k)
+  pub tiny_shown : (k : ℕ) → 0 < m → 73 < k → None ≡ shown_as minus m (2 ^ k)
   tiny_shown k p h =
       let far : 2 ^ 74 ≤ 2 ^ k = pow_mono h in
       too_small minus m (2 ^ k) p (closest_between (m * 1000000) (2 ^ k) 0 (pow_pos k) (omega arith) (omega arith))
 
-  pub huge_shown : (j : ℕ) → (2 ^ 52 ≤ m) ⊎ (j ≡ 0) → 1085 < j → Printed.Bits ≡ shown_as minus (m * 2 ^ j) (2 ^ 1074)
+  pub huge_shown : (j : ℕ) → (2 ^ 52 ≤ m) ⊎ (j ≡ 0) → 1085 < j → None ≡ shown_as minus (m * 2 ^ j) (2 ^ 1074)
   huge_shown j lead h = too_large minus (m * 2 ^ j) (2 ^ 1074) (le_trans (mul-le-mul_right (2 ^ 1086) (least lead)) (mul-le-mul_left m (pow_mono {i = 1086} {j = j} h)))
     where
       least : (2 ^ 52 ≤ m) ⊎ (j ≡ 0) → 2 ^ 52 ≤ m
       least (inl g) = g
       least (inr z) = absurd (omega arith)
 
-  pub whole-shown : (j : ℕ) → 0 < m → 1074 ≤ j → j ≤ 1085 → Printed.Decimal minus (m * 2 ^ (j - 1074) % 2 ^ 64) 0 ≡ shown_as minus (m * 2 ^ j) (2 ^ 1074)
+  pub whole-shown : (j : ℕ) → 0 < m → 1074 ≤ j → j ≤ 1085 → decimal_of minus (m * 2 ^ (j - 1074) % 2 ^ 64) 0 ≡ shown_as minus (m * 2 ^ j) (2 ^ 1074)
   whole-shown j p h g =
       let k = j - 1074 in
       let w = m * 2 ^ k in
@@ -182,7 +185,7 @@ module _ (minus : Bool) (m : ℕ) (most : m < 2 ^ 53) where
       mul_assoc m (2 ^ k) (2 ^ 1074) ∙ ap (λ (x : ℕ). m * x) (sym (pow-add 2 k 1074) ∙ ap (λ (i : ℕ). 2 ^ i) (sub-add_cancel h)) ∙ sym (mul-one (m * 2 ^ j)) in
       let whole : w % 2 ^ 64 ≡ w * 1000000 / 1000000 = mod-eq_of_lt small ∙ omega arith in
       let rest : 0 ≡ w * 1000000 % 1000000 = omega arith in
-      (λ i. Printed.Decimal minus (whole i) (rest i))
+      (λ i. decimal_of minus (whole i) (rest i))
       ∙ decimal minus w 1 (w * 1000000) (sym (ap (λ (x : ℕ). closest x 1) (sym (mul-one (w * 1000000))) ∙ closest_whole (w * 1000000) 1 (omega arith))) (omega arith) (omega arith)
       ∙ shown-same w 1 (m * 2 ^ j) (2 ^ 1074) (omega arith) (pow_pos 1074) back minus
 
@@ -199,7 +202,7 @@ value_shown nan s a c C v = absurd v
 value_shown (inf t) s a c C v = absurd v
 value_shown (fin t m e) s a c C v = ap (λ (b : Bool). shown_as b a c) (sym v.0) ∙ shown-same a c (m * up e) (down e) C (down_pos e) (sym v.1) t
 
-pub infinite_shown : (x : Float) → ne x x ≡ false → finite x ≡ false → Printed.Infinite (lt x (fin false 0 (pos 0))) ≡ shown x
+pub infinite_shown : (x : Float) → ne x x ≡ false → finite x ≡ false → Some (Printed.Infinite (lt x (fin false 0 (pos 0)))) ≡ shown x
 unfolding shown lt ne eq
 infinite_shown nan n f = absurd (true≢false n)
 infinite_shown (inf s) n f = refl

@@ -1,8 +1,8 @@
 -- The text of a float: its places behind the point, and how long it is. Assumes nothing.
-use Rattle.std.proofs.Common.{◌≡◌, ℕ, zero, suc, ◌-◌, ◌/◌, ◌%◌, ◌<◌, ◌≤◌, Bool, true, false, cond, eqb, List, [], ◌∷◌, ◌++◌, length, sym, refl, subst, add-zero, arith, length-append, eq-eqb, ne_eqb}
+use Rattle.std.proofs.Common.{Option, None, Some, ◌≡◌, ℕ, zero, suc, ◌-◌, ◌/◌, ◌%◌, ◌<◌, ◌≤◌, Bool, true, false, cond, eqb, List, [], ◌∷◌, ◌++◌, length, sym, refl, subst, add-zero, arith, length-append, eq-eqb, ne_eqb}
 use lib.Ieee.{Float, Format, binary32, binary64}
 use Rattle.text.specs.Digits.{digits_of, decimal_of}
-use Rattle.text.specs.Floats.{float_text}
+use Rattle.text.specs.Floats.{digits_for, float_text}
 use Rattle.text.specs.Put.{Put}
 use Rattle.text.proofs.Writing.{put_none, length_digits, length_float, length_decimal}
 use Rattle.decimal.specs.declared.write.Printed.{Printed}
@@ -39,15 +39,6 @@ module _ (k n : ℕ) (some-place : 0 < k) where
       by_places zero p = absurd (omega arith)
       by_places (suc j) p = rw (ne_eqb (n % 10) 0 e)
 
--- ---- all but bits
-
-pub not_bits : (f : Format) (x : Float) (p : Printed) → (p ≡ Printed.Bits → ⊥) → shown_text p ≡ text_of f x p
-unfolding text_of
-not_bits f x Printed.NotANumber k = refl
-not_bits f x (Printed.Infinite s) k = refl
-not_bits f x (Printed.Decimal s whole n) k = refl
-not_bits f x Printed.Bits k = absurd (k refl)
-
 -- ---- lengths
 
 pub length_sign : (minus : Bool) → length (sign_text minus) ≤ 1
@@ -70,7 +61,10 @@ length-shown Printed.NotANumber = omega arith
 length-shown (Printed.Infinite s) = omega (arith, length-append (sign_text s) (105 ∷ 110 ∷ 102 ∷ []), length_sign s)
 length-shown (Printed.Decimal s whole n) =
     omega (arith, length-append (sign_text s) (decimal_of whole ++ places_text 6 n), length-append (decimal_of whole) (places_text 6 n), length_sign s, length_decimal whole, length_places 6 n)
-length-shown Printed.Bits = omega arith
+
+pub digits_short : (f : Format) → digits_for f ≤ 16
+digits_short binary32 = omega arith
+digits_short binary64 = omega arith
 
 -- what a caller leaves room for
 pub length_plain : (f : Format) (x : Float) → length (plain_text f x) ≤ 28
@@ -81,8 +75,6 @@ length_plain f x = by_kind (shown x)
     bits binary32 = omega (arith, length_float binary32 x)
     bits binary64 = omega (arith, length_float binary64 x)
 
-    by_kind : (p : Printed) → length (text_of f x p) ≤ 28
-    by_kind Printed.NotANumber = length-shown Printed.NotANumber
-    by_kind (Printed.Infinite s) = length-shown (Printed.Infinite s)
-    by_kind (Printed.Decimal s whole n) = length-shown (Printed.Decimal s whole n)
-    by_kind Printed.Bits = bits f
+    by_kind : (p : Option Printed) → length (text_of f x p) ≤ 28
+    by_kind (Some s) = length-shown s
+    by_kind None = bits f

@@ -3,13 +3,12 @@ ghost use Rattle.std.specs.Prelude.{◌≡◌, ℕ, suc, ◌+◌, ◌-◌, ◌^�
 ghost use Rattle.std.specs.Float.{binary32, binary64};
 ghost use Rattle.std.specs.Float.Ieee.{of_int};
 ghost use Rattle.std.specs.Float.Ieee.Exact.{HasValue};
-ghost use Rattle.text.specs.Digits.{number_from, as_number};
-ghost use Rattle.text.specs.Floats.{as_single, as_double};
+ghost use Rattle.text.specs.Digits.{number_from};
 ghost use Rattle.text.specs.Words.{up_to};
 ghost use Rattle.scan.specs.Bytes.{index_of};
 ghost use Rattle.decimal.specs.Decimals.{is_minus, sign_length, fraction_digits, digits_in, tens_in, scaled_by, unsigned_in, decimal_in, named_in, plain_in};
 
-use text::read::{Double, Number, Single, count_in, digit, double_in, single_in};
+use text::read::{count_in, digit, real_in};
 use text::words::same;
 
 // How many tens a number is multiplied by, or divided by.
@@ -17,7 +16,6 @@ use text::words::same;
 pub enum Tens {
     Up(u64),
     Down(u64),
-    Unread,
 }
 
 // Whether a number begins with a minus, and the place behind its sign.
@@ -55,24 +53,22 @@ fn sign_of(word: &[u8]) -> Sign
 }
 
 // What digits count behind others that count `value`, up to 2^53.
-fn counted(word: &[u8], value: u64) -> Number
+fn counted(word: &[u8], value: u64) -> Option<u64>
     requires { value ≤ 2 ^ 53 }
-    ensures { result ≡ as_number (up_to (2 ^ 53) (number_from 10 value word.now)) }
+    ensures { result ≡ up_to (2 ^ 53) (number_from 10 value word.now) }
 {
     let mut v = value;
-    let mut i = 0;
-    while i < word.len() {
-        let d = digit(word[i]);
+    for c in word {
+        let d = digit(*c);
         if 10 <= d {
-            return Number::Unread;
+            return None;
         }
         v = v * 10 + d;
         if 9007199254740992 < v {
-            return Number::Unread;
+            return None;
         }
-        i += 1;
     }
-    Number::Is(v)
+    Some(v)
 }
 
 // How many digits stand behind the point, whose place is known.
@@ -83,38 +79,34 @@ fn places_behind(len: usize, point: usize) -> usize
 }
 
 // Digits with a point among them, or at their end, as one whole number.
-fn digits_in(word: &[u8], point: usize) -> Number
+fn digits_in(word: &[u8], point: usize) -> Option<u64>
     requires { (point ≡ index_of 46 word.now) × (point ≤ length word.now) }
-    ensures { result ≡ as_number (digits_in word.now) }
+    ensures { result ≡ digits_in word.now }
 {
     let places = places_behind(word.len(), point);
     if point + places == 0 {
-        return Number::Unread;
+        return None;
     }
-    let Number::Is(whole) = counted(&word[..point], 0) else {
-        return Number::Unread;
-    };
+    let whole = counted(&word[..point], 0)?;
     let from = word.len() - places;
     counted(&word[from..], whole)
 }
 
 // What stands behind the digits.
-fn tens_in(word: &[u8]) -> Tens
+fn tens_in(word: &[u8]) -> Option<Tens>
     ensures { result ≡ tens_in word.now }
 {
     if word.len() == 0 {
-        return Tens::Up(0);
+        return Some(Tens::Up(0));
     }
     let signed = &word[1..];
     let sign = sign_of(signed);
     let from = sign.len;
-    let Number::Is(n) = count_in(&signed[from..]) else {
-        return Tens::Unread;
-    };
+    let n = count_in(&signed[from..])?;
     if sign.minus {
-        Tens::Down(n)
+        Some(Tens::Down(n))
     } else {
-        Tens::Up(n)
+        Some(Tens::Up(n))
     }
 }
 
@@ -124,10 +116,8 @@ fn ten_to(k: u64) -> f64
     ensures { result ≡ of_int binary64 (pos (10 ^ k)) }
 {
     let mut power = 1.0;
-    let mut i = 0;
-    while i < k {
+    for _i in 0..k {
         power *= 10.0;
-        i += 1;
     }
     power
 }
@@ -141,57 +131,55 @@ fn signed(minus: bool, d: u64) -> f64
 }
 
 // ±d * 10^up / 10^down, by one operation on two numbers that are exact.
-fn scaled_by(minus: bool, d: u64, up: u64, down: u64) -> Double
+fn scaled_by(minus: bool, d: u64, up: u64, down: u64) -> Option<f64>
     requires { d ≤ 2 ^ 53 }
-    ensures { result ≡ as_double (scaled_by minus d up down) }
+    ensures { result ≡ scaled_by minus d up down }
 {
     if down <= up {
         if 22 < up - down {
-            return Double::Unread;
+            return None;
         }
-        return Double::Is(signed(minus, d) * ten_to(up - down));
+        return Some(signed(minus, d) * ten_to(up - down));
     }
     if 22 < down - up {
-        return Double::Unread;
+        return None;
     }
-    Double::Is(signed(minus, d) / ten_to(down - up))
+    Some(signed(minus, d) / ten_to(down - up))
 }
 
 // ±d / 10^(places + n): more than 22 tens are not even added up.
-fn lowered(minus: bool, d: u64, places: u64, n: u64) -> Double
+fn lowered(minus: bool, d: u64, places: u64, n: u64) -> Option<f64>
     requires { d ≤ 2 ^ 53 }
-    ensures { result ≡ as_double (scaled_by minus d 0 (places + n)) }
+    ensures { result ≡ scaled_by minus d 0 (places + n) }
 {
     if 22 < n {
-        return Double::Unread;
+        return None;
     }
     if 22 - n < places {
-        return Double::Unread;
+        return None;
     }
     scaled_by(minus, d, 0, places + n)
 }
 
 // A decimal behind its sign.
-fn unsigned_in(minus: bool, word: &[u8]) -> Double
-    ensures { result ≡ as_double (unsigned_in minus word.now) }
+fn unsigned_in(minus: bool, word: &[u8]) -> Option<f64>
+    ensures { result ≡ unsigned_in minus word.now }
 {
     let lower = scan::find(word, 0, word.len(), b'e');
     let end = scan::find(word, 0, lower, b'E');
     let digits = &word[..end];
     let point = scan::find(digits, 0, end, b'.');
-    let Number::Is(d) = digits_in(digits, point) else {
-        return Double::Unread;
-    };
+    let d = digits_in(digits, point)?;
     let places = places_behind(end, point) as u64;
-    match tens_in(&word[end..]) {
+    let tens = tens_in(&word[end..])?;
+    match tens {
         Tens::Up(n) => scaled_by(minus, d, n, places),
         Tens::Down(n) => lowered(minus, d, places, n),
-        Tens::Unread => Double::Unread,
     }
 }
 
-fn decimal_in(word: &[u8]) -> Double
-    ensures { result ≡ as_double (decimal_in word.now) }
+fn decimal_in(word: &[u8]) -> Option<f64>
+    ensures { result ≡ decimal_in word.now }
 {
     let sign = sign_of(word);
     let from = sign.len;
@@ -199,46 +187,44 @@ fn decimal_in(word: &[u8]) -> Double
 }
 
 // NaN, an infinity or a decimal.
-fn named_in(word: &[u8]) -> Double
-    ensures { result ≡ as_double (named_in word.now) }
+fn named_in(word: &[u8]) -> Option<f64>
+    ensures { result ≡ named_in word.now }
 {
     if same(word, b"NaN") {
-        return Double::Is(0.0 / 0.0);
+        return Some(0.0 / 0.0);
     }
     if same(word, b"inf") {
-        return Double::Is(f64::from_bits(0x7ff0_0000_0000_0000));
+        return Some(f64::from_bits(0x7ff0_0000_0000_0000));
     }
     if same(word, b"-inf") {
-        return Double::Is(f64::from_bits(0xfff0_0000_0000_0000));
+        return Some(f64::from_bits(0xfff0_0000_0000_0000));
     }
     decimal_in(word)
 }
 
 // A time, a time constant, a duration or a period.
-pub fn time_in(word: &[u8]) -> Double
-    ensures { result ≡ as_double (plain_in binary64 word.now) }
+pub fn time_in(word: &[u8]) -> Option<f64>
+    ensures { result ≡ plain_in binary64 word.now }
 {
     if word.len() == 0 {
-        return Double::Unread;
+        return None;
     }
     if word[0] == b'x' {
-        return double_in(&word[1..]);
+        return real_in(&word[1..]);
     }
     named_in(word)
 }
 
 // A value.
-pub fn value_in(word: &[u8]) -> Single
-    ensures { result ≡ as_single (plain_in binary32 word.now) }
+pub fn value_in(word: &[u8]) -> Option<f32>
+    ensures { result ≡ plain_in binary32 word.now }
 {
     if word.len() == 0 {
-        return Single::Unread;
+        return None;
     }
     if word[0] == b'x' {
-        return single_in(&word[1..]);
+        return real_in(&word[1..]);
     }
-    let Double::Is(x) = named_in(word) else {
-        return Single::Unread;
-    };
-    Single::Is(rounding::narrow(x))
+    let x = named_in(word)?;
+    Some(rounding::narrow(x))
 }

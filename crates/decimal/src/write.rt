@@ -3,11 +3,12 @@ ghost use Rattle.std.specs.Prelude.{◌≡◌, ℕ, ◌+◌, ◌*◌, ◌^◌, �
 ghost use Rattle.std.specs.Float.{binary32, binary64};
 ghost use Rattle.std.specs.Float.Ieee.Nearest.{closest};
 ghost use Rattle.text.specs.Put.{Put};
-ghost use Rattle.decimal.specs.Shown.{shown_as, shown as shown_of, sign_text, places_text, shown_text, plain_text};
+ghost use Rattle.decimal.specs.Shown.{shown_as, shown as shown_of, sign_text, places_text, shown_text, text_of, plain_text};
 
-use text::write::{put_byte, put_count, put_digits, put_double, put_single, put_word};
+use text::real::Real;
+use text::write::{put_byte, put_count, put_digits, put_real, put_word};
 
-// What of a float is shown.
+// What of a float is shown, where it is not shown by its bits.
 #[derive(Clone, Copy)]
 pub enum Printed {
     NotANumber,
@@ -17,7 +18,6 @@ pub enum Printed {
         whole: u64,
         millionths: u64,
     },
-    Bits,
 }
 
 // The millionths of m / 2^k, to the nearest, for k of 33 at least. The product has up to 73 bits: what is below
@@ -36,77 +36,77 @@ fn fine(m: u64, k: u64) -> u64
 }
 
 // ±m / 2^k with all digits, for k below 33: the whole part is taken off first.
-fn coarse(minus: bool, m: u64, k: u64) -> Printed
+fn coarse(minus: bool, m: u64, k: u64) -> Option<Printed>
     requires { (2 ^ 52 ≤ m) × (m < 2 ^ 53) × (0 < k) × (k ≤ 32) }
     ensures { result ≡ shown_as minus m (2 ^ k) }
 {
     let whole = m >> k;
     let n = rounding::rounded(m % (1u64 << k) * 1000000, k);
-    Printed::Decimal {
+    Some(Printed::Decimal {
         minus,
         whole: whole + n / 1000000,
         millionths: n % 1000000,
-    }
+    })
 }
 
 // ±m / 2^k, for k above 0.
-fn parted(minus: bool, m: u64, k: u64) -> Printed
+fn parted(minus: bool, m: u64, k: u64) -> Option<Printed>
     requires { (0 < m) × (m < 2 ^ 53) × (0 < k) × ((2 ^ 52 ≤ m) ⊎ (32 < k)) }
     ensures { result ≡ shown_as minus m (2 ^ k) }
 {
     if 73 < k {
-        return Printed::Bits;
+        return None;
     }
     if k <= 32 {
         return coarse(minus, m, k);
     }
     let n = fine(m, k);
     if n == 0 {
-        return Printed::Bits;
+        return None;
     }
-    Printed::Decimal {
+    Some(Printed::Decimal {
         minus,
         whole: n / 1000000,
         millionths: n % 1000000,
-    }
+    })
 }
 
 // ±m * 2^j / 2^1074.
-fn shown_as(minus: bool, m: u64, j: u64) -> Printed
+fn shown_as(minus: bool, m: u64, j: u64) -> Option<Printed>
     requires { (m < 2 ^ 53) × ((2 ^ 52 ≤ m) ⊎ (j ≡ 0)) }
     ensures { result ≡ shown_as minus (m * 2 ^ j) (2 ^ 1074) }
 {
     if m == 0 {
-        return Printed::Decimal {
+        return Some(Printed::Decimal {
             minus,
             whole: 0,
             millionths: 0,
-        };
+        });
     }
     if 1085 < j {
-        return Printed::Bits;
+        return None;
     }
     if 1074 <= j {
-        return Printed::Decimal {
+        return Some(Printed::Decimal {
             minus,
             whole: m << (j - 1074),
             millionths: 0,
-        };
+        });
     }
     parted(minus, m, 1074 - j)
 }
 
-fn shown(x: f64) -> Printed
+fn shown(x: f64) -> Option<Printed>
     ensures { result ≡ shown_of x }
 {
     if x != x {
-        return Printed::NotANumber;
+        return Some(Printed::NotANumber);
     }
     if floats::is_finite(x) {
         let p = rounding::Parts::of(x);
         return shown_as(p.neg, p.m, p.j);
     }
-    Printed::Infinite(x < 0.0)
+    Some(Printed::Infinite(x < 0.0))
 }
 
 fn put_sign(out: &mut [u8], at: usize, minus: bool) -> usize
@@ -121,15 +121,13 @@ fn put_places(out: &mut [u8], at: usize, millionths: u64) -> usize
     requires { at + 7 ≤ length out.old }
     ensures { Put out.old at (places_text 6 millionths) out.new result }
 {
-    let mut k = 6;
     let mut n = millionths;
-    while 0 < k {
+    for i in 0..6 {
         if n % 10 != 0 {
             let next = put_byte(out, at, b'.');
-            return put_digits(out, next, n, 10, k);
+            return put_digits(out, next, n, 10, 6 - i);
         }
         n /= 10;
-        k -= 1;
     }
     at
 }
@@ -143,7 +141,6 @@ fn put_decimal(out: &mut [u8], at: usize, minus: bool, whole: u64, millionths: u
     put_places(out, next, millionths)
 }
 
-// All but bits.
 fn put_shown(out: &mut [u8], at: usize, s: Printed) -> usize
     requires { at + 28 ≤ length out.old }
     ensures { Put out.old at (shown_text s) out.new result }
@@ -159,7 +156,20 @@ fn put_shown(out: &mut [u8], at: usize, s: Printed) -> usize
             whole,
             millionths,
         } => put_decimal(out, at, minus, whole, millionths),
-        Printed::Bits => at,
+    }
+}
+
+// A float by what is shown of it, or by its bits.
+fn put_number<T: Real>(out: &mut [u8], at: usize, x: T, shown: Option<Printed>) -> usize
+    requires { at + 28 ≤ length out.old }
+    ensures { Put out.old at (text_of T.format (T.value x) shown) out.new result }
+{
+    match shown {
+        Some(s) => put_shown(out, at, s),
+        None => {
+            let next = put_byte(out, at, b'x');
+            put_real(out, next, x)
+        }
     }
 }
 
@@ -168,13 +178,7 @@ pub fn put_time(out: &mut [u8], at: usize, x: f64) -> usize
     requires { at + 28 ≤ length out.old }
     ensures { Put out.old at (plain_text binary64 x) out.new result }
 {
-    let s = shown(x);
-    if let Printed::Bits = s {
-        let next = put_byte(out, at, b'x');
-        put_double(out, next, x)
-    } else {
-        put_shown(out, at, s)
-    }
+    put_number(out, at, x, shown(x))
 }
 
 // A value, or another f32.
@@ -182,11 +186,5 @@ pub fn put_value(out: &mut [u8], at: usize, x: f32) -> usize
     requires { at + 28 ≤ length out.old }
     ensures { Put out.old at (plain_text binary32 x) out.new result }
 {
-    let s = shown(std::num::f32_to_f64_with_nan(x));
-    if let Printed::Bits = s {
-        let next = put_byte(out, at, b'x');
-        put_single(out, next, x)
-    } else {
-        put_shown(out, at, s)
-    }
+    put_number(out, at, x, shown(std::num::f32_to_f64_with_nan(x)))
 }

@@ -4,7 +4,7 @@ use Rattle.std.proofs.Common.{Ok, Result, Err}
 use mathlib.Core.Path.{◌≡◌, refl, sym, ap, ◌∙◌}
 use mathlib.Core.Bool.{Bool, true, false, cond}
 use mathlib.Core.List.{List, [], ◌∷◌, ◌++◌}
-use mathlib.Core.Option.{Option, none, some}
+use Rattle.std.specs.Prelude.{Option, None, Some}
 use Prim.Native.Nat.{ℕ, ◌<◌}
 use lib.ListN.{length, take}
 use lib.Dec.{eqb}
@@ -103,7 +103,6 @@ loading_counts r t k Made-so = go (eqb (length (take store_length t.store)) stor
 pub said_counts : (call : Call) (numbers : List Float) (file : List ℕ) (t : Table) → Counts t → Counts (answer_of call numbers file t).table
 unfolding answer_of unread lending poking stating saving loading
 said_counts Call.Nothing numbers file t k = k
-said_counts Call.Unread numbers file t k = k
 said_counts (Call.Make b rate n) numbers file t k = making_counts b rate n t
 said_counts (Call.Set v) numbers file t k = asked_counts (rule.set v) t k
 said_counts (Call.Step v u) numbers file t k = asked_counts (rule.step v u) t k
@@ -122,8 +121,8 @@ said_counts (Call.Load part n rate edition) numbers file t k = loading_counts (r
 
 pub line_counts : (o : Option Said) (t : Table) → Counts t → Counts (said_turn o t).table
 unfolding said_turn unread
-line_counts none t k = k
-line_counts (some s) t k = said_counts s.0 s.1 s.2 t k
+line_counts None t k = k
+line_counts (Some s) t k = said_counts s.0 s.1 s.2 t k
 
 -- before the first `make`
 pub first_counts : (s : List Float) → Counts (table_of unmade_desk s)

@@ -173,7 +173,6 @@ ranged e h = subst InRange e h
 -- a call that is none of the others is one of them
 pub is_scheduling-others : (call : Call)
     → (call ≡ Call.Nothing → ⊥)
-    → (call ≡ Call.Unread → ⊥)
     → ((b : Bounds) (rate : AutomationRate) (n : ℕ) → call ≡ Call.Make b rate n → ⊥)
     → ((by : Renderer) (t : Float) (p : Float) (n : ℕ) (o : ℕ) (i : ℕ) → call ≡ Call.Block by t p n o i → ⊥)
     → ((n : ℕ) → call ≡ Call.Lend n → ⊥)
@@ -183,23 +182,22 @@ pub is_scheduling-others : (call : Call)
     → ((part : ℕ) (n : ℕ) (rate : AutomationRate) (edition : ℕ) → call ≡ Call.Load part n rate edition → ⊥)
     → is_scheduling call ≡ true
 unfolding is_scheduling
-is_scheduling-others Call.Nothing no_nothing no_unread no_make no_block no_lend no_poke no_state no_save no_load = absurd (no_nothing refl)
-is_scheduling-others Call.Unread no_nothing no_unread no_make no_block no_lend no_poke no_state no_save no_load = absurd (no_unread refl)
-is_scheduling-others (Call.Make b rate n) no_nothing no_unread no_make no_block no_lend no_poke no_state no_save no_load = absurd (no_make b rate n refl)
-is_scheduling-others (Call.Set v) no_nothing no_unread no_make no_block no_lend no_poke no_state no_save no_load = refl
-is_scheduling-others (Call.Step v t) no_nothing no_unread no_make no_block no_lend no_poke no_state no_save no_load = refl
-is_scheduling-others (Call.Linear v t) no_nothing no_unread no_make no_block no_lend no_poke no_state no_save no_load = refl
-is_scheduling-others (Call.Exponential v t) no_nothing no_unread no_make no_block no_lend no_poke no_state no_save no_load = refl
-is_scheduling-others (Call.Target v t k) no_nothing no_unread no_make no_block no_lend no_poke no_state no_save no_load = refl
-is_scheduling-others (Call.Curve t d n) no_nothing no_unread no_make no_block no_lend no_poke no_state no_save no_load = refl
-is_scheduling-others (Call.Cancel t) no_nothing no_unread no_make no_block no_lend no_poke no_state no_save no_load = refl
-is_scheduling-others (Call.Hold t) no_nothing no_unread no_make no_block no_lend no_poke no_state no_save no_load = refl
-is_scheduling-others (Call.Block by t p n o i) no_nothing no_unread no_make no_block no_lend no_poke no_state no_save no_load = absurd (no_block by t p n o i refl)
-is_scheduling-others (Call.Lend n) no_nothing no_unread no_make no_block no_lend no_poke no_state no_save no_load = absurd (no_lend n refl)
-is_scheduling-others (Call.Poke i v) no_nothing no_unread no_make no_block no_lend no_poke no_state no_save no_load = absurd (no_poke i v refl)
-is_scheduling-others Call.State no_nothing no_unread no_make no_block no_lend no_poke no_state no_save no_load = absurd (no_state refl)
-is_scheduling-others Call.Save no_nothing no_unread no_make no_block no_lend no_poke no_state no_save no_load = absurd (no_save refl)
-is_scheduling-others (Call.Load part n rate edition) no_nothing no_unread no_make no_block no_lend no_poke no_state no_save no_load = absurd (no_load part n rate edition refl)
+is_scheduling-others Call.Nothing no_nothing no_make no_block no_lend no_poke no_state no_save no_load = absurd (no_nothing refl)
+is_scheduling-others (Call.Make b rate n) no_nothing no_make no_block no_lend no_poke no_state no_save no_load = absurd (no_make b rate n refl)
+is_scheduling-others (Call.Set v) no_nothing no_make no_block no_lend no_poke no_state no_save no_load = refl
+is_scheduling-others (Call.Step v t) no_nothing no_make no_block no_lend no_poke no_state no_save no_load = refl
+is_scheduling-others (Call.Linear v t) no_nothing no_make no_block no_lend no_poke no_state no_save no_load = refl
+is_scheduling-others (Call.Exponential v t) no_nothing no_make no_block no_lend no_poke no_state no_save no_load = refl
+is_scheduling-others (Call.Target v t k) no_nothing no_make no_block no_lend no_poke no_state no_save no_load = refl
+is_scheduling-others (Call.Curve t d n) no_nothing no_make no_block no_lend no_poke no_state no_save no_load = refl
+is_scheduling-others (Call.Cancel t) no_nothing no_make no_block no_lend no_poke no_state no_save no_load = refl
+is_scheduling-others (Call.Hold t) no_nothing no_make no_block no_lend no_poke no_state no_save no_load = refl
+is_scheduling-others (Call.Block by t p n o i) no_nothing no_make no_block no_lend no_poke no_state no_save no_load = absurd (no_block by t p n o i refl)
+is_scheduling-others (Call.Lend n) no_nothing no_make no_block no_lend no_poke no_state no_save no_load = absurd (no_lend n refl)
+is_scheduling-others (Call.Poke i v) no_nothing no_make no_block no_lend no_poke no_state no_save no_load = absurd (no_poke i v refl)
+is_scheduling-others Call.State no_nothing no_make no_block no_lend no_poke no_state no_save no_load = absurd (no_state refl)
+is_scheduling-others Call.Save no_nothing no_make no_block no_lend no_poke no_state no_save no_load = absurd (no_save refl)
+is_scheduling-others (Call.Load part n rate edition) no_nothing no_make no_block no_lend no_poke no_state no_save no_load = absurd (no_load part n rate edition refl)
 
 -- a call that is none of them is another
 pub is_scheduling-theirs : (call : Call)
@@ -214,7 +212,6 @@ pub is_scheduling-theirs : (call : Call)
     → is_scheduling call ≡ false
 unfolding is_scheduling
 is_scheduling-theirs Call.Nothing no_set no_step no_linear no_exponential no_target no_curve no_cancel no_hold = refl
-is_scheduling-theirs Call.Unread no_set no_step no_linear no_exponential no_target no_curve no_cancel no_hold = refl
 is_scheduling-theirs (Call.Make b rate n) no_set no_step no_linear no_exponential no_target no_curve no_cancel no_hold = refl
 is_scheduling-theirs (Call.Set v) no_set no_step no_linear no_exponential no_target no_curve no_cancel no_hold = absurd (no_set v refl)
 is_scheduling-theirs (Call.Step v t) no_set no_step no_linear no_exponential no_target no_curve no_cancel no_hold = absurd (no_step v t refl)

@@ -1,8 +1,7 @@
 -- What the calls of a session do, and what is answered: the page's table over document 01's rules.
 use Rattle.card.specs.declared.Fault.{Fault}
 use Rattle.rules.specs.declared.Refusal.{Refusal}
-use Rattle.std.specs.Prelude.{◌≡◌, Bool, true, false, List, [], ◌∷◌, ◌++◌, ℕ, ◌+◌, ◌*◌, ◌≤◌, ◌<◌, length, take, drop, set, replicate, Float, Result, Ok, Err}
-use Rattle.std.proofs.Math.Option.{Option, none, some}
+use Rattle.std.specs.Prelude.{◌≡◌, Bool, true, false, List, [], ◌∷◌, ◌++◌, ℕ, ◌+◌, ◌*◌, ◌≤◌, ◌<◌, length, take, drop, set, replicate, Float, Option, None, Some, Result, Ok, Err}
 use Rattle.std.specs.Float.{binary32}
 use Rattle.std.specs.Float.Ieee.{of_bits}
 use Rattle.rules.specs.declared.Bounds.{Bounds}
@@ -193,7 +192,6 @@ loading rate n file = loading_by (read rate n file)
 -- the numbers of a curve, or of a block's input, are the first of `numbers`, a file's bytes the first of `file`
 unfoldable pub answer_of : Call → List Float → List ℕ → Table → Turn
 answer_of Call.Nothing numbers file = unchanged []
-answer_of Call.Unread numbers file = unread
 answer_of (Call.Make b rate n) numbers file = making b rate n
 answer_of (Call.Set v) numbers file = asked (rule.set v)
 answer_of (Call.Step v t) numbers file = asked (rule.step v t)
@@ -212,8 +210,8 @@ answer_of (Call.Load part n rate edition) numbers file = loading rate edition (t
 
 -- what a line says, or that it is none of these
 unfoldable pub said_turn : Option Said → Table → Turn
-said_turn none = unread
-said_turn (some s) = answer_of s.0 s.1 s.2
+said_turn None = unread
+said_turn (Some s) = answer_of s.0 s.1 s.2
 
 unfoldable pub with_newline : (Table → Turn) → Table → Turn
 with_newline turn t = record { table = (turn t).table; text = (turn t).text ++ (10 ∷ []) }
@@ -266,7 +264,6 @@ pub record ReadsFile (rate : AutomationRate) (n : ℕ) (file : List ℕ) (r : Ca
 -- the ranges of the page, as far as the code counts on them
 unfoldable pub InRange : Call → Type 0
 InRange Call.Nothing = Unit
-InRange Call.Unread = Unit
 InRange (Call.Make b rate n) = Unit
 InRange (Call.Set v) = Unit
 InRange (Call.Step v t) = Unit
@@ -286,7 +283,6 @@ InRange (Call.Load part n rate edition) = (1 ≤ part) × (part ≤ 65536) × (n
 -- whether a call is one of those that change the waiting events
 unfoldable pub is_scheduling : Call → Bool
 is_scheduling Call.Nothing = false
-is_scheduling Call.Unread = false
 is_scheduling (Call.Make b rate n) = false
 is_scheduling (Call.Set v) = true
 is_scheduling (Call.Step v t) = true

@@ -455,7 +455,6 @@ fn answer(
 {
     match call {
         Call::Nothing => Answered { desk, next: at },
-        Call::Unread => word(desk, out, at, b"unread"),
         Call::Make {
             bounds,
             rate,
@@ -507,7 +506,9 @@ pub fn answer_line(
     requires { SoundDesk desk × (5000 ≤ length numbers.old) × (30000 ≤ length file.old) × (length store.old ≡ 8192) × (at + 42000 ≤ length out.old) }
     ensures { Spoken 42000 (line_turn line.now) desk store.old out.old at result store.new out.new }
 {
-    let call = read_call(line, numbers, file);
+    let Some(call) = read_call(line, numbers, file) else {
+        return answer_long(desk, out, at);
+    };
     let r = answer(desk, call, &numbers[..], file, store, out, at);
     let desk = r.desk;
     let next = put_byte(out, r.next, b'\n');

@@ -1,7 +1,7 @@
 -- C-20's sums hold of what `cost` prints: no line loses count. Assumes nothing.
 use mathlib.Core.Bool.{Bool, true, false, cond}
 use mathlib.Core.List.{List}
-use mathlib.Core.Option.{Option, none, some}
+use Rattle.std.specs.Prelude.{Option, None, Some}
 use Prim.Native.Nat.{ℕ}
 use Rattle.text.specs.Words.{same_word}
 use Rattle.calls.specs.Language.{call_of}
@@ -25,5 +25,5 @@ unfolding plain_turn translated_turn
 plain_counts n line t k = go (translation line)
   where
     go : (o : Option (List ℕ)) → Counts (translated_turn n o t).table
-    go none = k
-    go (some strict) = read_counts n strict t k
+    go None = k
+    go (Some strict) = read_counts n strict t k

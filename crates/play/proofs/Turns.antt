@@ -1,14 +1,14 @@
 -- From an answer of the session language to the one for a person. Assumes nothing.
-use mathlib.Core.Path.{◌≡◌, sym, ap, ◌∙◌, subst}
+use mathlib.Core.Path.{◌≡◌, refl, sym, ap, ◌∙◌, subst}
 use mathlib.Core.Bool.{true, false}
 use mathlib.Core.List.{List, [], ◌∷◌, ◌++◌, append_assoc}
-use mathlib.Core.Option.{Option, none, some}
+use Rattle.std.specs.Prelude.{Option, None, Some}
 use Prim.Native.Nat.{ℕ, ◌+◌, ◌-◌, ◌*◌, ◌≤◌, ◌<◌}
 use native.Mathlib.Omega.{arith}
 use lib.ListN.{length, take, drop, length-append}
 use lib.Seq.{take_at}
 use lib.Ieee.{Float}
-use Rattle.std.specs.Prelude as Prelude
+use Rattle.std.proofs.lemmas.Option.{none-some, same_Some}
 use Rattle.rules.specs.declared.Event.{Event}
 use Rattle.text.specs.Put.{put, Put}
 use Rattle.text.specs.Words.{same_word}
@@ -45,7 +45,7 @@ module _ (line : List ℕ) {d : Desk} {s : List Float} {l : List ℕ} {r : Answe
       ap (take (r.next - 1)) (written.bytes ∙ append_assoc answer (10 ∷ []) (drop (0 + length (answer ++ (10 ∷ []))) l))
       ∙ take_at answer _ (r.next - 1) (omega (arith, long))
 
-  pub for_a_person : (n : ℕ) {clash : Prelude.Option Clash} → clash ≡ clash_in (param_of d.param).queue (call_of line)
+  pub for_a_person : (n : ℕ) {clash : Option Clash} → clash ≡ clash_in (param_of d.param).queue (call_of line)
       → {out out₁ out₂ : List ℕ} {at to next : ℕ} → Put out at (told n clash (take (r.next - 1) l')) out₁ to → to ≤ length out → Put out₁ to (10 ∷ []) out₂ next → next ≤ at + 168200
       → Spoken 168200 (with_newline (strict_turn n line)) d s out at (record { desk = r.desk; next = next }) s' out₂
   unfolding line_turn with_newline strict_turn
@@ -55,14 +55,14 @@ module _ (line : List ℕ) {d : Desk} {s : List Float} {l : List ℕ} {r : Answe
         lent = spoken.lent;
         store = spoken.store;
         totals = spoken.totals;
-        text = put_then (put_same (ap (λ (x : Prelude.Option Clash). told n x (take (r.next - 1) l')) e ∙ ap (told n (clash_in (param_of d.param).queue (call_of line))) is_answer) p) q h;
+        text = put_then (put_same (ap (λ (x : Option Clash). told n x (take (r.next - 1) l')) e ∙ ap (told n (clash_in (param_of d.param).queue (call_of line))) is_answer) p) q h;
         sound = spoken.sound;
         room = near;
       }
 
 -- ---- what is told
 
-module _ (n : ℕ) (clash : Prelude.Option Clash) (answer : List ℕ) where
+module _ (n : ℕ) (clash : Option Clash) (answer : List ℕ) where
   pub told-unread : same_word answer (codes "unread") ≡ true → told n clash answer ≡ not_read n
   unfolding told
   told-unread e = rw e
@@ -77,19 +77,24 @@ module _ (n : ℕ) (clash : Prelude.Option Clash) (answer : List ℕ) where
     told-reply e = rw (read, e)
 
 -- the call that was read runs into what its line runs into
-pub heard_clash : (q : List Event) (o : Option Said) (call : Call) (numbers : List Float) (file : List ℕ) → Heard o call numbers file → clash_of q call ≡ clash_in q o
-unfolding Heard clash_in clash_of
-heard_clash q none call numbers file h = ap (clash_of q) h
-heard_clash q (some s) call numbers file h = ap (clash_of q) h.0
+pub heard_clash : (q : List Event) (o : Option Said) (call : Call) (numbers : List Float) (file : List ℕ) → Heard o (Some call) numbers file → clash_of q call ≡ clash_in q o
+unfolding clash_in
+heard_clash q None call numbers file h = absurd (none-some call (sym h))
+heard_clash q (Some s) call numbers file h = ap (clash_of q) (same_Some call s.0 h.0)
+
+pub unheard_clash : (q : List Event) (o : Option Said) (numbers : List Float) (file : List ℕ) → Heard o None numbers file → None ≡ clash_in q o
+unfolding clash_in
+unheard_clash q None numbers file h = refl
+unheard_clash q (Some s) numbers file h = absurd (none-some s.0 h.0)
 
 -- ---- by the line's translation
 
 module _ (n : ℕ) (line : List ℕ) where
-  pub no_translation : translation line ≡ none → with_newline (unchanged (not_read n)) ≡ with_newline (plain_turn n line)
+  pub no_translation : translation line ≡ None → with_newline (unchanged (not_read n)) ≡ with_newline (plain_turn n line)
   unfolding plain_turn translated_turn
   no_translation e = ap (λ (o : Option (List ℕ)). with_newline (translated_turn n o)) (sym e)
 
-  pub a_translation : {t u : List ℕ} → translation line ≡ some t → u ≡ t → with_newline (read_turn n u) ≡ with_newline (plain_turn n line)
+  pub a_translation : {t u : List ℕ} → translation line ≡ Some t → u ≡ t → with_newline (read_turn n u) ≡ with_newline (plain_turn n line)
   unfolding plain_turn translated_turn
   a_translation e g = ap (λ (u : List ℕ). with_newline (read_turn n u)) g ∙ ap (λ (o : Option (List ℕ)). with_newline (translated_turn n o)) (sym e)
 

@@ -1,7 +1,5 @@
 -- What is done with a line as a person writes it, and what is answered.
-use Rattle.std.specs.Prelude.{◌≡◌, cond, List, ◌++◌, ℕ, ◌+◌, ◌*◌, ◌≤◌, length, Float}
-use Rattle.std.specs.Prelude as Prelude
-use Rattle.std.proofs.Math.Option.{Option, none, some}
+use Rattle.std.specs.Prelude.{◌≡◌, cond, List, ◌++◌, ℕ, ◌+◌, ◌*◌, ◌≤◌, length, Float, Option, None, Some}
 use Rattle.rules.specs.declared.Event.{Event}
 use Rattle.costs.specs.Costs.{waiting_in}
 use Rattle.tally.specs.Tally.{cost_text}
@@ -24,12 +22,12 @@ unfoldable pub not_read : ℕ → List ℕ
 not_read n = codes "line " ++ (decimal_of n ++ codes " is not read: no call, or a number out of reach")
 
 -- what a line runs into, these events waiting
-unfoldable pub clash_in : List Event → Option Said → Prelude.Option Clash
-clash_in q none = Prelude.None
-clash_in q (some s) = clash_of q s.0
+unfoldable pub clash_in : List Event → Option Said → Option Clash
+clash_in q None = None
+clash_in q (Some s) = clash_of q s.0
 
 -- an answer of the session language for a person; for `unread`, which line it is, and for `refused 11`, what is in the way
-unfoldable pub told : ℕ → Prelude.Option Clash → List ℕ → List ℕ
+unfoldable pub told : ℕ → Option Clash → List ℕ → List ℕ
 told n clash answer =
     cond (same_word answer (codes "unread")) (not_read n) (cond (same_word answer (codes "refused 11")) (answer ++ clash_text clash) (reply answer))
 
@@ -48,8 +46,8 @@ unfoldable pub read_turn : ℕ → List ℕ → Table → Turn
 read_turn n line = cond (same_word line (codes "cost")) cost_turn (strict_turn n line)
 
 unfoldable pub translated_turn : ℕ → Option (List ℕ) → Table → Turn
-translated_turn n none = unchanged (not_read n)
-translated_turn n (some line) = read_turn n line
+translated_turn n None = unchanged (not_read n)
+translated_turn n (Some line) = read_turn n line
 
 -- the n-th line, as a person writes it
 unfoldable pub plain_turn : ℕ → List ℕ → Table → Turn

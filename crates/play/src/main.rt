@@ -19,7 +19,7 @@ use std::io::{Read, Stdin, Stdout};
 use tally::put_cost;
 use text::words::same;
 use text::write::{put_byte, put_count, put_word};
-use wording::{Field, translate};
+use wording::translate;
 
 // What goes on from line to line: `count` lines were taken, the first `at` characters of the answers wait to be written, and
 // `more` says that the input has not ended.
@@ -47,7 +47,7 @@ fn clash_in(desk: Desk, line: &[u8], numbers: &mut [f32], file: &mut [u8]) -> Op
     requires { SoundDesk desk × (5000 ≤ length numbers.old) × (30000 ≤ length file.old) }
     ensures { result ≡ clash_in (param_of desk.param).queue (call_of line.now) }
 {
-    let call = read_call(line, numbers, file);
+    let call = read_call(line, numbers, file)?;
     let p = desk.param;
     clash_of(p.timeline(), call)
 }
@@ -151,7 +151,7 @@ fn answer_plain(
     requires { SoundDesk desk × (21 + 17 * length line.now ≤ length strict.old) × (5000 ≤ length numbers.old) × (length store.old ≡ 8192) × (42000 ≤ length said.old) × (at + 168200 ≤ length out.old) }
     ensures { Spoken 168200 (with_newline (plain_turn n line.now)) desk store.old out.old at result store.new out.new }
 {
-    let Field::To(to) = translate(strict, line) else {
+    let Some(to) = translate(strict, line) else {
         return answer_not_read(desk, n, out, at);
     };
     answer_read(desk, n, &strict[..to], numbers, store, said, out, at)

@@ -4,7 +4,7 @@ use Prim.Native.String.{String}
 use lib.Ieee.{round, of_bits, to_bits}
 use Rattle.text.specs.Digits.{digit_of, are_digits, value_from, number_from, number_in, bits_in, glyph_of, digits_of, places_of, decimal_of}
 use Rattle.text.specs.Floats.{float_of, float_in, float_text}
-use Rattle.text.specs.Words.{same_word, joined, words_of, beside, taken, up_to, count_in}
+use Rattle.text.specs.Words.{joined, words_of, beside, taken, up_to, count_in}
 use Rattle.decimal.specs.Codes.{codes}
 use Rattle.decimal.specs.Shown.{millionths, shown_as, shown, sign_text, places_text, shown_text, text_of, plain_text}
 use Rattle.replies.specs.Plain.{is_mark, parts, shown_or, plain_field, plain_fields, table, meaning_in, meaning_of, reason, reply}
@@ -23,5 +23,5 @@ pub examples :
     × Means "refused 9 clean" "refused 9 clean: block time, period or count out of range, or output or input of a wrong length"
     × Means "refused 11" "refused 11: inside a waiting curve, or with a waiting event inside"
     × Means "refused 12" "refused 12: the edition is neither 1 nor 2"
-unfolding is_mark parts shown_or plain_field plain_fields table meaning_in meaning_of reason reply plain_text text_of shown_text places_text sign_text shown shown_as millionths words_of joined same_word taken beside count_in up_to float_in float_of float_text bits_in number_in number_from are_digits value_from digit_of digits_of glyph_of decimal_of places_of round of_bits to_bits
+unfolding is_mark parts shown_or plain_field plain_fields table meaning_in meaning_of reason reply plain_text text_of shown_text places_text sign_text shown shown_as millionths words_of joined taken beside count_in up_to float_in float_of float_text bits_in number_in number_from are_digits value_from digit_of digits_of glyph_of decimal_of places_of round of_bits to_bits
 examples = (refl, refl, refl, refl, refl, refl, refl, refl, refl)

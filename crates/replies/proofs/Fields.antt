@@ -2,7 +2,7 @@
 use mathlib.Core.Path.{◌≡◌, refl, sym, ap, ◌∙◌}
 use mathlib.Core.Bool.{Bool, true, false, cond}
 use mathlib.Core.List.{List, [], ◌∷◌, ◌++◌, append_assoc, append-nil}
-use mathlib.Core.Option.{Option, none, some}
+use Rattle.std.specs.Prelude.{Option, None, Some, nat_lt}
 use Prim.Native.Nat.{ℕ, zero, suc, ◌+◌, ◌≤◌, ◌<◌}
 use native.Mathlib.Numerals.{one-add, add-one}
 use Rattle.std.proofs.lemmas.List.{take_all}
@@ -10,7 +10,6 @@ use native.Mathlib.Omega.{arith}
 use lib.Dec.{eqb}
 use lib.ListN.{length, get_or, take, drop, drop_of_length-le}
 use lib.Seq.{drop-cons}
-use Rattle.std.specs.Prelude.{nat_lt, None, Some}
 use Rattle.std.specs.List.{position, position_or_len}
 use Rattle.std.proofs.lemmas.List.Quantifiers.{position-Some}
 use Rattle.std.proofs.lemmas.List.Recursion.{is_position_or_len}
@@ -83,32 +82,32 @@ one_more t f c rest = rw (append_assoc (t ++ f) (c ∷ []) rest, append_assoc t 
 
 -- ---- a field
 
-bits_length : (n : ℕ) (cs : List ℕ) {b : ℕ} → bits_in n cs ≡ some b → length cs ≡ n
+bits_length : (n : ℕ) (cs : List ℕ) {b : ℕ} → bits_in n cs ≡ Some b → length cs ≡ n
 unfolding bits_in
 bits_length n cs {b} e = by_test (eqb (length cs) n) refl e
   where
-    by_test : (t : Bool) → eqb (length cs) n ≡ t → cond t (number_in 16 cs) none ≡ some b → length cs ≡ n
+    by_test : (t : Bool) → eqb (length cs) n ≡ t → cond t (number_in 16 cs) None ≡ Some b → length cs ≡ n
     by_test true g e = eqb-true (length cs) n g
     by_test false g e = absurd (let z : ◌≡◌ {A = ℕ} 0 1 = cc in omega arith)
 
-pub float_length : (f : Format) (w : Word) {x : Float} → float_in f w ≡ some x → length w ≡ digits_for f
+pub float_length : (f : Format) (w : Word) {x : Float} → float_in f w ≡ Some x → length w ≡ digits_for f
 unfolding float_in float_of
 float_length f w {x} e = by_bits (bits_in (digits_for f) w) refl e
   where
-    by_bits : (o : Option ℕ) → bits_in (digits_for f) w ≡ o → float_of f o ≡ some x → length w ≡ digits_for f
-    by_bits none g e = absurd (let z : ◌≡◌ {A = ℕ} 0 1 = cc in omega arith)
-    by_bits (some b) g e = bits_length (digits_for f) w g
+    by_bits : (o : Option ℕ) → bits_in (digits_for f) w ≡ o → float_of f o ≡ Some x → length w ≡ digits_for f
+    by_bits None g e = absurd (let z : ◌≡◌ {A = ℕ} 0 1 = cc in omega arith)
+    by_bits (Some b) g e = bits_length (digits_for f) w g
 
 module _ (w : Word) where
-  pub a_value : {x : Float} → float_in binary32 w ≡ some x → plain_field w ≡ plain_text binary32 x
+  pub a_value : {x : Float} → float_in binary32 w ≡ Some x → plain_field w ≡ plain_text binary32 x
   unfolding plain_field shown_or
   a_value e = ap (shown_or binary32 (shown_or binary64 w (float_in binary64 w))) e
 
-  module _ (no : float_in binary32 w ≡ none) where
-    pub a_time : {x : Float} → float_in binary64 w ≡ some x → plain_field w ≡ plain_text binary64 x
+  module _ (no : float_in binary32 w ≡ None) where
+    pub a_time : {x : Float} → float_in binary64 w ≡ Some x → plain_field w ≡ plain_text binary64 x
     unfolding plain_field shown_or
     a_time e = ap (shown_or binary32 (shown_or binary64 w (float_in binary64 w))) no ∙ ap (shown_or binary64 w) e
 
-    pub as_it_is : float_in binary64 w ≡ none → plain_field w ≡ w
+    pub as_it_is : float_in binary64 w ≡ None → plain_field w ≡ w
     unfolding plain_field shown_or
     as_it_is e = ap (shown_or binary32 (shown_or binary64 w (float_in binary64 w))) no ∙ ap (shown_or binary64 w) e

@@ -2,12 +2,12 @@
 use mathlib.Core.Path.{◌≡◌, sym, ap, ◌∙◌}
 use mathlib.Core.Bool.{true, false}
 use mathlib.Core.List.{List, [], ◌∷◌}
+use Rattle.std.specs.Prelude.{Option, None, Some}
 use Prim.Native.Nat.{ℕ, ◌+◌}
 use native.Mathlib.Nat.{sub-zero}
 use native.Mathlib.Omega.{arith}
 use lib.ListN.{take}
-use Rattle.text.specs.Words.{same_word, words_of, words_from, end_of, taken, count_in, count_at}
-use Rattle.text.specs.declared.words.NextCount.{NextCount}
+use Rattle.text.specs.Words.{Word, same_word, words_of, words_from, end_of, taken, count_in}
 use Rattle.text.proofs.Splitting.{from_start, split}
 use Rattle.decimal.specs.Codes.{codes}
 use Rattle.replies.specs.Plain.{table, meaning_in, meaning_of, reason}
@@ -20,15 +20,15 @@ module _ (s : List ℕ) (end : ℕ) (e : end ≡ end_of s 0) where
   unfolding reason
   no_refusal h = ap reason first_word ∙ rw h
 
-  module _ (h : same_word (take end s) (codes "refused") ≡ true) (r : NextCount) (said : count_at s r ≡ taken (count_in 99) (words_from s (end + 1))) where
-    refusal : reason (words_of s) ≡ meaning_of (count_at s r)
+  module _ (h : same_word (take end s) (codes "refused") ≡ true) where
+    refusal : (o : Option (ℕ × List Word)) → o ≡ taken (count_in 99) (words_from s (end + 1)) → reason (words_of s) ≡ meaning_of o
     unfolding reason
-    refusal = ap reason first_word ∙ rw h (ap meaning_of (sym said))
+    refusal o said = ap reason first_word ∙ rw h (ap meaning_of (sym said))
 
-    pub no_number : r ≡ NextCount.Unread → reason (words_of s) ≡ []
-    unfolding count_at meaning_of
-    no_number g = refusal ∙ ap (λ (r : NextCount). meaning_of (count_at s r)) g
+    pub no_number : None ≡ taken (count_in 99) (words_from s (end + 1)) → reason (words_of s) ≡ []
+    unfolding meaning_of
+    no_number g = refusal None g
 
-    pub a_number : {n next : ℕ} → r ≡ NextCount.Is n next → reason (words_of s) ≡ meaning_in table n
-    unfolding count_at meaning_of
-    a_number g = refusal ∙ ap (λ (r : NextCount). meaning_of (count_at s r)) g
+    pub a_number : {n : ℕ} {rest : List Word} → Some (n, rest) ≡ taken (count_in 99) (words_from s (end + 1)) → reason (words_of s) ≡ meaning_in table n
+    unfolding meaning_of
+    a_number g = refusal (Some _) g

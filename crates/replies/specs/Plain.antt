@@ -1,6 +1,5 @@
 -- An answer of the session language as a person reads it: its words as they are, its floats in plain numbers, and what a refusal means.
-use Rattle.std.specs.Prelude.{Bool, cond, ◌||◌, List, [], ◌∷◌, ◌++◌, ℕ, eqb, Float}
-use Rattle.std.proofs.Math.Option.{Option, none, some}
+use Rattle.std.specs.Prelude.{Bool, cond, ◌||◌, List, [], ◌∷◌, ◌++◌, ℕ, eqb, Float, Option, None, Some}
 use Prim.Native.Char.{code}
 use Rattle.std.specs.Float.{Format, binary32, binary64}
 use Rattle.text.specs.Floats.{float_in}
@@ -22,8 +21,8 @@ parts (c ∷ cs) = let more = parts cs in cond (is_mark c) ([] ∷ (c ∷ []) �
 -- ---- in plain numbers
 
 unfoldable pub shown_or : Format → List ℕ → Option Float → List ℕ
-shown_or f other none = other
-shown_or f other (some x) = plain_text f x
+shown_or f other None = other
+shown_or f other (Some x) = plain_text f x
 
 -- 8 hexadecimal digits are a value and 16 a time, since no count or word of an answer is such; any other field is as it is
 unfoldable pub plain_field : Word → List ℕ
@@ -59,8 +58,8 @@ meaning_in [] n = []
 meaning_in (row m text ∷ rows) n = cond (eqb n m) text (meaning_in rows n)
 
 unfoldable pub meaning_of : Option (ℕ × List Word) → List ℕ
-meaning_of none = []
-meaning_of (some p) = meaning_in table p.0
+meaning_of None = []
+meaning_of (Some p) = meaning_in table p.0
 
 -- of `refused NUMBER`, and nothing of any other line
 unfoldable pub reason : List Word → List ℕ

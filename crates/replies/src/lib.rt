@@ -7,8 +7,8 @@ ghost use Rattle.text.specs.Words.{words_of};
 ghost use Rattle.replies.specs.Plain.{is_mark, parts, plain_field, plain_fields, table, meaning_in, reason, reply};
 
 use decimal::write::{put_time, put_value};
-use text::read::{Double, Single, double_in, single_in};
-use text::words::{NextCount, next_count, same, word_end};
+use text::read::real_in;
+use text::words::{next_count, same, word_end};
 use text::write::{put_byte, put_word};
 
 fn is_mark(c: u8) -> bool
@@ -23,10 +23,10 @@ fn put_field(out: &mut [u8], at: usize, word: &[u8]) -> usize
     ensures put { Put out.old at (plain_field word.now) out.new result }
     ensures upper_bound { result ≤ at + 4 * length word.now }
 {
-    if let Single::Is(x) = single_in(word) {
+    if let Some(x) = real_in(word) {
         return put_value(out, at, x);
     }
-    if let Double::Is(x) = double_in(word) {
+    if let Some(x) = real_in(word) {
         return put_time(out, at, x);
     }
     put_word(out, at, word)
@@ -96,10 +96,10 @@ fn put_reason(out: &mut [u8], at: usize, line: &[u8]) -> usize
     if !same(&line[..end], b"refused") {
         return at;
     }
-    let NextCount::Is { value, next: _ } = next_count(line, end + 1, 99) else {
+    let Some(number) = next_count(line, end + 1, 99) else {
         return at;
     };
-    put_meaning(out, at, value)
+    put_meaning(out, at, number.value)
 }
 
 // The line for a person.

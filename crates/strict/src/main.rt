@@ -8,7 +8,7 @@ ghost use Rattle.strict.specs.Strict.{Going};
 use lines::{Lines, Next, last_line, make_room, next_line};
 use std::io;
 use std::io::{Read, Stdin, Stdout};
-use wording::{Field, translate};
+use wording::translate;
 
 // What goes on from line to line; `more` says that the input has not ended.
 #[derive(Clone, Copy)]
@@ -21,7 +21,7 @@ struct Reading {
 fn write_line(stdout: Stdout, line: &[u8], strict: &mut [u8]) -> io::Result<()>
     requires { 21 + 17 * length line.now ≤ length strict.old }
 {
-    if let Field::To(to) = translate(strict, line) {
+    if let Some(to) = translate(strict, line) {
         stdout.write_all(&strict[..to])?;
     }
     stdout.write_all(b"\n")

@@ -3,7 +3,7 @@
 use mathlib.Core.Path.{◌≡◌, refl, sym, ◌∙◌, subst}
 use mathlib.Core.Bool.{Bool, true, false, cond, ◌&&◌}
 use mathlib.Core.List.{List, [], ◌∷◌, ◌++◌}
-use mathlib.Core.Option.{some}
+use Rattle.std.specs.Prelude.{Some}
 use Prim.Native.Nat.{ℕ, zero, suc, ◌+◌, ◌*◌, ◌/◌, ◌%◌, ◌^◌, ◌≤◌, ◌<◌}
 use native.Mathlib.Nat.{mod-lt, lt_of_lt_of_le, div-add-mod', div-lt_iff_lt-mul, pow-zero, pow-suc}
 use native.Mathlib.Omega.{arith}
@@ -58,7 +58,7 @@ module _ (b : ℕ) (one : 1 ≤ b) (most : b ≤ 16) where
   written_value (suc k) n h =
       rw (value_append, written_value k (n / b) ((div-lt_iff_lt-mul {k = b} {x = n} {y = b ^ k} one).1 (subst (λ (m : ℕ). n < m) (pow-suc b k) h)), below_base n) (div-add-mod' n b)
 
-  pub number_back : (k n : ℕ) → 0 < k → n < b ^ k → n < 2 ^ 64 → number_in b (digits_of b k n) ≡ some n
+  pub number_back : (k n : ℕ) → 0 < k → n < b ^ k → n < 2 ^ 64 → number_in b (digits_of b k n) ≡ Some n
   unfolding number_from
   number_back k n some-digit h small =
       at_least_one b (digits_of b k n) (rw length_digits some-digit) ∙ rw (written_digits k n, written_value k n h, lt-ltb n (2 ^ 64) small)
@@ -83,14 +83,14 @@ places_some (suc j) n = by_test (ltb n 10)
     by_test true = omega arith
     by_test false = omega arith
 
-pub count_back : (n : ℕ) → n < 2 ^ 64 → number_in 10 (decimal_of n) ≡ some n
+pub count_back : (n : ℕ) → n < 2 ^ 64 → number_in 10 (decimal_of n) ≡ Some n
 unfolding decimal_of
 count_back n small =
     number_back 10 (omega arith) (omega arith) (places_of 19 n) n (places_some 19 n) (places_enough 19 n (lt_of_lt_of_le small (lit≤ tt))) small
 
 -- ---- floats
 
-pub bits_back : (k n : ℕ) → 0 < k → n < 16 ^ k → n < 2 ^ 64 → bits_in k (digits_of 16 k n) ≡ some n
+pub bits_back : (k n : ℕ) → 0 < k → n < 16 ^ k → n < 2 ^ 64 → bits_in k (digits_of 16 k n) ≡ Some n
 unfolding bits_in
 bits_back k n some-digit h small = rw (length_digits, eq-eqb k k refl, number_back 16 (omega arith) (omega arith) k n some-digit h small)
 
@@ -100,7 +100,7 @@ wide_enough binary32 n h = (omega arith, h, lt_of_lt_of_le h (lit≤ tt))
 wide_enough binary64 n h = (omega arith, h, h)
 
 -- a float of either format, a NaN too
-pub float_back : (f : Format) (x : Float) → T (fits f x) → float_in f (float_text f x) ≡ some x
+pub float_back : (f : Format) (x : Float) → T (fits f x) → float_in f (float_text f x) ≡ Some x
 unfolding float_in float_of float_text
 float_back f x fit =
     let w = wide_enough f (to_bits f x) (to_bits-lt f x fit) in

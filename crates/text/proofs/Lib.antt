@@ -2,6 +2,5 @@ pub mod Back
 pub mod Pairs
 pub mod Patterns
 pub mod Reading
-pub mod Said
 pub mod Splitting
 pub mod Writing

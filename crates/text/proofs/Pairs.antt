@@ -2,7 +2,7 @@
 use mathlib.Core.Path.{◌≡◌, refl, sym, ap, ◌∙◌, subst}
 use mathlib.Core.Bool.{Bool, true, false, cond}
 use mathlib.Core.List.{List, [], ◌∷◌, ◌++◌, append-nil}
-use mathlib.Core.Option.{Option, none, some}
+use Rattle.std.specs.Prelude.{Option, None, Some}
 use Prim.Native.Nat.{ℕ, suc, ◌+◌, ◌-◌, ◌*◌, ◌/◌, ◌≤◌, ◌<◌}
 use native.Mathlib.Nat.{add-sub_cancel_left}
 use native.Mathlib.Numerals.{add-one}
@@ -14,26 +14,25 @@ use borrow.Author.Tests.{le-leb, lt-leb, leb-true}
 use Rattle.text.specs.Digits.{bits_in, digits_of}
 use Rattle.text.specs.Words.{Word, same_word, beside, taken}
 use Rattle.text.specs.Put.{Put}
-use Rattle.text.specs.Hex.{before, pairs_in, bytes_in, Sized, sized, bytes_up_to, bytes_text, sized_at}
-use Rattle.text.specs.declared.read.Number.{Number}
+use Rattle.text.specs.Hex.{before, pairs_in, bytes_in, Sized, sized, bytes_up_to, bytes_text}
 use Rattle.text.proofs.Writing.{put-nothing, put_same, put_then, length_digits}
 
 -- ---- read
 
 -- bytes that were read before some others
 unfoldable pub behind : List ℕ → Option (List ℕ) → Option (List ℕ)
-behind xs none = none
-behind xs (some ys) = some (xs ++ ys)
+behind xs None = None
+behind xs (Some ys) = Some (xs ++ ys)
 
 pub at_first : (o : Option (List ℕ)) → o ≡ behind [] o
 unfolding behind
-at_first none = refl
-at_first (some ys) = refl
+at_first None = refl
+at_first (Some ys) = refl
 
-behind_more : (xs : List ℕ) (x : ℕ) (o : Option (List ℕ)) → behind xs (before (some x) o) ≡ behind (xs ++ (x ∷ [])) o
+behind_more : (xs : List ℕ) (x : ℕ) (o : Option (List ℕ)) → behind xs (before (Some x) o) ≡ behind (xs ++ (x ∷ [])) o
 unfolding behind before
-behind_more xs x none = refl
-behind_more xs x (some ys) = ap some (sym (append_snoc xs x ys))
+behind_more xs x None = refl
+behind_more xs x (Some ys) = ap Some (sym (append_snoc xs x ys))
 
 -- the first two digits, and the others
 pair : (w : Word) → 2 ≤ length w → pairs_in w ≡ before (bits_in 2 (take 2 w)) (pairs_in (drop 2 w))
@@ -42,7 +41,7 @@ pair [] h = absurd (omega arith)
 pair (c ∷ []) h = absurd (omega arith)
 pair (c ∷ d ∷ cs) h = refl
 
-left_over : (w : Word) → length w ≡ 1 → pairs_in w ≡ none
+left_over : (w : Word) → length w ≡ 1 → pairs_in w ≡ None
 unfolding pairs_in
 left_over [] h = absurd (omega arith)
 left_over (c ∷ []) h = refl
@@ -55,32 +54,32 @@ module _ (w bytes : List ℕ) (i : ℕ) (more : 2 * i + 2 ≤ length w) where
       let next : 2 * i + 2 ≡ 2 * (i + 1) = omega arith in
       rw (add-sub_cancel_left (2 * i) 2, pair (drop (2 * i) w) (omega (arith, length-drop (2 * i) w)), drop-drop, next)
 
-  pub next_is : {b : ℕ} → i < length bytes → bits_in 2 (take (2 * i + 2 - 2 * i) (drop (2 * i) w)) ≡ some b
+  pub next_is : {b : ℕ} → i < length bytes → bits_in 2 (take (2 * i + 2 - 2 * i) (drop (2 * i) w)) ≡ Some b
       → behind (take i bytes) (pairs_in (drop (2 * i) w)) ≡ behind (take (i + 1) (set bytes i b)) (pairs_in (drop (2 * (i + 1)) w))
   next_is {b} inside e = rw (this_pair, e, behind_more, add-one i, take-suc-set bytes i b inside)
 
-  pub next_not : bits_in 2 (take (2 * i + 2 - 2 * i) (drop (2 * i) w)) ≡ none → behind (take i bytes) (pairs_in (drop (2 * i) w)) ≡ none
+  pub next_not : bits_in 2 (take (2 * i + 2 - 2 * i) (drop (2 * i) w)) ≡ None → behind (take i bytes) (pairs_in (drop (2 * i) w)) ≡ None
   unfolding before behind
   next_not e = rw (this_pair, e)
 
 module _ (w bytes : List ℕ) (i : ℕ) where
-  pub all_read : i ≤ length bytes → length w ≡ 2 * i → sized (behind (take i bytes) (pairs_in (drop (2 * i) w))) ≡ some (i, take i bytes)
+  pub all_read : i ≤ length bytes → length w ≡ 2 * i → sized (behind (take i bytes) (pairs_in (drop (2 * i) w))) ≡ Some (i, take i bytes)
   unfolding behind pairs_in sized
   all_read room h =
       let past : length w ≤ 2 * i = omega arith in
       rw (drop_of_length-le w past, append-nil (take i bytes), length-take-le i bytes room)
 
-  pub one_left : length w ≡ 2 * i + 1 → behind (take i bytes) (pairs_in (drop (2 * i) w)) ≡ none
+  pub one_left : length w ≡ 2 * i + 1 → behind (take i bytes) (pairs_in (drop (2 * i) w)) ≡ None
   unfolding behind
   one_left h = rw (left_over (drop (2 * i) w) (omega (arith, length-drop (2 * i) w)))
 
 -- r says whether the word is `-`
 module _ {r : Bool} (w : Word) (some-char : length w ≡ 0 → ⊥) (e : r ≡ same_word w (45 ∷ [])) where
-  pub no_bytes : r ≡ true → bytes_in w ≡ some []
+  pub no_bytes : r ≡ true → bytes_in w ≡ Some []
   unfolding bytes_in
   no_bytes t = go w some-char e
     where
-      go : (w : Word) → (length w ≡ 0 → ⊥) → r ≡ same_word w (45 ∷ []) → bytes_in w ≡ some []
+      go : (w : Word) → (length w ≡ 0 → ⊥) → r ≡ same_word w (45 ∷ []) → bytes_in w ≡ Some []
       go [] n e = absurd (n refl)
       go (c ∷ cs) n e = rw (sym e ∙ t)
 
@@ -92,20 +91,10 @@ module _ {r : Bool} (w : Word) (some-char : length w ≡ 0 → ⊥) (e : r ≡ s
       go [] n e = absurd (n refl)
       go (c ∷ cs) n e = rw (sym e ∙ t)
 
-pub no_character : (w : Word) → length w ≡ 0 → bytes_in w ≡ none
+pub no_character : (w : Word) → length w ≡ 0 → bytes_in w ≡ None
 unfolding bytes_in
 no_character [] h = refl
 no_character (c ∷ cs) h = absurd (omega arith)
-
--- what was said, and what is read
-module _ (bytes : List ℕ) (o : Option Sized) {r : Number} (e : sized_at bytes r ≡ o) where
-  pub they_are : {n : ℕ} → r ≡ Number.Is n → o ≡ some (n, take n bytes)
-  unfolding sized_at
-  they_are g = sym e ∙ ap (sized_at bytes) g
-
-  pub they_are_none : r ≡ Number.Unread → o ≡ none
-  unfolding sized_at
-  they_are_none g = sym e ∙ ap (sized_at bytes) g
 
 -- the word from a place of a line to another
 module _ (most : ℕ) (s : List ℕ) (at to : ℕ) (from : at ≤ to) (inside : to ≤ length s) where
@@ -116,44 +105,44 @@ module _ (most : ℕ) (s : List ℕ) (at to : ℕ) (from : at ≤ to) (inside : 
   unfolding bytes_up_to
   few h = rw (word_long, le-leb ((to - at) / 2) most h)
 
-  pub too_many : most < (to - at) / 2 → bytes_up_to most (take (to - at) (drop at s)) ≡ none
+  pub too_many : most < (to - at) / 2 → bytes_up_to most (take (to - at) (drop at s)) ≡ None
   unfolding bytes_up_to
   too_many h = rw (word_long, lt-leb ((to - at) / 2) most h)
 
 -- ---- bytes that were read are within their ceiling
 
-never : {A : Type 0} {B : Type 0} {x : A} → ◌≡◌ {A = Option A} none (some x) → B
+never : {A : Type 0} {B : Type 0} {x : A} → ◌≡◌ {A = Option A} None (Some x) → B
 never e = let z : ◌≡◌ {A = ℕ} 0 1 = cc in absurd (omega arith)
 
-pairs_long : (w : Word) {bs : List ℕ} → pairs_in w ≡ some bs → 2 * length bs ≤ length w
+pairs_long : (w : Word) {bs : List ℕ} → pairs_in w ≡ Some bs → 2 * length bs ≤ length w
 unfolding pairs_in before
 pairs_long [] {bs} e = let is : [] ≡ bs = cc in subst (λ (l : List ℕ). 2 * length l ≤ 0) is (omega arith)
 pairs_long (c ∷ []) e = never e
 pairs_long (c ∷ d ∷ cs) {bs} e = go (bits_in 2 (c ∷ d ∷ [])) (pairs_in cs) (λ ys h. pairs_long cs h) e
   where
-    go : (o : Option ℕ) (p : Option (List ℕ)) → ((ys : List ℕ) → p ≡ some ys → 2 * length ys ≤ length cs) → before o p ≡ some bs → 2 * length bs ≤ suc (suc (length cs))
-    go none p h e = never e
-    go (some b) none h e = never e
-    go (some b) (some ys) h e = let is : (b ∷ ys) ≡ bs = cc in subst (λ (l : List ℕ). 2 * length l ≤ suc (suc (length cs))) is (omega (arith, h ys refl))
+    go : (o : Option ℕ) (p : Option (List ℕ)) → ((ys : List ℕ) → p ≡ Some ys → 2 * length ys ≤ length cs) → before o p ≡ Some bs → 2 * length bs ≤ suc (suc (length cs))
+    go None p h e = never e
+    go (Some b) None h e = never e
+    go (Some b) (Some ys) h e = let is : (b ∷ ys) ≡ bs = cc in subst (λ (l : List ℕ). 2 * length l ≤ suc (suc (length cs))) is (omega (arith, h ys refl))
 
-bytes_long : (w : Word) {bs : List ℕ} → bytes_in w ≡ some bs → 2 * length bs ≤ length w
+bytes_long : (w : Word) {bs : List ℕ} → bytes_in w ≡ Some bs → 2 * length bs ≤ length w
 unfolding bytes_in
 bytes_long [] e = never e
 bytes_long (c ∷ cs) {bs} e = go (same_word (c ∷ cs) (45 ∷ [])) e
   where
-    go : (t : Bool) → cond t (some []) (pairs_in (c ∷ cs)) ≡ some bs → 2 * length bs ≤ length (c ∷ cs)
+    go : (t : Bool) → cond t (Some []) (pairs_in (c ∷ cs)) ≡ Some bs → 2 * length bs ≤ length (c ∷ cs)
     go true e = let is : [] ≡ bs = cc in subst (λ (l : List ℕ). 2 * length l ≤ length (c ∷ cs)) is (omega arith)
     go false e = pairs_long (c ∷ cs) e
 
 -- how many they are is how many were put into the slice
-pub bytes_below : (most : ℕ) (ws : List Word) {b : Sized} {rest : List Word} → taken (bytes_up_to most) ws ≡ some (b, rest) → (b.0 ≤ most) × (b.0 ≡ length b.1)
+pub bytes_below : (most : ℕ) (ws : List Word) {b : Sized} {rest : List Word} → taken (bytes_up_to most) ws ≡ Some (b, rest) → (b.0 ≤ most) × (b.0 ≡ length b.1)
 unfolding taken beside bytes_up_to sized
 bytes_below most [] e = never e
 bytes_below most (w ∷ ws) {b} {rest} e = by_test (leb (length w / 2) most) refl (bytes_in w) refl e
   where
-    by_test : (t : Bool) → leb (length w / 2) most ≡ t → (o : Option (List ℕ)) → bytes_in w ≡ o → beside (cond t (sized o) none) ws ≡ some (b, rest) → (b.0 ≤ most) × (b.0 ≡ length b.1)
-    by_test true h none k e = never e
-    by_test true h (some bs) k e =
+    by_test : (t : Bool) → leb (length w / 2) most ≡ t → (o : Option (List ℕ)) → bytes_in w ≡ o → beside (cond t (sized o) None) ws ≡ Some (b, rest) → (b.0 ≤ most) × (b.0 ≡ length b.1)
+    by_test true h None k e = never e
+    by_test true h (Some bs) k e =
         let p : ◌≡◌ {A = Sized × List Word} ((length bs, bs), ws) (b, rest) = cc in
         subst (λ (x : Sized). (x.0 ≤ most) × (x.0 ≡ length x.1)) (ap (λ (q : Sized × List Word). q.0) p) (omega (arith, leb-true (length w / 2) most h, bytes_long w k), refl)
     by_test false h o k e = never e

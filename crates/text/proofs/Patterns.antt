@@ -2,11 +2,13 @@
 use mathlib.Core.Path.{◌≡◌, refl, sym, ap, ◌∙◌, subst}
 use mathlib.Core.Bool.{true, false, not}
 use Prim.Native.Nat.{ℕ, ◌*◌, ◌%◌, ◌≤◌, ◌<◌}
+use native.Mathlib.Nat.{mod-eq_of_lt}
 use lib.Dec.{T}
 use borrow.Author.Tests.{lt-ltb, le-ltb}
-use lib.Ieee.{Float, nan, inf, fin, Format, ones, hid, top, of_bits, to_bits, is_nan, nan_bits, ne, eq}
-use lib.Ieee.Bits.{nan_bits_is, nan_bits_above}
+use lib.Ieee.{Float, nan, inf, fin, Format, binary32, binary64, fits, ones, hid, top, of_bits, to_bits, is_nan, nan_bits, ne, eq}
+use lib.Ieee.Bits.{nan_bits_is, nan_bits_above, of_bits-to_bits, to_bits-lt}
 use lib.Ieee.Compare.{differs_from_itself}
+use Rattle.text.specs.Floats.{of_word}
 
 is_nan_lem : (x : Float) → is_nan x ≡ true → x ≡ nan
 unfolding is_nan
@@ -29,3 +31,8 @@ unfolding is_nan ne eq
 differs_not nan e = subst T e tt
 differs_not (inf s) e = tt
 differs_not (fin s m d) e = tt
+
+-- a float's bits give it back, the NaN's too
+pub word_back : (f : Format) (x : Float) → T (fits f x) → of_word f (to_bits f x) ≡ x
+word_back binary32 x h = ap (of_bits binary32) (mod-eq_of_lt (to_bits-lt binary32 x h)) ∙ of_bits-to_bits binary32 x h
+word_back binary64 x h = of_bits-to_bits binary64 x h

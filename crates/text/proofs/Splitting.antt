@@ -2,19 +2,17 @@
 use mathlib.Core.Path.{◌≡◌, refl, sym, ap, ◌∙◌, subst}
 use mathlib.Core.Bool.{Bool, true, false, cond}
 use mathlib.Core.List.{List, [], ◌∷◌}
-use mathlib.Core.Option.{Option, none, some}
+use Rattle.std.specs.Prelude.{Option, None, Some}
 use Prim.Native.Nat.{ℕ, suc, ◌+◌, ◌-◌, ◌≤◌, ◌<◌}
 use native.Mathlib.Nat.{add-zero, add-sub_cancel_left, add_assoc}
-use native.Mathlib.Numerals.{add-one}
 use native.Mathlib.Omega.{arith}
-use lib.Dec.{T, leb, ltb, eqb, leb-zero}
-use lib.ListN.{length, get_or, take, drop, length-drop, drop_of_length-le}
-use lib.Seq.{drop-cons, drop-drop}
-use borrow.Author.Tests.{le-leb, lt-leb, leb-true, leb-false, ltb-true, ltb-false, eq-eqb, ne_eqb}
+use lib.Dec.{leb, ltb, eqb, leb-zero}
+use lib.ListN.{length, take, drop, length-drop}
+use lib.Seq.{drop-drop}
+use borrow.Author.Tests.{le-leb, lt-leb, leb-true, leb-false, ltb-true, ltb-false}
 use Rattle.scan.specs.Bytes.{index_of, index_after}
-use Rattle.text.proofs.Reading.{and_true}
 use Rattle.text.specs.Digits.{number_in}
-use Rattle.text.specs.Words.{Word, same_word, joined, words_of, words_from, end_of, taken, beside, up_to, count_in, is_over}
+use Rattle.text.specs.Words.{Word, joined, words_of, words_from, end_of, taken, beside, up_to, count_in, is_over}
 
 -- the same words, counted from a place of the line
 pub from_drop : (s : List ℕ) (at m : ℕ) → at ≤ length s → words_from (drop at s) m ≡ words_from s (at + m)
@@ -65,7 +63,7 @@ unfolding end_of
 end_of_lem s at h = (omega arith, omega (arith, index_le 32 (drop at s), length-drop at s))
 
 module _ {A : Type 0} (read : Word → Option A) (s : List ℕ) (at : ℕ) where
-  pub no_word : length s < at → taken read (words_from s at) ≡ none
+  pub no_word : length s < at → taken read (words_from s at) ≡ None
   unfolding taken words_from
   no_word h = rw (lt-leb at (length s) h)
 
@@ -74,11 +72,11 @@ module _ {A : Type 0} (read : Word → Option A) (s : List ℕ) (at : ℕ) where
     unfolding taken
     a_word = rw (e, split s at h)
 
-    pub not_read_lem : read (take (to - at) (drop at s)) ≡ none → taken read (words_from s at) ≡ none
+    pub not_read_lem : read (take (to - at) (drop at s)) ≡ None → taken read (words_from s at) ≡ None
     unfolding beside
     not_read_lem o = a_word ∙ ap (λ (x : Option A). beside x (words_from s (to + 1))) o
 
-    pub is_read : {x : A} → read (take (to - at) (drop at s)) ≡ some x → taken read (words_from s at) ≡ some (x, words_from s (to + 1))
+    pub is_read : {x : A} → read (take (to - at) (drop at s)) ≡ Some x → taken read (words_from s at) ≡ Some (x, words_from s (to + 1))
     unfolding beside
     is_read o = a_word ∙ ap (λ (x : Option A). beside x (words_from s (to + 1))) o
 
@@ -95,45 +93,17 @@ is_over_lem s at = by_test (ltb (length s) at) refl
     by_test true e = rw (lt-leb at (length s) (ltb-true (length s) at e))
     by_test false e = rw (le-leb at (length s) (ltb-false (length s) at e)) (sym (some_word (drop at s)))
 
--- ---- two words compared
-
-pub same_by : (i : ℕ) (a b : Word) → i < length a → i < length b → get_or a i 0 ≡ get_or b i 0 → same_word (drop i a) (drop i b) ≡ same_word (drop (i + 1) a) (drop (i + 1) b)
-unfolding same_word
-same_by i a b ha hb e = rw (drop-cons a i 0 ha, drop-cons b i 0 hb, add-one i, eq-eqb (get_or a i 0) (get_or b i 0) e)
-
-pub differs_by : (i : ℕ) (a b : Word) → i < length a → i < length b → (get_or a i 0 ≡ get_or b i 0 → ⊥) → same_word (drop i a) (drop i b) ≡ false
-unfolding same_word
-differs_by i a b ha hb n = rw (drop-cons a i 0 ha, drop-cons b i 0 hb, ne_eqb (get_or a i 0) (get_or b i 0) n)
-
-pub same_end : (i : ℕ) (a b : Word) → length a ≤ i → length b ≤ i → same_word (drop i a) (drop i b) ≡ true
-unfolding same_word
-same_end i a b ha hb = rw (drop_of_length-le a ha, drop_of_length-le b hb)
-
-pub same_length : (a b : Word) → same_word a b ≡ true → length a ≡ length b
-unfolding same_word
-same_length [] [] e = refl
-same_length [] (d ∷ ds) e = absurd (subst T (sym e) tt)
-same_length (c ∷ cs) [] e = absurd (subst T (sym e) tt)
-same_length (c ∷ cs) (d ∷ ds) e = ap suc (same_length cs ds (and_true (eqb c d) _ e).1)
-
-pub other_length : (a b : Word) → (length a ≡ length b → ⊥) → same_word a b ≡ false
-other_length a b n = by_test (same_word a b) refl
-  where
-    by_test : (t : Bool) → same_word a b ≡ t → same_word a b ≡ false
-    by_test true e = absurd (n (same_length a b e))
-    by_test false e = e
-
 -- ---- a count is within its ceiling
 
-pub count_below : (most : ℕ) (ws : List Word) {n : ℕ} {rest : List Word} → taken (count_in most) ws ≡ some (n, rest) → n ≤ most
+pub count_below : (most : ℕ) (ws : List Word) {n : ℕ} {rest : List Word} → taken (count_in most) ws ≡ Some (n, rest) → n ≤ most
 unfolding taken beside count_in up_to
 count_below most [] e = let z : ◌≡◌ {A = ℕ} 0 1 = cc in absurd (omega arith)
 count_below most (w ∷ ws) {n} {rest} e = by_number (number_in 10 w) e
   where
-    by_test : (m : ℕ) (b : Bool) → leb m most ≡ b → beside (cond b (some m) none) ws ≡ some (n, rest) → n ≤ most
+    by_test : (m : ℕ) (b : Bool) → leb m most ≡ b → beside (cond b (Some m) None) ws ≡ Some (n, rest) → n ≤ most
     by_test m true t e = let p : ◌≡◌ {A = ℕ × List Word} (m, ws) (n, rest) = cc in subst (λ (k : ℕ). k ≤ most) (ap (λ (q : ℕ × List Word). q.0) p) (leb-true m most t)
     by_test m false t e = let z : ◌≡◌ {A = ℕ} 0 1 = cc in absurd (omega arith)
 
-    by_number : (o : Option ℕ) → beside (up_to most o) ws ≡ some (n, rest) → n ≤ most
-    by_number none e = let z : ◌≡◌ {A = ℕ} 0 1 = cc in absurd (omega arith)
-    by_number (some m) e = by_test m (leb m most) refl e
+    by_number : (o : Option ℕ) → beside (up_to most o) ws ≡ Some (n, rest) → n ≤ most
+    by_number None e = let z : ◌≡◌ {A = ℕ} 0 1 = cc in absurd (omega arith)
+    by_number (Some m) e = by_test m (leb m most) refl e

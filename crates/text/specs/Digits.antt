@@ -1,7 +1,5 @@
 -- Numbers as digits, read and written: decimal counts, and hexadecimal with lower-case letters.
-use Rattle.std.specs.Prelude.{Bool, true, cond, ◌&&◌, List, [], ◌∷◌, ◌++◌, ℕ, zero, suc, ◌+◌, ◌-◌, ◌*◌, ◌/◌, ◌%◌, ◌^◌, leb, ltb, eqb, length}
-use Rattle.std.proofs.Math.Option.{Option, none, some}
-use Rattle.text.specs.declared.read.Number.{Number}
+use Rattle.std.specs.Prelude.{Bool, true, cond, ◌&&◌, List, [], ◌∷◌, ◌++◌, ℕ, zero, suc, ◌+◌, ◌-◌, ◌*◌, ◌/◌, ◌%◌, ◌^◌, leb, ltb, eqb, length, Option, None, Some}
 
 -- ---- read
 
@@ -21,20 +19,16 @@ value_from b v (c ∷ cs) = value_from b (v * b + digit_of c) cs
 
 -- the same, where there is no other character and it is at most 2 ^ 64 - 1
 unfoldable pub number_from : ℕ → ℕ → List ℕ → Option ℕ
-number_from b v cs = cond (are_digits b cs && ltb (value_from b v cs) (2 ^ 64)) (some (value_from b v cs)) none
+number_from b v cs = cond (are_digits b cs && ltb (value_from b v cs) (2 ^ 64)) (Some (value_from b v cs)) None
 
 -- a word as a number in base b: at least one digit
 unfoldable pub number_in : ℕ → List ℕ → Option ℕ
-number_in b [] = none
+number_in b [] = None
 number_in b (c ∷ cs) = number_from b 0 (c ∷ cs)
 
 -- a word as n hexadecimal digits
 unfoldable pub bits_in : ℕ → List ℕ → Option ℕ
-bits_in n cs = cond (eqb (length cs) n) (number_in 16 cs) none
-
-unfoldable pub as_number : Option ℕ → Number
-as_number (some n) = Number.Is n
-as_number none = Number.Unread
+bits_in n cs = cond (eqb (length cs) n) (number_in 16 cs) None
 
 -- ---- written
 

@@ -4,66 +4,58 @@ ghost use Rattle.text.specs.Put.{Put};
 ghost use Rattle.text.specs.Words.{words_from, taken};
 ghost use Rattle.text.specs.Hex.{pairs_in, bytes_in, sized, bytes_up_to, bytes_text, sized_at, bytes_at};
 
-use crate::read::{Number, bits_in};
-use crate::words::{NextCount, same, word_end};
+use crate::read::bits_in;
+use crate::words::{Next, same, word_end};
 use crate::write::put_digits;
 
 // The bytes of a word, into the front of the slice; how many they are.
-fn pairs_in(word: &[u8], bytes: &mut [u8]) -> Number
+fn pairs_in(word: &[u8], bytes: &mut [u8]) -> Option<u64>
     requires { length word.now / 2 ≤ length bytes.old }
     ensures { sized_at bytes.new result ≡ sized (pairs_in word.now) }
 {
     let n = word.len() / 2;
-    let mut i = 0;
-    while i < n {
+    for i in 0..n {
         let from = 2 * i;
-        let to = from + 2;
-        let Number::Is(value) = bits_in(&word[from..to], 2) else {
-            return Number::Unread;
-        };
+        let value = bits_in(&word[from..from + 2], 2)?;
         bytes[i] = value as u8;
-        i += 1;
     }
-    if word.len() == 2 * n {
-        Number::Is(n as u64)
-    } else {
-        Number::Unread
+    if word.len() != 2 * n {
+        return None;
     }
+    Some(n as u64)
 }
 
 // The same, and `-` for none.
-pub fn bytes_in(word: &[u8], bytes: &mut [u8]) -> Number
+pub fn bytes_in(word: &[u8], bytes: &mut [u8]) -> Option<u64>
     requires { length word.now / 2 ≤ length bytes.old }
     ensures { sized_at bytes.new result ≡ sized (bytes_in word.now) }
 {
-    if word.len() == 0 {
-        return Number::Unread;
+    if word.is_empty() {
+        return None;
     }
     if same(word, b"-") {
-        return Number::Is(0);
+        return Some(0);
     }
     pairs_in(word, bytes)
 }
 
 // A word of up to `most` bytes, these into the front of the slice.
-pub fn next_bytes(line: &[u8], at: usize, most: usize, bytes: &mut [u8]) -> NextCount
+pub fn next_bytes(line: &[u8], at: usize, most: usize, bytes: &mut [u8]) -> Option<Next<u64>>
     requires { most ≤ length bytes.old }
     ensures { bytes_at line.now bytes.new result ≡ taken (bytes_up_to most) (words_from line.now at) }
 {
     if line.len() < at {
-        return NextCount::Unread;
+        return None;
     }
     let to = word_end(line, at);
     if most < (to - at) / 2 {
-        return NextCount::Unread;
+        return None;
     }
-    let Number::Is(value) = bytes_in(&line[at..to], bytes) else {
-        return NextCount::Unread;
-    };
-    NextCount::Is {
+    let value = bytes_in(&line[at..to], bytes)?;
+    Some(Next {
         value,
         next: to + 1,
-    }
+    })
 }
 
 // Bytes written, one behind the other.
@@ -72,10 +64,8 @@ pub fn put_bytes(out: &mut [u8], at: usize, bytes: &[u8]) -> usize
     ensures { Put out.old at (bytes_text bytes.now) out.new result }
 {
     let mut next = at;
-    let mut i = 0;
-    while i < bytes.len() {
-        next = put_digits(out, next, bytes[i] as u64, 16, 2);
-        i += 1;
+    for b in bytes {
+        next = put_digits(out, next, *b as u64, 16, 2);
     }
     next
 }

@@ -3,5 +3,6 @@
 
 pub mod hex;
 pub mod read;
+pub mod real;
 pub mod words;
 pub mod write;

@@ -1,45 +1,23 @@
 // The words of a line, taken one after the other as numbers. A cursor is the place where the next word
 // begins; behind the line's end there is none.
 ghost use Rattle.std.specs.Prelude.{◌≡◌, ℕ, ◌≤◌, length};
-ghost use Rattle.std.specs.Float.{binary32, binary64};
 ghost use Rattle.text.specs.Floats.{float_in};
-ghost use Rattle.text.specs.Words.{same_word, end_of, words_from, taken, count_in, count_at, single_at, double_at, is_over};
+ghost use Rattle.text.specs.Words.{same_word, end_of, words_from, taken, count_in, next_at, is_over};
 
-use crate::read::{Double, Number, Single, count_in, double_in, single_in};
+use crate::read::{count_in, real_in};
+use crate::real::Real;
 
-// A number, and where the next word begins.
+// What a word says, and where the next word begins.
 #[derive(Clone, Copy)]
-pub enum NextCount {
-    Is { value: u64, next: usize },
-    Unread,
-}
-
-#[derive(Clone, Copy)]
-pub enum NextSingle {
-    Is { value: f32, next: usize },
-    Unread,
-}
-
-#[derive(Clone, Copy)]
-pub enum NextDouble {
-    Is { value: f64, next: usize },
-    Unread,
+pub struct Next<T> {
+    pub value: T,
+    pub next: usize,
 }
 
 pub fn same(a: &[u8], b: &[u8]) -> bool
     ensures { result ≡ same_word a.now b.now }
 {
-    if a.len() != b.len() {
-        return false;
-    }
-    let mut i = 0;
-    while i < a.len() {
-        if a[i] != b[i] {
-            return false;
-        }
-        i += 1;
-    }
-    true
+    a == b
 }
 
 // The place behind a word: a space, or the line's end.
@@ -58,54 +36,34 @@ pub fn over(line: &[u8], at: usize) -> bool
 }
 
 // A count up to `most`.
-pub fn next_count(line: &[u8], at: usize, most: u64) -> NextCount
-    ensures { count_at line.now result ≡ taken (count_in most) (words_from line.now at) }
+pub fn next_count(line: &[u8], at: usize, most: u64) -> Option<Next<u64>>
+    ensures { next_at (λ n. n) line.now result ≡ taken (count_in most) (words_from line.now at) }
 {
     if line.len() < at {
-        return NextCount::Unread;
+        return None;
     }
     let to = word_end(line, at);
-    let Number::Is(value) = count_in(&line[at..to]) else {
-        return NextCount::Unread;
-    };
-    if value <= most {
-        NextCount::Is {
-            value,
-            next: to + 1,
-        }
-    } else {
-        NextCount::Unread
+    let value = count_in(&line[at..to])?;
+    if most < value {
+        return None;
     }
-}
-
-pub fn next_single(line: &[u8], at: usize) -> NextSingle
-    ensures { single_at line.now result ≡ taken (float_in binary32) (words_from line.now at) }
-{
-    if line.len() < at {
-        return NextSingle::Unread;
-    }
-    let to = word_end(line, at);
-    let Single::Is(value) = single_in(&line[at..to]) else {
-        return NextSingle::Unread;
-    };
-    NextSingle::Is {
+    Some(Next {
         value,
         next: to + 1,
-    }
+    })
 }
 
-pub fn next_double(line: &[u8], at: usize) -> NextDouble
-    ensures { double_at line.now result ≡ taken (float_in binary64) (words_from line.now at) }
+// An f32 or an f64.
+pub fn next_real<T: Real>(line: &[u8], at: usize) -> Option<Next<T>>
+    ensures { next_at T.value line.now result ≡ taken (float_in T.format) (words_from line.now at) }
 {
     if line.len() < at {
-        return NextDouble::Unread;
+        return None;
     }
     let to = word_end(line, at);
-    let Double::Is(value) = double_in(&line[at..to]) else {
-        return NextDouble::Unread;
-    };
-    NextDouble::Is {
+    let value = real_in(&line[at..to])?;
+    Some(Next {
         value,
         next: to + 1,
-    }
+    })
 }

@@ -1,10 +1,10 @@
 // Characters written into a buffer from a place on; each function gives the place behind them.
 ghost use Rattle.std.specs.Prelude.{◌≡◌, List, [], ◌∷◌, ℕ, ◌+◌, ◌≤◌, ◌<◌, ◌^◌, length};
-ghost use Rattle.std.specs.Float.{binary32, binary64};
-ghost use Rattle.std.specs.Float.Ieee.{to_bits};
 ghost use Rattle.text.specs.Digits.{glyph_of, digits_of, places_of, decimal_of};
-ghost use Rattle.text.specs.Floats.{float_text};
+ghost use Rattle.text.specs.Floats.{digits_for, float_text};
 ghost use Rattle.text.specs.Put.{Put};
+
+use crate::real::Real;
 
 pub fn put_byte(out: &mut [u8], at: usize, c: u8) -> usize
     requires { at < length out.old }
@@ -18,12 +18,9 @@ pub fn put_word(out: &mut [u8], at: usize, word: &[u8]) -> usize
     requires { at + length word.now ≤ length out.old }
     ensures { Put out.old at word.now out.new result }
 {
-    let mut i = 0;
-    while i < word.len() {
-        out[at + i] = word[i];
-        i += 1;
-    }
-    at + word.len()
+    let to = at + word.len();
+    out[at..to].copy_from_slice(word);
+    to
 }
 
 // The character of a digit.
@@ -39,10 +36,8 @@ pub fn put_digits(out: &mut [u8], at: usize, n: u64, base: u64, k: usize) -> usi
     requires { (1 ≤ base) × (base ≤ 16) × (at + k ≤ length out.old) }
     ensures { Put out.old at (digits_of base k n) out.new result }
 {
-    let mut i = k;
     let mut left = n;
-    while 0 < i {
-        i -= 1;
+    for i in (0..k).rev() {
         out[at + i] = glyph(left % base);
         left /= base;
     }
@@ -71,35 +66,10 @@ pub fn put_count(out: &mut [u8], at: usize, n: u64) -> usize
     put_digits(out, at, n, 10, k)
 }
 
-// `to_bits`, with one pattern for every NaN.
-pub fn single_bits(x: f32) -> u32
-    ensures { result ≡ to_bits binary32 x }
+// An f32 as 8 hexadecimal digits, an f64 as 16.
+pub fn put_real<T: Real>(out: &mut [u8], at: usize, x: T) -> usize
+    requires { at + digits_for T.format ≤ length out.old }
+    ensures { Put out.old at (float_text T.format (T.value x)) out.new result }
 {
-    if x != x { 0x7fc0_0000 } else { f32::to_bits(x) }
-}
-
-pub fn double_bits(x: f64) -> u64
-    ensures { result ≡ to_bits binary64 x }
-{
-    if x != x {
-        0x7ff8_0000_0000_0000
-    } else {
-        f64::to_bits(x)
-    }
-}
-
-// An f32 as 8 hexadecimal digits.
-pub fn put_single(out: &mut [u8], at: usize, x: f32) -> usize
-    requires { at + 8 ≤ length out.old }
-    ensures { Put out.old at (float_text binary32 x) out.new result }
-{
-    put_digits(out, at, single_bits(x) as u64, 16, 8)
-}
-
-// An f64 as 16 hexadecimal digits.
-pub fn put_double(out: &mut [u8], at: usize, x: f64) -> usize
-    requires { at + 16 ≤ length out.old }
-    ensures { Put out.old at (float_text binary64 x) out.new result }
-{
-    put_digits(out, at, double_bits(x), 16, 16)
+    put_digits(out, at, x.bits(), 16, T::DIGITS)
 }

@@ -3,12 +3,13 @@ use mathlib.Core.Path.{◌≡◌, refl, sym, ap, ◌∙◌}
 use mathlib.Core.Bool.{Bool, true, false, cond, ◌||◌, beq, true≢false}
 use mathlib.Core.List.{List, [], ◌∷◌}
 use Prim.Native.Nat.{ℕ, zero, suc, ◌+◌, ◌-◌, ◌≤◌, ◌<◌}
-use native.Mathlib.Numerals.{add-one}
+use native.Mathlib.Numerals.{one-add, add-one}
 use native.Mathlib.Omega.{arith}
 use lib.ListN.{length, get_or, take, drop, drop_of_length-le}
 use lib.Seq.{drop-cons, drop-drop}
+use Rattle.std.specs.Prelude.{Some}
+use Rattle.std.specs.List.{prefix_len}
 use Rattle.text.specs.Words.{Word, same_word, joined}
-use Rattle.wording.specs.declared.Next.{Next}
 use Rattle.wording.specs.Plain.{is_blank, split, is_one, is_small, kept, spoken, words_at}
 use Rattle.wording.specs.Walked.{run_of, first_of, next_at}
 
@@ -22,6 +23,12 @@ run_le b (c ∷ cs) = by_test (run_le b cs) (beq (is_blank c) b)
     by_test : run_of b cs ≤ length cs → (t : Bool) → cond t (suc (run_of b cs)) zero ≤ suc (length cs)
     by_test rest true = omega arith
     by_test rest false = omega arith
+
+-- the same in the library's words
+pub run_is : (b : Bool) (cs : List ℕ) → prefix_len (λ c. beq (is_blank c) b) cs ≡ run_of b cs
+unfolding run_of
+run_is b [] = refl
+run_is b (c ∷ cs) = ap (λ (n : ℕ). cond (beq (is_blank c) b) n 0) (one-add _ ∙ ap suc (run_is b cs))
 
 module _ (b : Bool) (s : List ℕ) (i : ℕ) (inside : i < length s) (blank : Bool) (is : blank ≡ is_blank (get_or s i 0)) where
   -- the run goes on, or ends here
@@ -40,7 +47,7 @@ ends_last b s i h = rw (drop_of_length-le s h)
 -- ---- words
 
 kept_none : (ws : List Word) → kept [] ws ≡ ws
-unfolding kept is_small is_one same_word
+unfolding kept is_small is_one
 kept_none ws = refl
 
 -- blanks at the front say nothing
@@ -99,7 +106,7 @@ module _ (s : List ℕ) (at from to : ℕ) (skipped : from ≡ at + run_of true 
   unfolding kept
   a_small e = one_word ∙ rw e
 
-  pub a_word : is_small (take (to - from) (drop from s)) ≡ false → next_at s (Next.Word from to) ≡ first_of (words_at s at)
+  pub a_word : is_small (take (to - from) (drop from s)) ≡ false → next_at s (Some (record { from = from; to = to })) ≡ first_of (words_at s at)
   unfolding kept next_at first_of
   a_word e =
       let is : words_at s at ≡ take (to - from) (drop from s) ∷ words_at s to = one_word ∙ rw e in
@@ -118,7 +125,7 @@ passes s i from to inside skipped ended = by_test (is_blank (get_or s i 0)) refl
 
 -- a word has a character
 pub some_character : (w : Word) → is_small w ≡ false → 0 < length w
-unfolding is_small is_one same_word
+unfolding is_small is_one
 some_character [] e = absurd (true≢false e)
 some_character (c ∷ cs) e = omega arith
 
@@ -146,11 +153,9 @@ only x w = by_test (same_word w x)
     by_test false = refl
 
 pub empty_word : (w : Word) → length w ≡ 0 → same_word w [] ≡ true
-unfolding same_word
 empty_word [] e = refl
 empty_word (c ∷ cs) e = absurd (omega arith)
 
 pub not_empty : (w : Word) → (length w ≡ 0 → ⊥) → same_word w [] ≡ false
-unfolding same_word
 not_empty [] n = absurd (n refl)
 not_empty (c ∷ cs) n = refl

@@ -1,23 +1,22 @@
 -- Lines as a person writes them, and the same in the session language, computed. Assumes nothing.
 use mathlib.Core.Path.{◌≡◌, refl}
-use mathlib.Core.Option.{none, some}
+use Rattle.std.specs.Prelude.{None, Some}
 use Prim.Native.String.{String}
 use lib.Ieee.{round, of_bits, to_bits}
 use Rattle.rules.specs.Numbers.{narrowed}
 use Rattle.scan.specs.Bytes.{index_of, index_after}
 use Rattle.text.specs.Digits.{digit_of, are_digits, value_from, number_from, number_in, bits_in, glyph_of, digits_of, places_of, decimal_of}
 use Rattle.text.specs.Floats.{float_of, float_in, float_text}
-use Rattle.text.specs.Words.{same_word, joined, up_to, count_in, is_over}
-use Rattle.calls.specs.Language.{ending}
+use Rattle.text.specs.Words.{joined, up_to, count_in, is_over}
 use Rattle.decimal.specs.Codes.{codes}
 use Rattle.decimal.specs.Decimals.{is_minus, sign_length, behind_sign, before, digits_part, whole_digits, fraction_digits, digits_in, tens_of, tens_in, scaled_by, scaled, unsigned_in, decimal_in, named_in, held, plain_in}
-use Rattle.wording.specs.Plain.{is_blank, split, is_one, is_small, kept, spoken, words_at, in_front, spaced, bits_of, field_of, with_field, fields, numbers, capped_at, length_for, length_and, block_fields, and_then, edition_fields, made_fields, tail_of, formed, scheduling, rows, form_in, whole, translated, translation}
+use Rattle.wording.specs.Plain.{is_blank, split, is_one, is_small, kept, spoken, words_at, in_front, spaced, bits_of, field_of, with_field, fields, numbers, capped_at, length_for, length_and, block_fields, and_then, edition_fields, made_fields, tail_of, formed, formed_by, scheduling, rows, form_in, whole, translated, translation}
 
 abbrev Means : String → String → Type 0
-Means line strict = translation (codes line) ≡ some (codes strict)
+Means line strict = translation (codes line) ≡ Some (codes strict)
 
 abbrev IsUnread : String → Type 0
-IsUnread line = translation (codes line) ≡ none
+IsUnread line = translation (codes line) ≡ None
 
 pub examples :
     Means "make -10 0 10 a" "make c1200000 00000000 41200000 a"
@@ -41,5 +40,5 @@ pub examples :
     × IsUnread "make 0 230 400 a edition"
     × IsUnread "make 0 230 400 edition 2"
     × IsUnread "make 0 230 400 a edition 2 2"
-unfolding is_blank split is_one is_small kept spoken words_at in_front spaced bits_of field_of with_field fields numbers capped_at length_for length_and block_fields and_then edition_fields made_fields tail_of formed scheduling rows form_in whole translated translation ending is_over same_word joined plain_in held named_in decimal_in unsigned_in scaled scaled_by tens_in tens_of digits_in fraction_digits whole_digits digits_part before behind_sign sign_length is_minus float_in float_of float_text bits_in count_in up_to number_in number_from are_digits value_from digit_of digits_of glyph_of decimal_of places_of index_of index_after narrowed round of_bits to_bits
+unfolding is_blank split is_one is_small kept spoken words_at in_front spaced bits_of field_of with_field fields numbers capped_at length_for length_and block_fields and_then edition_fields made_fields tail_of formed formed_by scheduling rows form_in whole translated translation is_over joined plain_in held named_in decimal_in unsigned_in scaled scaled_by tens_in tens_of digits_in fraction_digits whole_digits digits_part before behind_sign sign_length is_minus float_in float_of float_text bits_in count_in up_to number_in number_from are_digits value_from digit_of digits_of glyph_of decimal_of places_of index_of index_after narrowed round of_bits to_bits
 examples = (refl, refl, refl, refl, refl, refl, refl, refl, refl, refl, refl, refl, refl, refl, refl, refl, refl, refl, refl, refl, refl)

@@ -1,7 +1,6 @@
 -- The language of `play`: the calls of the session language with decimal numbers, words apart by blanks, small words between them, and a comment
 -- behind `#`. A line means what its translation into the session language means; that language has no `cost`, which `play` answers itself.
-use Rattle.std.specs.Prelude.{Bool, false, cond, ◌||◌, List, [], ◌∷◌, ◌++◌, ℕ, zero, suc, leb, eqb, length, drop, Float}
-use Rattle.std.proofs.Math.Option.{Option, none, some}
+use Rattle.std.specs.Prelude.{Bool, false, cond, ◌||◌, List, [], ◌∷◌, ◌++◌, ℕ, zero, suc, leb, eqb, length, drop, Float, Option, None, Some}
 use Prim.Native.Char.{code}
 use Rattle.std.specs.Float.{Format, binary32, binary64}
 use Rattle.text.specs.Digits.{number_in, decimal_of}
@@ -50,31 +49,31 @@ abbrev pub Fields : Type 0
 Fields = Option (List ℕ × List Word)
 
 unfoldable pub in_front : List ℕ → Fields → Fields
-in_front t none = none
-in_front t (some p) = some (t ++ p.0, p.1)
+in_front t None = None
+in_front t (Some p) = Some (t ++ p.0, p.1)
 
 -- a word behind a space
 unfoldable pub spaced : Word → List ℕ
 spaced w = code " " ∷ w
 
 unfoldable pub bits_of : Format → Option Float → Option (List ℕ)
-bits_of f none = none
-bits_of f (some x) = some (spaced (float_text f x))
+bits_of f None = None
+bits_of f (Some x) = Some (spaced (float_text f x))
 
 -- a value and a time as their bits, any other word as it is
 unfoldable pub field_of : Kind → Word → Option (List ℕ)
 field_of Kind.Value w = bits_of binary32 (plain_in binary32 w)
 field_of Kind.Time w = bits_of binary64 (plain_in binary64 w)
-field_of Kind.AsItIs w = some (spaced w)
+field_of Kind.AsItIs w = Some (spaced w)
 
 unfoldable pub with_field : Option (List ℕ) → Fields → Fields
-with_field none r = none
-with_field (some t) r = in_front t r
+with_field None r = None
+with_field (Some t) r = in_front t r
 
 -- n fields of a kind
 unfoldable pub fields : Kind → ℕ → List Word → Fields
-fields k zero ws = some ([], ws)
-fields k (suc n) [] = none
+fields k zero ws = Some ([], ws)
+fields k (suc n) [] = None
 fields k (suc n) (w ∷ ws) = with_field (field_of k w) (fields k n ws)
 
 -- all words that are left, as values, behind how many they are
@@ -83,8 +82,8 @@ numbers ws = in_front (spaced (decimal_of (length ws))) (fields Kind.Value (leng
 
 -- the length of the output, where it is not said: the count, or the longest that can be lent
 unfoldable pub capped_at : Word → Option ℕ → Word
-capped_at w none = w
-capped_at w (some n) = cond (leb n 4096) w (codes "4096")
+capped_at w None = w
+capped_at w (Some n) = cond (leb n 4096) w (codes "4096")
 
 unfoldable pub length_for : Word → Word
 length_for w = capped_at w (number_in 10 w)
@@ -95,17 +94,17 @@ length_and n [] = in_front (spaced (length_for n)) (numbers [])
 length_and n (o ∷ ws) = in_front (spaced o) (numbers ws)
 
 unfoldable pub block_fields : List Word → Fields
-block_fields [] = none
+block_fields [] = None
 block_fields (n ∷ ws) = in_front (spaced n) (length_and n ws)
 
 unfoldable pub and_then : Fields → (List Word → Fields) → Fields
-and_then none next = none
-and_then (some p) next = in_front p.0 (next p.1)
+and_then None next = None
+and_then (Some p) next = in_front p.0 (next p.1)
 
 -- behind a rate: nothing, or `edition` and its number
 unfoldable pub edition_fields : List Word → Fields
-edition_fields [] = some ([], [])
-edition_fields (w ∷ ws) = cond (same_word w (codes "edition")) (fields Kind.AsItIs 1 ws) none
+edition_fields [] = Some ([], [])
+edition_fields (w ∷ ws) = cond (same_word w (codes "edition")) (fields Kind.AsItIs 1 ws) None
 
 unfoldable pub made_fields : List Word → Fields
 made_fields ws = and_then (fields Kind.AsItIs 1 ws) edition_fields
@@ -119,8 +118,15 @@ tail_of Tail.Block ws = block_fields ws
 tail_of Tail.Made ws = made_fields ws
 
 unfoldable pub formed : Form → List Word → Fields
-formed (Form.Is k n t) ws = and_then (fields k n ws) (tail_of t)
-formed Form.Unknown ws = none
+formed f ws = and_then (fields f.kind f.many ws) (tail_of f.tail)
+
+-- a name that no row has says nothing
+unfoldable pub formed_by : Option Form → List Word → Fields
+formed_by None ws = None
+formed_by (Some f) ws = formed f ws
+
+abbrev pub form : Kind → ℕ → Tail → Form
+form k n t = record { kind = k; many = n; tail = t }
 
 -- by the first word
 pub data Row : Type 0 where
@@ -129,39 +135,39 @@ pub data Row : Type 0 where
 -- the calls that change the waiting events
 unfoldable pub scheduling : List Row
 scheduling =
-    row (codes "set") (Form.Is Kind.Value 1 (Tail.Fields Kind.AsItIs 0))
-    ∷ row (codes "step") (Form.Is Kind.Value 1 (Tail.Fields Kind.Time 1))
-    ∷ row (codes "linear") (Form.Is Kind.Value 1 (Tail.Fields Kind.Time 1))
-    ∷ row (codes "exponential") (Form.Is Kind.Value 1 (Tail.Fields Kind.Time 1))
-    ∷ row (codes "target") (Form.Is Kind.Value 1 (Tail.Fields Kind.Time 2))
-    ∷ row (codes "curve") (Form.Is Kind.Time 2 Tail.Numbers)
-    ∷ row (codes "cancel") (Form.Is Kind.Time 1 (Tail.Fields Kind.AsItIs 0))
-    ∷ row (codes "hold") (Form.Is Kind.Time 1 (Tail.Fields Kind.AsItIs 0)) ∷ []
+    row (codes "set") (form Kind.Value 1 (Tail.Fields Kind.AsItIs 0))
+    ∷ row (codes "step") (form Kind.Value 1 (Tail.Fields Kind.Time 1))
+    ∷ row (codes "linear") (form Kind.Value 1 (Tail.Fields Kind.Time 1))
+    ∷ row (codes "exponential") (form Kind.Value 1 (Tail.Fields Kind.Time 1))
+    ∷ row (codes "target") (form Kind.Value 1 (Tail.Fields Kind.Time 2))
+    ∷ row (codes "curve") (form Kind.Time 2 Tail.Numbers)
+    ∷ row (codes "cancel") (form Kind.Time 1 (Tail.Fields Kind.AsItIs 0))
+    ∷ row (codes "hold") (form Kind.Time 1 (Tail.Fields Kind.AsItIs 0)) ∷ []
 
 unfoldable pub rows : List Row
 rows =
-    row (codes "make") (Form.Is Kind.Value 3 Tail.Made)
-    ∷ row (codes "block") (Form.Is Kind.Time 2 Tail.Block)
-    ∷ row (codes "plain") (Form.Is Kind.Time 2 Tail.Block)
-    ∷ row (codes "state") (Form.Is Kind.AsItIs 0 (Tail.Fields Kind.AsItIs 0))
-    ∷ row (codes "lend") (Form.Is Kind.AsItIs 1 (Tail.Fields Kind.AsItIs 0))
-    ∷ row (codes "poke") (Form.Is Kind.AsItIs 1 (Tail.Fields Kind.Value 1))
-    ∷ row (codes "cost") (Form.Is Kind.AsItIs 0 (Tail.Fields Kind.AsItIs 0))
+    row (codes "make") (form Kind.Value 3 Tail.Made)
+    ∷ row (codes "block") (form Kind.Time 2 Tail.Block)
+    ∷ row (codes "plain") (form Kind.Time 2 Tail.Block)
+    ∷ row (codes "state") (form Kind.AsItIs 0 (Tail.Fields Kind.AsItIs 0))
+    ∷ row (codes "lend") (form Kind.AsItIs 1 (Tail.Fields Kind.AsItIs 0))
+    ∷ row (codes "poke") (form Kind.AsItIs 1 (Tail.Fields Kind.Value 1))
+    ∷ row (codes "cost") (form Kind.AsItIs 0 (Tail.Fields Kind.AsItIs 0))
     ∷ scheduling
 
-unfoldable pub form_in : List Row → Word → Form
-form_in [] w = Form.Unknown
-form_in (row x f ∷ rs) w = cond (same_word w x) f (form_in rs w)
+unfoldable pub form_in : List Row → Word → Option Form
+form_in [] w = None
+form_in (row x f ∷ rs) w = cond (same_word w x) (Some f) (form_in rs w)
 
 -- ---- a line
 
 unfoldable pub whole : Word → Fields → Option (List ℕ)
-whole w none = none
-whole w (some p) = ending p.1 (w ++ p.0)
+whole w None = None
+whole w (Some p) = ending p.1 (w ++ p.0)
 
 unfoldable pub translated : List Word → Option (List ℕ)
-translated [] = some []
-translated (w ∷ ws) = whole w (formed (form_in rows w) ws)
+translated [] = Some []
+translated (w ∷ ws) = whole w (formed_by (form_in rows w) ws)
 
 -- the line in the session language, where it can be read
 unfoldable pub translation : List ℕ → Option (List ℕ)

@@ -3,13 +3,15 @@
 
 ghost use Rattle.std.specs.Prelude.{◌≡◌, ℕ, ◌+◌, ◌-◌, ◌*◌, ◌≤◌, ◌<◌, length, drop};
 ghost use Rattle.text.specs.Put.{Put};
-ghost use Rattle.wording.specs.Plain.{is_blank, is_small, words_at, spaced, field_of, fields, numbers, length_for, block_fields, edition_fields, made_fields, tail_of, formed, form_in, scheduling, rows, translated, translation};
+ghost use Rattle.wording.specs.Plain.{is_blank, is_small, words_at, spaced, field_of, fields, numbers, length_for, block_fields, edition_fields, made_fields, tail_of, formed, form_in, form, scheduling, rows, translated, translation};
+ghost use Rattle.std.specs.Bool.{beq};
+ghost use Rattle.std.specs.List.{prefix_len};
 ghost use Rattle.wording.specs.Walked.{run_of, first_of, next_at, Behind, Wrote, Ran, Passed, Inside, Room};
 
 use decimal::read::{time_in, value_in};
-use text::read::{Double, Number, Single, count_in};
+use text::read::count_in;
 use text::words::same;
-use text::write::{put_byte, put_count, put_double, put_single, put_word};
+use text::write::{put_byte, put_count, put_real, put_word};
 
 // What a word is in the session language: a value's bits, a time's bits, or the same word.
 #[derive(Clone, Copy)]
@@ -30,42 +32,37 @@ pub enum Tail {
 
 // The words behind a call's name: so many of a kind, then the last ones.
 #[derive(Clone, Copy)]
-pub enum Form {
-    Is { kind: Kind, many: usize, tail: Tail },
-    Unknown,
+pub struct Form {
+    pub kind: Kind,
+    pub many: usize,
+    pub tail: Tail,
 }
 
-// The places of the next word, or that none is left.
+// A word by its places in the line.
 #[derive(Clone, Copy)]
-pub enum Next {
-    Word { from: usize, to: usize },
-    End,
-}
-
-// The place behind what was written.
-#[derive(Clone, Copy)]
-pub enum Field {
-    To(usize),
-    Unread,
+pub struct Span {
+    pub from: usize,
+    pub to: usize,
 }
 
 // The places behind what was read of a line, and behind what was written.
 #[derive(Clone, Copy)]
-pub enum Told {
-    At { next: usize, to: usize },
-    Unread,
+pub struct Told {
+    pub next: usize,
+    pub to: usize,
 }
 
 fn is_blank(c: u8) -> bool
     ensures { result ≡ is_blank c }
 {
-    if c == b' ' {
-        return true;
-    }
-    if c == b'\t' {
-        return true;
-    }
-    c == b'\r'
+    matches!(c, b' ' | b'\t' | b'\r')
+}
+
+// How many characters at the front are blank, or are not.
+fn run(line: &[u8], blank: bool) -> usize
+    ensures { result ≡ prefix_len (λ c. beq (is_blank c) blank) line.now }
+{
+    line.iter().take_while(|c| is_blank(**c) == blank).count()
 }
 
 // The first place from `at` on that is no blank, or that is one.
@@ -73,15 +70,7 @@ fn past(line: &[u8], at: usize, blank: bool) -> usize
     requires { at ≤ length line.now }
     ensures { (result ≡ at + run_of blank (drop at line.now)) × (at ≤ result) × (result ≤ length line.now) }
 {
-    let mut i = at;
-    while i < line.len() {
-        if is_blank(line[i]) == blank {
-            i += 1;
-        } else {
-            return i;
-        }
-    }
-    i
+    at + run(&line[at..], blank)
 }
 
 // Whether a word means nothing.
@@ -116,7 +105,7 @@ fn is_small(word: &[u8]) -> bool
 }
 
 // The next word that means something.
-fn next_word(line: &[u8], at: usize) -> Next
+fn next_word(line: &[u8], at: usize) -> Option<Span>
     requires { at ≤ length line.now }
     ensures { (next_at line.now result ≡ first_of (words_at line.now at)) × Behind line.now at result }
 {
@@ -125,11 +114,11 @@ fn next_word(line: &[u8], at: usize) -> Next
         let from = past(line, i, true);
         let to = past(line, from, false);
         if !is_small(&line[from..to]) {
-            return Next::Word { from, to };
+            return Some(Span { from, to });
         }
         i = to;
     }
-    Next::End
+    None
 }
 
 // A word behind a space.
@@ -141,54 +130,46 @@ fn put_spaced(out: &mut [u8], at: usize, word: &[u8]) -> usize
     put_word(out, to, word)
 }
 
-// A word as a field of its kind.
-fn put_field(out: &mut [u8], at: usize, kind: Kind, word: &[u8]) -> Field
+// A word as a field of its kind; the place behind it.
+fn put_field(out: &mut [u8], at: usize, kind: Kind, word: &[u8]) -> Option<usize>
     requires { (0 < length word.now) × (at + 17 * length word.now ≤ length out.old) }
     ensures { Wrote (field_of kind word.now) out.old at result out.new }
 {
     match kind {
         Kind::Value => {
-            let Single::Is(x) = value_in(word) else {
-                return Field::Unread;
-            };
+            let x = value_in(word)?;
             let to = put_byte(out, at, b' ');
-            Field::To(put_single(out, to, x))
+            Some(put_real(out, to, x))
         }
         Kind::Time => {
-            let Double::Is(x) = time_in(word) else {
-                return Field::Unread;
-            };
+            let x = time_in(word)?;
             let to = put_byte(out, at, b' ');
-            Field::To(put_double(out, to, x))
+            Some(put_real(out, to, x))
         }
-        Kind::AsItIs => Field::To(put_spaced(out, at, word)),
+        Kind::AsItIs => Some(put_spaced(out, at, word)),
     }
 }
 
 // n words of a kind.
-fn put_fields(out: &mut [u8], at: usize, kind: Kind, n: usize, line: &[u8], from: usize) -> Told
+fn put_fields(
+    out: &mut [u8],
+    at: usize,
+    kind: Kind,
+    n: usize,
+    line: &[u8],
+    from: usize,
+) -> Option<Told>
     requires { (from ≤ length line.now) × (at + 17 * (length line.now - from) ≤ length out.old) }
     ensures { Ran line.now (fields kind n (words_at line.now from)) out.old at result out.new × Passed line.now from at result }
 {
     let mut next = from;
     let mut to = at;
-    let mut i = 0;
-    while i < n {
-        let Next::Word {
-            from: begin,
-            to: end,
-        } = next_word(line, next)
-        else {
-            return Told::Unread;
-        };
-        let Field::To(put) = put_field(out, to, kind, &line[begin..end]) else {
-            return Told::Unread;
-        };
-        to = put;
-        next = end;
-        i += 1;
+    for _i in 0..n {
+        let word = next_word(line, next)?;
+        to = put_field(out, to, kind, &line[word.from..word.to])?;
+        next = word.to;
     }
-    Told::At { next, to }
+    Some(Told { next, to })
 }
 
 // How many words are left.
@@ -198,17 +179,15 @@ fn count_words(line: &[u8], at: usize) -> usize
 {
     let mut next = at;
     let mut n = 0;
-    loop {
-        let Next::Word { from: _, to } = next_word(line, next) else {
-            return n;
-        };
-        next = to;
+    while let Some(word) = next_word(line, next) {
+        next = word.to;
         n += 1;
     }
+    n
 }
 
 // How many words are left, and they as values.
-fn put_numbers(out: &mut [u8], at: usize, line: &[u8], from: usize) -> Told
+fn put_numbers(out: &mut [u8], at: usize, line: &[u8], from: usize) -> Option<Told>
     requires { (from ≤ length line.now) × (at + 21 + 17 * (length line.now - from) ≤ length out.old) }
     ensures { Ran line.now (numbers (words_at line.now from)) out.old at result out.new × Inside line.now out.old result }
 {
@@ -224,75 +203,61 @@ fn put_length(out: &mut [u8], at: usize, count: &[u8]) -> usize
     ensures { Put out.old at (spaced (length_for count.now)) out.new result }
 {
     match count_in(count) {
-        Number::Is(n) => {
+        Some(n) => {
             if n <= 4096 {
                 put_spaced(out, at, count)
             } else {
                 put_spaced(out, at, b"4096")
             }
         }
-        Number::Unread => put_spaced(out, at, count),
+        None => put_spaced(out, at, count),
     }
 }
 
 // A block's count, the length of its output, and its input.
-fn put_block(out: &mut [u8], at: usize, line: &[u8], from: usize) -> Told
+fn put_block(out: &mut [u8], at: usize, line: &[u8], from: usize) -> Option<Told>
     requires { (from ≤ length line.now) × (at + 21 + 17 * (length line.now - from) ≤ length out.old) }
     ensures { Ran line.now (block_fields (words_at line.now from)) out.old at result out.new × Inside line.now out.old result }
 {
-    let Next::Word {
-        from: begin,
-        to: end,
-    } = next_word(line, from)
-    else {
-        return Told::Unread;
-    };
-    let to = put_spaced(out, at, &line[begin..end]);
-    match next_word(line, end) {
-        Next::Word {
-            from: first,
-            to: last,
-        } => {
-            let to = put_spaced(out, to, &line[first..last]);
-            put_numbers(out, to, line, last)
+    let count = next_word(line, from)?;
+    let word = &line[count.from..count.to];
+    let to = put_spaced(out, at, word);
+    match next_word(line, count.to) {
+        Some(output) => {
+            let to = put_spaced(out, to, &line[output.from..output.to]);
+            put_numbers(out, to, line, output.to)
         }
-        Next::End => {
-            let to = put_length(out, to, &line[begin..end]);
-            put_numbers(out, to, line, end)
+        None => {
+            let to = put_length(out, to, word);
+            put_numbers(out, to, line, count.to)
         }
     }
 }
 
 // What may stand behind a rate: `edition` and its number.
-fn put_edition(out: &mut [u8], at: usize, line: &[u8], from: usize) -> Told
+fn put_edition(out: &mut [u8], at: usize, line: &[u8], from: usize) -> Option<Told>
     requires { (from ≤ length line.now) × (at + 17 * (length line.now - from) ≤ length out.old) }
     ensures { Ran line.now (edition_fields (words_at line.now from)) out.old at result out.new × Inside line.now out.old result }
 {
-    let Next::Word {
-        from: begin,
-        to: end,
-    } = next_word(line, from)
-    else {
-        return Told::At { next: from, to: at };
+    let Some(word) = next_word(line, from) else {
+        return Some(Told { next: from, to: at });
     };
-    if !same(&line[begin..end], b"edition") {
-        return Told::Unread;
+    if !same(&line[word.from..word.to], b"edition") {
+        return None;
     }
-    put_fields(out, at, Kind::AsItIs, 1, line, end)
+    put_fields(out, at, Kind::AsItIs, 1, line, word.to)
 }
 
 // A rate, and what may stand behind it.
-fn put_made(out: &mut [u8], at: usize, line: &[u8], from: usize) -> Told
+fn put_made(out: &mut [u8], at: usize, line: &[u8], from: usize) -> Option<Told>
     requires { (from ≤ length line.now) × (at + 17 * (length line.now - from) ≤ length out.old) }
     ensures { Ran line.now (made_fields (words_at line.now from)) out.old at result out.new × Inside line.now out.old result }
 {
-    let Told::At { next, to } = put_fields(out, at, Kind::AsItIs, 1, line, from) else {
-        return Told::Unread;
-    };
-    put_edition(out, to, line, next)
+    let told = put_fields(out, at, Kind::AsItIs, 1, line, from)?;
+    put_edition(out, told.to, line, told.next)
 }
 
-fn put_tail(out: &mut [u8], at: usize, tail: Tail, line: &[u8], from: usize) -> Told
+fn put_tail(out: &mut [u8], at: usize, tail: Tail, line: &[u8], from: usize) -> Option<Told>
     requires { (from ≤ length line.now) × (at + 21 + 17 * (length line.now - from) ≤ length out.old) }
     ensures { Ran line.now (tail_of tail (words_at line.now from)) out.old at result out.new × Inside line.now out.old result }
 {
@@ -305,31 +270,28 @@ fn put_tail(out: &mut [u8], at: usize, tail: Tail, line: &[u8], from: usize) -> 
 }
 
 // What stands behind a call's name.
-fn put_form(out: &mut [u8], at: usize, form: Form, line: &[u8], from: usize) -> Told
+fn put_form(out: &mut [u8], at: usize, form: Form, line: &[u8], from: usize) -> Option<Told>
     requires { (from ≤ length line.now) × (at + 21 + 17 * (length line.now - from) ≤ length out.old) }
     ensures { Ran line.now (formed form (words_at line.now from)) out.old at result out.new × Inside line.now out.old result }
 {
-    let Form::Is { kind, many, tail } = form else {
-        return Told::Unread;
-    };
-    let Told::At { next, to } = put_fields(out, at, kind, many, line, from) else {
-        return Told::Unread;
-    };
-    put_tail(out, to, tail, line, next)
+    let told = put_fields(out, at, form.kind, form.many, line, from)?;
+    put_tail(out, told.to, form.tail, line, told.next)
 }
 
-fn two_kinds(kind: Kind, many: usize, last: Kind, more: usize) -> Form
-    ensures { result ≡ Form.Is kind many (Tail.Fields last more) }
+fn call_form(kind: Kind, many: usize, tail: Tail) -> Option<Form>
+    ensures { result ≡ Some (form kind many tail) }
 {
-    Form::Is {
-        kind,
-        many,
-        tail: Tail::Fields(last, more),
-    }
+    Some(Form { kind, many, tail })
+}
+
+fn two_kinds(kind: Kind, many: usize, last: Kind, more: usize) -> Option<Form>
+    ensures { result ≡ Some (form kind many (Tail.Fields last more)) }
+{
+    call_form(kind, many, Tail::Fields(last, more))
 }
 
 // The calls that change the waiting events.
-fn scheduling_form(word: &[u8]) -> Form
+fn scheduling_form(word: &[u8]) -> Option<Form>
     ensures { result ≡ form_in scheduling word.now }
 {
     if same(word, b"set") {
@@ -348,11 +310,7 @@ fn scheduling_form(word: &[u8]) -> Form
         return two_kinds(Kind::Value, 1, Kind::Time, 2);
     }
     if same(word, b"curve") {
-        return Form::Is {
-            kind: Kind::Time,
-            many: 2,
-            tail: Tail::Numbers,
-        };
+        return call_form(Kind::Time, 2, Tail::Numbers);
     }
     if same(word, b"cancel") {
         return two_kinds(Kind::Time, 1, Kind::AsItIs, 0);
@@ -360,32 +318,20 @@ fn scheduling_form(word: &[u8]) -> Form
     if same(word, b"hold") {
         return two_kinds(Kind::Time, 1, Kind::AsItIs, 0);
     }
-    Form::Unknown
+    None
 }
 
-fn form_of(word: &[u8]) -> Form
+fn form_of(word: &[u8]) -> Option<Form>
     ensures { result ≡ form_in rows word.now }
 {
     if same(word, b"make") {
-        return Form::Is {
-            kind: Kind::Value,
-            many: 3,
-            tail: Tail::Made,
-        };
+        return call_form(Kind::Value, 3, Tail::Made);
     }
     if same(word, b"block") {
-        return Form::Is {
-            kind: Kind::Time,
-            many: 2,
-            tail: Tail::Block,
-        };
+        return call_form(Kind::Time, 2, Tail::Block);
     }
     if same(word, b"plain") {
-        return Form::Is {
-            kind: Kind::Time,
-            many: 2,
-            tail: Tail::Block,
-        };
+        return call_form(Kind::Time, 2, Tail::Block);
     }
     if same(word, b"state") {
         return two_kinds(Kind::AsItIs, 0, Kind::AsItIs, 0);
@@ -403,26 +349,25 @@ fn form_of(word: &[u8]) -> Form
 }
 
 // A line without its comment. One without words is empty in the session language.
-fn put_call(out: &mut [u8], line: &[u8]) -> Field
+fn put_call(out: &mut [u8], line: &[u8]) -> Option<usize>
     requires { 21 + 17 * length line.now ≤ length out.old }
     ensures { Wrote (translated (words_at line.now 0)) out.old 0 result out.new × Room out.old result }
 {
-    let Next::Word { from, to } = next_word(line, 0) else {
-        return Field::To(0);
+    let Some(name) = next_word(line, 0) else {
+        return Some(0);
     };
-    let put = put_word(out, 0, &line[from..to]);
-    let form = form_of(&line[from..to]);
-    let Told::At { next, to: put } = put_form(out, put, form, line, to) else {
-        return Field::Unread;
-    };
-    match next_word(line, next) {
-        Next::Word { from: _, to: _ } => Field::Unread,
-        Next::End => Field::To(put),
+    let word = &line[name.from..name.to];
+    let put = put_word(out, 0, word);
+    let form = form_of(word)?;
+    let told = put_form(out, put, form, line, name.to)?;
+    match next_word(line, told.next) {
+        Some(_) => None,
+        None => Some(told.to),
     }
 }
 
-// The line in the session language.
-pub fn translate(out: &mut [u8], line: &[u8]) -> Field
+// The line in the session language; how long it is, or none where it says nothing.
+pub fn translate(out: &mut [u8], line: &[u8]) -> Option<usize>
     requires { 21 + 17 * length line.now ≤ length out.old }
     ensures { Wrote (translation line.now) out.old 0 result out.new × Room out.old result }
 {

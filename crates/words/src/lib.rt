@@ -5,30 +5,32 @@ ghost use Rattle.std.specs.Prelude.{◌≡◌, ◌+◌, ◌≤◌, length};
 ghost use Rattle.text.specs.Put.{Put};
 ghost use Rattle.words.specs.Words.{single_in, double_in, SingleBits, DoubleBits, bytes_of, word_at, single_at, double_at, single_bytes, double_bytes};
 
+use text::real::Real;
+
 // ---- floats as numbers
 
 pub fn single_bits(x: f32) -> u64
     ensures { SingleBits x result }
 {
-    text::write::single_bits(x) as u64
+    x.bits()
 }
 
 pub fn double_bits(x: f64) -> u64
     ensures { DoubleBits x result }
 {
-    text::write::double_bits(x)
+    x.bits()
 }
 
 pub fn single_in(word: u64) -> f32
     ensures { result ≡ single_in word }
 {
-    text::read::single_of((word % 0x1_0000_0000) as u32)
+    f32::of_bits(word)
 }
 
 pub fn double_in(word: u64) -> f64
     ensures { result ≡ double_in word }
 {
-    text::read::double_of(word)
+    f64::of_bits(word)
 }
 
 // ---- read from bytes

@@ -7,6 +7,6 @@ use Rattle.answers.proofs.put_bounds.Goals as goal
 pub returns : goal.returns
 unfolding bounds_text
 returns c = record {
-  put = put_then c.put_single_behind-next.ensures.put (put_then c.put_single_behind-next-2.ensures.put c.put_single_behind.ensures.put (omega arith)) (omega arith);
+  put = put_then c.put_real_behind-next.ensures.put (put_then c.put_real_behind-next-2.ensures.put c.put_real_behind.ensures.put (omega arith)) (omega arith);
   upper_bound = omega arith;
 }

@@ -15,6 +15,6 @@ returns-in-None c = record {
 pub returns-in-Some : goal.returns-in-Some
 unfolding end_text
 returns-in-Some c = record {
-  put = put_same (ap end_text (sym c.in-Some.is)) c.put_double_behind.ensures.put;
+  put = put_same (ap end_text (sym c.in-Some.is)) c.put_real_behind.ensures.put;
   upper_bound = omega arith;
 }

@@ -15,6 +15,6 @@ returns-in-None c = record {
 pub returns-in-Some : goal.returns-in-Some
 unfolding last_text
 returns-in-Some c = record {
-  put = put_same (ap last_text (sym c.in-Some.is)) (put_then c.put_double_behind-next.ensures.put c.put_single_behind.ensures.put (omega arith));
+  put = put_same (ap last_text (sym c.in-Some.is)) (put_then c.put_real_behind-next.ensures.put c.put_real_behind.ensures.put (omega arith));
   upper_bound = omega arith;
 }

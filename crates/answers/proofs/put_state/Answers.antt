@@ -12,7 +12,7 @@ returns c =
       put = put_then c.put_word-next.ensures
           (put_then c.put_kind-next.ensures.put
           (put_then c.put_bounds-next.ensures.put
-          (put_then c.put_single_behind-next.ensures.put
+          (put_then c.put_real_behind-next.ensures.put
           (put_then c.put_span-next.ensures.put
           (put_then c.put_last-next.ensures.put c.put_count_behind.ensures.put
           (omega (arith, room))) (omega (arith, room))) (omega (arith, room))) (omega (arith, room))) (omega (arith, room))) (omega (arith, room));

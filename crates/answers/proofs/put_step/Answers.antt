@@ -7,6 +7,6 @@ use Rattle.answers.proofs.put_step.Goals as goal
 pub returns : goal.returns
 unfolding step_text
 returns c = record {
-  put = put_then c.put_single_behind-next.ensures.put c.put_double_behind.ensures.put (omega arith);
+  put = put_then c.put_real_behind-next.ensures.put c.put_real_behind.ensures.put (omega arith);
   upper_bound = omega arith;
 }

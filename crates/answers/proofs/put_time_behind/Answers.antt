@@ -11,7 +11,7 @@ use Rattle.answers.proofs.put_time_behind.Goals as goal
 pub returns-in-Some : goal.returns-in-Some
 unfolding time_text
 returns-in-Some c = record {
-  put = put_same (ap (λ (m : Option Float). c.args.mark ∷ time_text m) (sym c.in-Some.is)) c.put_double_behind.ensures.put;
+  put = put_same (ap (λ (m : Option Float). c.args.mark ∷ time_text m) (sym c.in-Some.is)) c.put_real_behind.ensures.put;
   upper_bound = omega arith;
 }
 

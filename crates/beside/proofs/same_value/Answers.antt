@@ -8,5 +8,5 @@ use Rattle.beside.proofs.same_value.Goals as goal
 pub returns : goal.returns
 unfolding same_value
 returns c =
-    let same = ap₂ eqb c.single_bits.ensures c.single_bits-2.ensures in
+    let same = ap₂ eqb c.bits.ensures.is c.bits-2.ensures.is in
     record { is = same; one = λ e. same_one c.well_formed.0.1 c.well_formed.1.0.1 (sym same ∙ e) }

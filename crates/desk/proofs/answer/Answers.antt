@@ -4,7 +4,7 @@ use Prim.Native.Nat.{ℕ, ◌<◌}
 use native.Mathlib.Omega.{arith}
 use lib.Seq.{length-take-le}
 use Rattle.text.proofs.Writing.{put-nothing}
-use Rattle.desk.specs.Desk.{InRange, unread, answer_of}
+use Rattle.desk.specs.Desk.{InRange, answer_of}
 use Rattle.desk.proofs.Turns.{said, by_call, ranged, is_scheduling-others}
 use Rattle.desk.proofs.answer.Goals as goal
 
@@ -51,18 +51,12 @@ load-requires c =
 
 pub answer_scheduling-requires : goal.answer_scheduling-requires
 answer_scheduling-requires c =
-    (c.requires.0, c.requires.1, is_scheduling-others c.args.call c.in_default.not-Nothing c.in_default.not-Unread c.in_default.not-Make c.in_default.not-Block c.in_default.not-Lend c.in_default.not-Poke c.in_default.not-State c.in_default.not-Save c.in_default.not-Load, c.requires.2, c.requires.4, c.requires.5)
+    (c.requires.0, c.requires.1, is_scheduling-others c.args.call c.in_default.not-Nothing c.in_default.not-Make c.in_default.not-Block c.in_default.not-Lend c.in_default.not-Poke c.in_default.not-State c.in_default.not-Save c.in_default.not-Load, c.requires.2, c.requires.4, c.requires.5)
 
 pub returns-in-Nothing : goal.returns-in-Nothing
 unfolding answer_of
 returns-in-Nothing c =
     by_call c.args.numbers.now c.args.file.now c.in-Nothing.is (said _ _ _ c.args.desk.lent _ _ c.requires.0 refl c.requires.0.lent refl (put-nothing _ _) (omega arith))
-
-pub returns-in-Unread : goal.returns-in-Unread
-unfolding answer_of unread
-returns-in-Unread c =
-    by_call c.args.numbers.now c.args.file.now c.in-Unread.is
-    (said _ _ _ c.args.desk.lent _ _ c.requires.0 c.word.ensures.0 c.requires.0.lent refl c.word.ensures.1 (omega arith))
 
 pub returns-in-Make : goal.returns-in-Make
 unfolding answer_of

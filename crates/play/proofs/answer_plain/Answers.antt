@@ -7,17 +7,17 @@ use Rattle.play.proofs.answer_plain.Goals as goal
 
 pub returns-in_default : goal.returns-in_default
 returns-in_default c =
-    spoken-same (no_translation _ _ (wrote_unread _ _ _ _ c.translate.ensures.0 c.in_default.is)) (c.answer_not_read.ensures _)
+    spoken-same (no_translation _ _ (wrote_unread _ _ _ _ c.in_default.ensures.0)) (c.answer_not_read.ensures _)
 
 pub slice_bounds-answer_read-end : goal.slice_bounds-answer_read-end
 slice_bounds-answer_read-end c =
-    omega (arith, room_to _ c.translate.ensures.1 c.in-To.is, c.translate.auto.out)
+    omega (arith, room_to _ _ c.in-Some.ensures.1, c.translate.auto.out)
 
 pub slice_bounds-answer_read-end-2 : goal.slice_bounds-answer_read-end-2
 slice_bounds-answer_read-end-2 c =
-    sym (length-take-le _ _ (omega (arith, room_to _ c.translate.ensures.1 c.in-To.is, c.translate.auto.out)))
+    sym (length-take-le _ _ (omega (arith, room_to _ _ c.in-Some.ensures.1, c.translate.auto.out)))
 
 pub returns : goal.returns
 returns c =
-    let v = wrote_to c.translate.ensures.0 c.in-To.is in
-    spoken-same (a_translation _ _ v.1 (written_is v.2 (room_to _ c.translate.ensures.1 c.in-To.is))) c.answer_read.ensures
+    let v = wrote_to _ c.in-Some.ensures.0 in
+    spoken-same (a_translation _ _ v.1 (written_is v.2 (room_to _ _ c.in-Some.ensures.1))) c.answer_read.ensures

@@ -18,12 +18,12 @@ returns-then-not-same c = record {
 
 pub returns-in_default : goal.returns-in_default
 returns-in_default c = record {
-  put = put_same (sym (no_number _ _ c.word_end-end.ensures.0 (sym c.same.ensures ∙ c.if-not-same.false) _ c.next_count.ensures c.in_default.is)) (put-nothing _ _);
+  put = put_same (sym (no_number _ _ c.word_end-end.ensures.0 (sym c.same.ensures ∙ c.if-not-same.false) c.in_default.ensures)) (put-nothing _ _);
   upper_bound = omega arith;
 }
 
 pub returns : goal.returns
 returns c = record {
-  put = put_same (sym (a_number _ _ c.word_end-end.ensures.0 (sym c.same.ensures ∙ c.if-not-same.false) _ c.next_count.ensures c.in-Is.is)) c.put_meaning.ensures.0;
+  put = put_same (sym (a_number _ _ c.word_end-end.ensures.0 (sym c.same.ensures ∙ c.if-not-same.false) c.in-Some.ensures)) c.put_meaning.ensures.0;
   upper_bound = c.put_meaning.ensures.1;
 }

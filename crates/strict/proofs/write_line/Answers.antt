@@ -7,7 +7,7 @@ use borrow.Author.Rules.{rules}
 use Rattle.strict.proofs.write_line.Goals as goal
 
 pub slice_bounds-write_all-end : goal.slice_bounds-write_all-end
-slice_bounds-write_all-end c = le_trans (room_to _ c.translate.ensures.1 c.in-To.is) (le_of_eq (search rules))
+slice_bounds-write_all-end c = le_trans (room_to _ _ c.in-Some.ensures.1) (le_of_eq (search rules))
 
-pub slice_bounds-write_all-end-in-To : goal.slice_bounds-write_all-end-in-To
-slice_bounds-write_all-end-in-To c = sym (length-take-le _ _ (le_trans (room_to _ c.translate.ensures.1 c.in-To.is) (le_of_eq (search rules))))
+pub slice_bounds-write_all-end-in-Some : goal.slice_bounds-write_all-end-in-Some
+slice_bounds-write_all-end-in-Some c = sym (length-take-le _ _ (le_trans (room_to _ _ c.in-Some.ensures.1) (le_of_eq (search rules))))

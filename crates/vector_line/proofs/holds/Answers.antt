@@ -1,11 +1,7 @@
 -- `vector_line::holds` meets its contract: by the letter. Assumes nothing.
-use mathlib.Core.Path.{◌≡◌, refl, sym, ap, ◌∙◌}
-use mathlib.Core.Bool.{Bool, true, false, cond}
-use mathlib.Core.List.{List}
-use Prim.Native.Nat.{ℕ}
-use lib.Dec.{eqb}
+use Rattle.std.proofs.Common.{◌≡◌, refl, sym, ap, ◌∙◌, Bool, false, cond, List, ℕ, eqb, arith}
 use lib.ListN.{get_or}
-use borrow.Author.Tests.{eq-eqb, ne_eqb}
+use borrow.Author.Tests.{ne_eqb}
 use Rattle.vector_line.specs.Line.{number_at, narrows_to, fuses32_to, fuses64_to, holds}
 use Rattle.vector_line.proofs.holds.Goals as goal
 
@@ -17,30 +13,32 @@ module _ (s : List ℕ) where
       (cond f (fuses32_to (number_at s 2) (number_at s 19) (number_at s 36) (number_at s 53))
       (cond d (fuses64_to (number_at s 2) (number_at s 19) (number_at s 36) (number_at s 53)) false))
 
-  tests : (n f d : Bool) → eqb (get_or s 0 0) 110 ≡ n → eqb (get_or s 0 0) 102 ≡ f → eqb (get_or s 0 0) 100 ≡ d → holds s ≡ rest n f d
+  by_letter : holds s ≡ rest (eqb (get_or s 0 0) 110) (eqb (get_or s 0 0) 102) (eqb (get_or s 0 0) 100)
   unfolding holds
-  tests n f d p q r =
-      ap (λ (i : Bool). rest i (eqb (get_or s 0 0) 102) (eqb (get_or s 0 0) 100)) p ∙ ap (λ (i : Bool). rest n i (eqb (get_or s 0 0) 100)) q ∙ ap (λ (i : Bool). rest n f i) r
+  by_letter = refl
 
-pub returns-then-op-eq110 : goal.returns-then-op-eq110
-returns-then-op-eq110 c =
-    let s = c.args.s.now in
-    let h = tests s true (eqb (get_or s 0 0) 102) (eqb (get_or s 0 0) 100) (eq-eqb (get_or s 0 0) 110 c.if-op-eq110.true) refl refl in
+  with_letter : (c : ℕ) → get_or s 0 0 ≡ c → holds s ≡ rest (eqb c 110) (eqb c 102) (eqb c 100)
+  with_letter c e = by_letter ∙ ap (λ (k : ℕ). rest (eqb k 110) (eqb k 102) (eqb k 100)) e
+
+  no_letter : (get_or s 0 0 ≡ 110 → ⊥) → (get_or s 0 0 ≡ 102 → ⊥) → (get_or s 0 0 ≡ 100 → ⊥) → holds s ≡ false
+  no_letter n f d = by_letter ∙ rw (ne_eqb (get_or s 0 0) 110 n, ne_eqb (get_or s 0 0) 102 f, ne_eqb (get_or s 0 0) 100 d)
+
+pub returns-in-110 : goal.returns-in-110
+returns-in-110 c =
+    let h = with_letter c.args.s.now 110 c.in-110.is in
     cc
 
-pub returns-then-op-eq102 : goal.returns-then-op-eq102
-returns-then-op-eq102 c =
-    let s = c.args.s.now in
-    let h = tests s false true (eqb (get_or s 0 0) 100) (ne_eqb (get_or s 0 0) 110 c.if-op-eq110.false) (eq-eqb (get_or s 0 0) 102 c.if-op-eq102.true) refl in
+pub returns-in-102 : goal.returns-in-102
+returns-in-102 c =
+    let h = with_letter c.args.s.now 102 c.in-102.is in
     cc
 
-pub returns-then-op-eq100 : goal.returns-then-op-eq100
-returns-then-op-eq100 c =
-    let s = c.args.s.now in
-    let h = tests s false false true (ne_eqb (get_or s 0 0) 110 c.if-op-eq110.false) (ne_eqb (get_or s 0 0) 102 c.if-op-eq102.false) (eq-eqb (get_or s 0 0) 100 c.if-op-eq100.true) in
+pub returns-in-100 : goal.returns-in-100
+returns-in-100 c =
+    let h = with_letter c.args.s.now 100 c.in-100.is in
     cc
 
-pub returns-else-op-eq100 : goal.returns-else-op-eq100
-returns-else-op-eq100 c =
-    let s = c.args.s.now in
-    sym (tests s false false false (ne_eqb (get_or s 0 0) 110 c.if-op-eq110.false) (ne_eqb (get_or s 0 0) 102 c.if-op-eq102.false) (ne_eqb (get_or s 0 0) 100 c.if-op-eq100.false))
+pub returns-in_default : goal.returns-in_default
+returns-in_default c =
+    let x = get_or c.args.s.now 0 0 in
+    sym (no_letter c.args.s.now (grind arith) (grind arith) (grind arith))

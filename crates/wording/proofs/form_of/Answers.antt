@@ -8,19 +8,23 @@ use Rattle.wording.proofs.form_of.Goals.{Else-same-7}
 
 pub returns-then-same : goal.returns-then-same
 unfolding rows scheduling
-returns-then-same c = sym (row_is _ _ _ _ (sym c.same.ensures ∙ c.if-same.true))
+returns-then-same c =
+    c.call_form.ensures
+    ∙ sym (row_is _ _ _ _ (sym c.same.ensures ∙ c.if-same.true))
 
 pub returns-then-same-2 : goal.returns-then-same-2
 unfolding rows scheduling
 returns-then-same-2 c =
-    sym
+    c.call_form-then-same-2.ensures
+    ∙ sym
     (row_not _ _ _ _ (sym c.same.ensures ∙ c.if-same.false)
     ∙ row_is _ _ _ _ (sym c.same-2.ensures ∙ c.if-same-2.true))
 
 pub returns-then-same-3 : goal.returns-then-same-3
 unfolding rows scheduling
 returns-then-same-3 c =
-    sym
+    c.call_form-then-same-3.ensures
+    ∙ sym
     (row_not _ _ _ _ (sym c.same.ensures ∙ c.if-same.false)
     ∙ row_not _ _ _ _ (sym c.same-2.ensures ∙ c.if-same-2.false)
     ∙ row_is _ _ _ _ (sym c.same-3.ensures ∙ c.if-same-3.true))

@@ -1,16 +1,20 @@
 -- `wording::is_blank` meets its contract: by the three characters. Assumes nothing.
-use borrow.Author.Tests.{eq-eqb, ne_eqb}
+use Rattle.std.proofs.Common.{◌≡◌, ◌⊎◌, inl, inr, ℕ, true, refl, sym, ap, ◌∙◌, arith}
+use borrow.Author.Tests.{ne_eqb}
 use Rattle.wording.specs.Plain.{is_blank}
 use Rattle.wording.proofs.is_blank.Goals as goal
 
-pub returns-then-c-eq32 : goal.returns-then-c-eq32
-unfolding is_blank
-returns-then-c-eq32 c = rw (eq-eqb _ 32 c.if-c-eq32.true)
+a_blank : {c x y z : ℕ} → (c ≡ x) ⊎ ((c ≡ y) ⊎ (c ≡ z)) → is_blank x ≡ true → is_blank y ≡ true → is_blank z ≡ true → true ≡ is_blank c
+a_blank (inl e) p q r = sym (ap is_blank e ∙ p)
+a_blank (inr (inl e)) p q r = sym (ap is_blank e ∙ q)
+a_blank (inr (inr e)) p q r = sym (ap is_blank e ∙ r)
 
-pub returns-then-c-eq9 : goal.returns-then-c-eq9
+pub returns-in-32 : goal.returns-in-32
 unfolding is_blank
-returns-then-c-eq9 c = rw (ne_eqb _ 32 c.if-c-eq32.false, eq-eqb _ 9 c.if-c-eq9.true)
+returns-in-32 c = a_blank c.in-32.is refl refl refl
 
-pub returns : goal.returns
+pub returns-in_default : goal.returns-in_default
 unfolding is_blank
-returns c = rw (ne_eqb _ 32 c.if-c-eq32.false, ne_eqb _ 9 c.if-c-eq9.false)
+returns-in_default c =
+    let x = c.args.c in
+    rw (ne_eqb x 32 (grind arith), ne_eqb x 9 (grind arith), ne_eqb x 13 (grind arith)) refl

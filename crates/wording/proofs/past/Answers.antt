@@ -1,21 +1,23 @@
--- `wording::past` meets its contract. The invariant of its loop: the run ends where the rest of it does. Assumes nothing.
-use mathlib.Core.Path.{◌∙◌}
-use native.Mathlib.Omega.{arith}
-use Rattle.wording.proofs.Blanks.{goes_on, ends, ends_last}
-use borrow.Author.Rules.{rules}
+-- `wording::past` meets its contract: by the run behind the place. Assumes nothing.
+use Rattle.std.proofs.Common.{◌≡◌, ℕ, ◌+◌, ap, ◌∙◌, arith, drop, length-drop}
+use borrow.Author.Rules.{part_to_end}
+use Rattle.wording.specs.Walked.{run_of}
+use Rattle.wording.proofs.Blanks.{run_is, run_le}
 use Rattle.wording.proofs.past.Goals as goal
+use Rattle.wording.proofs.past.Goals.{After-run}
 
-pub loop-i-preserved : goal.loop-i-preserved
-loop-i-preserved c =
-    let l = c.loop-i in
-    (search rules, search rules, l.invariant.2 ∙ omega (arith, goes_on c.args.blank c.args.line.now l.i c.loop-i-test.true c.is_blank.result c.is_blank.ensures c.if-is_blank-blank.true))
+run : (c : After-run) → c.run.result ≡ run_of c.args.blank (drop c.args.at c.args.line.now)
+run c = c.run.ensures ∙ rw (part_to_end c.args.line.now c.args.at) (run_is c.args.blank (drop c.args.at c.args.line.now))
 
-pub returns-else-is_blank-blank : goal.returns-else-is_blank-blank
-returns-else-is_blank-blank c =
-    let l = c.loop-i in
-    (omega (arith, ends c.args.blank c.args.line.now l.i c.loop-i-test.true c.is_blank.result c.is_blank.ensures c.if-is_blank-blank.false), search rules, search rules)
+pub overflow_add-result : goal.overflow_add-result
+overflow_add-result c =
+    let s = c.args.line.now in
+    let at = c.args.at in
+    omega (arith, run c, run_le c.args.blank (drop at s), length-drop at s)
 
 pub returns : goal.returns
 returns c =
-    let l = c.loop-i in
-    (omega (arith, ends_last c.args.blank c.args.line.now l.i c.loop-i-test.false), search rules, search rules)
+    let s = c.args.line.now in
+    let at = c.args.at in
+    let e = run (goal.at.returns c).After-run in
+    (ap (λ (k : ℕ). at + k) e, omega arith, omega (arith, run_le c.args.blank (drop at s), length-drop at s))

@@ -9,8 +9,5 @@ use Rattle.wording.proofs.put_fields.Given as goal
 
 abbrev pub invariant-loop-i : goal.invariant-loop-i
 invariant-loop-i l =
-    (l.i ≤ l.n) × (l.next ≤ length l.line) × (length l.out ≡ length l.initial.out) × (l.to + 17 * (length l.line - l.next) ≤ l.at + 17 * (length l.line - l.from))
-    × ((t : List ℕ) × (fields l.kind l.n (words_at l.line l.from) ≡ in_front t (fields l.kind (l.n - l.i) (words_at l.line l.next))) × Put l.initial.out l.at t l.out l.to)
-
-abbrev pub decreases-loop-i : goal.decreases-loop-i
-decreases-loop-i l = l.n - l.i
+    (l.next ≤ length l.line) × (length l.out ≡ length l.initial.out) × (l.to + 17 * (length l.line - l.next) ≤ l.at + 17 * (length l.line - l.from))
+    × ((t : List ℕ) × (fields l.kind l.n (words_at l.line l.from) ≡ in_front t (fields l.kind (l.n - l._i) (words_at l.line l.next))) × Put l.initial.out l.at t l.out l.to)

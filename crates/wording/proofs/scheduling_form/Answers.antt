@@ -51,7 +51,8 @@ returns-then-same-5 c =
 pub returns-then-same-6 : goal.returns-then-same-6
 unfolding scheduling
 returns-then-same-6 c =
-    sym
+    c.call_form.ensures
+    ∙ sym
     (row_not _ _ _ _ (sym c.same.ensures ∙ c.if-same.false)
     ∙ row_not _ _ _ _ (sym c.same-2.ensures ∙ c.if-same-2.false)
     ∙ row_not _ _ _ _ (sym c.same-3.ensures ∙ c.if-same-3.false)

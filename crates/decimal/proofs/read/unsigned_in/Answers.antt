@@ -1,12 +1,10 @@
 -- `decimal::read::unsigned_in` meets its contract: the digits up to an `e`, the places behind their point, and the tens. Assumes nothing.
-use Rattle.std.proofs.Common.{◌≡◌, suc, ◌-◌, length, take, drop, sym, refl, ap, ◌∙◌, arith, length-take-le}
-use mathlib.Core.Option.{some}
-use Rattle.text.specs.Floats.{as_double}
-use Rattle.text.proofs.Said.{is_number, no_number}
+use Rattle.std.proofs.Common.{ap, ◌≡◌, suc, ◌-◌, length, take, drop, sym, refl, ◌∙◌, arith, length-take-le}
+use Rattle.std.specs.Prelude.{Some}
 use Rattle.decimal.specs.Decimals.{digits_in, tens_in, scaled, unsigned_in}
 use Rattle.decimal.proofs.Reading.{digits_below, point_is, unsigned_by, scaled-same}
 use Rattle.decimal.proofs.read.unsigned_in.Goals as goal
-use Rattle.decimal.proofs.read.unsigned_in.Goals.{After-find-point, In-Is}
+use Rattle.decimal.proofs.read.unsigned_in.Goals.{After-find-point, In_ok-d}
 
 -- by the places that were found
 parts : (c : After-find-point)
@@ -16,8 +14,8 @@ parts : (c : After-find-point)
 parts c = unsigned_by _ _ _ _ c.find-lower.ensures.0 c.find-end.ensures.0 c.find-point.ensures.0 _
 
 -- with the digits read
-digits : (c : In-Is) → digits_in (take c.find-end.result c.args.word.now) ≡ some c.in-Is.d
-digits c = is_number _ (sym c.digits_in.ensures ∙ c.in-Is.is)
+digits : (c : In_ok-d) → digits_in (take c.find-end.result c.args.word.now) ≡ Some c.in_ok-d.d
+digits c = sym c.in_ok-d.ensures
 
 pub slice_bounds-digits-end : goal.slice_bounds-digits-end
 slice_bounds-digits-end c = sym (length-take-le _ _ (omega arith))
@@ -31,30 +29,31 @@ digits_in-requires c = (
   omega (arith, length-take-le c.find-end.result c.args.word.now (omega arith)),
 )
 
-pub returns-in_default : goal.returns-in_default
-unfolding as_double scaled
-returns-in_default c = sym (ap as_double (parts (goal.at.returns-in_default c).After-find-point ∙ scaled-same _ refl (no_number _ (sym c.digits_in.ensures ∙ c.in_default.is)) refl))
+pub returns-in_err-d : goal.returns-in_err-d
+unfolding scaled
+returns-in_err-d c = c.from_residual.ensures ∙ sym (parts (goal.at.returns-in_err-d c).After-find-point ∙ scaled-same _ refl (sym c.in_err-d.ensures) refl)
 
 pub scaled_by-requires : goal.scaled_by-requires
-scaled_by-requires c = digits_below _ _ (digits (goal.at.scaled_by-requires c).In-Is)
+scaled_by-requires c = digits_below _ _ (digits (goal.at.scaled_by-requires c).In_ok-d)
 
 pub lowered-requires : goal.lowered-requires
-lowered-requires c = digits_below _ _ (digits (goal.at.lowered-requires c).In-Is)
+lowered-requires c = digits_below _ _ (digits (goal.at.lowered-requires c).In_ok-d)
 
 pub returns-in-Up : goal.returns-in-Up
 unfolding scaled
 returns-in-Up c =
     let k = goal.at.returns-in-Up c in
-    c.scaled_by.ensures ∙ sym (ap as_double (parts k.After-find-point ∙ scaled-same _ (sym c.places_behind-places.ensures) (digits k.In-Is) (sym c.tens_in.ensures ∙ c.in-Up.is)))
+    c.scaled_by.ensures ∙ sym (parts k.After-find-point ∙ scaled-same _ (sym c.places_behind-places.ensures) (digits k.In_ok-d) (sym c.in_ok-tens.ensures ∙ ap Some c.in-Up.is))
 
 pub returns-in-Down : goal.returns-in-Down
 unfolding scaled
 returns-in-Down c =
     let k = goal.at.returns-in-Down c in
-    c.lowered.ensures ∙ sym (ap as_double (parts k.After-find-point ∙ scaled-same _ (sym c.places_behind-places.ensures) (digits k.In-Is) (sym c.tens_in.ensures ∙ c.in-Down.is)))
+    c.lowered.ensures ∙ sym (parts k.After-find-point ∙ scaled-same _ (sym c.places_behind-places.ensures) (digits k.In_ok-d) (sym c.in_ok-tens.ensures ∙ ap Some c.in-Down.is))
 
-pub returns-in-Unread : goal.returns-in-Unread
-unfolding as_double scaled
-returns-in-Unread c =
-    let k = goal.at.returns-in-Unread c in
-    sym (ap as_double (parts k.After-find-point ∙ scaled-same _ (sym c.places_behind-places.ensures) (digits k.In-Is) (sym c.tens_in.ensures ∙ c.in-Unread.is)))
+pub returns-in_err-tens : goal.returns-in_err-tens
+unfolding scaled
+returns-in_err-tens c =
+    let k = goal.at.returns-in_err-tens c in
+    c.from_residual-in_err-tens.ensures
+    ∙ sym (parts k.After-find-point ∙ scaled-same _ (sym c.places_behind-places.ensures) (digits k.In_ok-d) (sym c.in_err-tens.ensures))

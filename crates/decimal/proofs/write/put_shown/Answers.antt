@@ -2,7 +2,7 @@
 use Rattle.std.proofs.Common.{sym, ap, arith}
 use Rattle.text.proofs.Writing.{put_same, put_then}
 use Rattle.decimal.specs.Shown.{shown_text}
-use Rattle.decimal.proofs.Written.{put-nothing, length_sign}
+use Rattle.decimal.proofs.Written.{length_sign}
 use Rattle.decimal.proofs.write.put_shown.Goals as goal
 
 pub put_word-requires-in-Infinite : goal.put_word-requires-in-Infinite
@@ -20,7 +20,3 @@ returns-in-Infinite c =
 
 pub returns-in-Decimal : goal.returns-in-Decimal
 returns-in-Decimal c = put_same (ap shown_text (sym c.in-Decimal.is)) c.put_decimal.ensures
-
-pub returns-in-Bits : goal.returns-in-Bits
-unfolding shown_text
-returns-in-Bits c = put_same (ap shown_text (sym c.in-Bits.is)) (put-nothing _ _)

@@ -1,5 +1,4 @@
 -- `text::hex::put_bytes` meets its contract. The invariant of its loop: with the bytes left written behind, all are written. Assumes nothing.
-use mathlib.Core.Path.{◌≡◌}
 use mathlib.Core.List.{List}
 use Prim.Native.Nat.{ℕ, ◌+◌, ◌-◌, ◌*◌, ◌≤◌}
 use lib.ListN.{length, drop}
@@ -7,10 +6,7 @@ use Rattle.text.specs.Put.{Put}
 use Rattle.text.specs.Hex.{bytes_text}
 use Rattle.text.proofs.hex.put_bytes.Given as goal
 
-abbrev pub invariant-loop-i : goal.invariant-loop-i
-invariant-loop-i l =
-    (l.i ≤ length l.bytes) × (length l.out ≡ length l.initial.out) × (l.next + 2 * (length l.bytes - l.i) ≤ length l.initial.out)
-    × ((F : List ℕ) (r : ℕ) → Put l.out l.next (bytes_text (drop l.i l.bytes)) F r → Put l.initial.out l.at (bytes_text l.bytes) F r)
-
-abbrev pub decreases-loop-i : goal.decreases-loop-i
-decreases-loop-i l = length l.bytes - l.i
+abbrev pub invariant-loop-b : goal.invariant-loop-b
+invariant-loop-b l =
+    (l.next + 2 * (length l.bytes - l.b-index) ≤ length l.initial.out)
+    × ((F : List ℕ) (r : ℕ) → Put l.out l.next (bytes_text (drop l.b-index l.bytes)) F r → Put l.initial.out l.at (bytes_text l.bytes) F r)

@@ -2,55 +2,44 @@
 -- Assumes nothing.
 use mathlib.Core.Path.{◌≡◌, sym, ap, ◌∙◌}
 use mathlib.Core.List.{[]}
-use Prim.Native.Nat.{◌+◌, ◌*◌, ◌^◌, ◌<◌}
+use Prim.Native.Nat.{ℕ, ◌+◌, ◌*◌, ◌^◌, ◌≤◌, ◌<◌}
+use native.Mathlib.Nat.{le_trans, le-add_right}
 use native.Mathlib.Omega.{arith}
-use lib.ListN.{drop, drop_of_length-le}
-use borrow.Author.Rules.{rules}
-use Rattle.text.specs.Digits.{number_from, as_number}
-use Rattle.text.proofs.Reading.{at_least_one, no_character, all_read, too_large, fits_still, fits_no_more, turn, stop}
+use lib.ListN.{length, drop, drop_of_length-le}
+use borrow.Author.Tests.{eqb-true, eqb-false}
+use Rattle.text.specs.Digits.{number_from}
+use Rattle.text.proofs.Reading.{at_least_one, no_character, all_read, too_large, turn, stop}
 use Rattle.text.proofs.read.number_in.Goals as goal
-use Rattle.text.proofs.read.number_in.Goals.{Else-d-base}
 
--- the value with one more digit
-next_fits : (c : Else-d-base) → c.loop-i.value * c.args.base + c.digit-d.result < 2 ^ 64
-next_fits c = fits_still _ _ _ (omega arith) (omega arith) c.if-d-base.false
+pub returns-then-is_empty : goal.returns-then-is_empty
+returns-then-is_empty c = sym (no_character _ _ (eqb-true _ _ (sym c.if-is_empty.ensures)))
 
-pub returns-then-word-eq0 : goal.returns-then-word-eq0
-unfolding as_number
-returns-then-word-eq0 c = sym (ap as_number (no_character _ _ c.if-word-eq0.true))
-
-pub loop-i-init : goal.loop-i-init
-loop-i-init c = (search rules, search rules, at_least_one _ _ (omega arith))
+pub loop-c-init : goal.loop-c-init
+loop-c-init c = let some-char : 0 < length c.args.word.now = omega (arith, eqb-false _ _ (sym c.if-is_empty.ensures)) in (omega arith, at_least_one _ _ some-char)
 
 pub returns-then-base-d : goal.returns-then-base-d
-unfolding as_number
-returns-then-base-d c =
-    let l = c.loop-i in
-    sym (ap as_number (l.invariant.2 ∙ stop _ _ _ _ _ c.loop-i-test.true c.digit-d.ensures c.if-base-d.true))
+returns-then-base-d c = sym (c.loop-c.invariant.1 ∙ stop _ _ _ _ _ c.loop-c-test.true c.digit-d.ensures c.if-base-d.true)
 
-pub returns-then-d-base : goal.returns-then-d-base
-unfolding as_number
-returns-then-d-base c =
-    let a = c.args in
-    let l = c.loop-i in
-    sym (ap as_number (l.invariant.2 ∙ turn _ _ _ _ _ c.loop-i-test.true c.digit-d.ensures c.if-base-d.false
-    ∙ too_large _ _ _ (omega arith) (fits_no_more a.base l.value c.digit-d.result (omega arith) (omega arith) c.if-d-base.true)))
+pub returns-in_err-checked_mul : goal.returns-in_err-checked_mul
+returns-in_err-checked_mul c =
+    let l = c.loop-c in
+    let large : 2 ^ 64 ≤ l.value * c.args.base = omega (arith, c.in_err-checked_mul.ensures) in
+    c.from_residual.ensures ∙ sym (l.invariant.1 ∙ turn _ _ _ _ _ c.loop-c-test.true c.digit-d.ensures c.if-base-d.false ∙ too_large _ _ _ (omega arith) (le_trans large (le-add_right _ _)))
 
-pub overflow_mul-value : goal.overflow_mul-value
-overflow_mul-value c = omega (arith, next_fits c)
+pub returns-in_err-value : goal.returns-in_err-value
+returns-in_err-value c =
+    let l = c.loop-c in
+    let large : 2 ^ 64 ≤ l.value * c.args.base + c.digit-d.result = omega (arith, c.in_ok-checked_mul.ensures.1, c.in_err-value.ensures) in
+    c.from_residual-in_err-value.ensures ∙ sym (l.invariant.1 ∙ turn _ _ _ _ _ c.loop-c-test.true c.digit-d.ensures c.if-base-d.false ∙ too_large _ _ _ (omega arith) large)
 
-pub overflow_add-value : goal.overflow_add-value
-overflow_add-value c = record { fits = next_fits c }
-
-pub loop-i-preserved : goal.loop-i-preserved
-loop-i-preserved c =
-    let l = c.loop-i in
-    (search rules, next_fits c, l.invariant.2 ∙ turn _ _ _ _ _ c.loop-i-test.true c.digit-d.ensures c.if-base-d.false)
+pub loop-c-preserved : goal.loop-c-preserved
+loop-c-preserved c =
+    let l = c.loop-c in
+    let is : l.value * c.args.base + c.digit-d.result ≡ c.in_ok-value.value = omega (arith, c.in_ok-checked_mul.ensures.1, c.in_ok-value.ensures.1) in
+    (omega (arith, c.in_ok-value.ensures), l.invariant.1 ∙ turn _ _ _ _ _ c.loop-c-test.true c.digit-d.ensures c.if-base-d.false ∙ ap (λ (v : ℕ). number_from c.args.base v (drop (l.c-index + 1) c.args.word.now)) is)
 
 pub returns : goal.returns
-unfolding as_number
 returns c =
-    let l = c.loop-i in
     let w = c.args.word.now in
-    let e : drop l.i w ≡ [] = drop_of_length-le w c.loop-i-test.false in
-    sym (ap as_number (l.invariant.2 ∙ ap (number_from _ _) e ∙ all_read _ _ l.invariant.1))
+    let e : drop c.loop-c.c-index w ≡ [] = drop_of_length-le w c.loop-c-test.false in
+    sym (c.loop-c.invariant.1 ∙ ap (number_from _ _) e ∙ all_read _ _ c.loop-c.invariant.0)

@@ -1,2 +1,0 @@
--- The laws that the two widths share. Assumes nothing.
-pub mod Patterns
