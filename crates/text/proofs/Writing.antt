@@ -2,8 +2,8 @@
 use mathlib.Core.Path.{◌≡◌, refl, sym, ◌∙◌, subst}
 use mathlib.Core.Bool.{Bool, true, false, cond}
 use mathlib.Core.List.{List, [], ◌∷◌, ◌++◌, append_assoc}
-use Prim.Native.Nat.{ℕ, zero, suc, ◌+◌, ◌-◌, ◌/◌, ◌%◌, ◌^◌, ◌≤◌, ◌<◌}
-use native.Mathlib.Nat.{add-zero, add-suc, suc-add, add_assoc, pow-suc, div-lt_iff_lt-mul}
+use Prim.Native.Nat.{ℕ, zero, suc, ◌+◌, ◌-◌, ◌*◌, ◌/◌, ◌%◌, ◌^◌, ◌≤◌, ◌<◌}
+use native.Mathlib.Nat.{add-zero, add-suc, suc-add, add_assoc, pow-suc, one-le-pow}
 use native.Mathlib.Numerals.{add-one}
 use native.Mathlib.Omega.{arith}
 use lib.Dec.{ltb}
@@ -90,27 +90,23 @@ no_digit_left out at b (suc i) left h = absurd (omega arith)
 
 -- ---- how many decimal digits
 
-place_more : (j left : ℕ) → 10 ≤ left → left < 10 ^ suc j → (0 < j) × (left / 10 < 10 ^ j) × (places_of j left ≡ suc (places_of (j - 1) (left / 10)))
-unfolding places_of
-place_more zero left ten h = absurd (omega arith)
-place_more (suc j) left ten h =
-    let j-is : suc j - 1 ≡ j = omega arith in
-    (omega arith, (div-lt_iff_lt-mul {k = 10} {x = left} {y = 10 ^ suc j} (omega arith)).1 (subst (λ (k : ℕ). left < k) (pow-suc 10 (suc j)) h), rw (le-ltb left 10 ten, j-is))
-
--- a turn of the loop: k places are counted, and what is left has one more
-pub one_place_more : (k left : ℕ) → k ≤ 20 → 10 ≤ left → left < 10 ^ suc (20 - k)
-    → (k + 1 ≤ 20) × (left / 10 < 10 ^ suc (20 - (k + 1))) × (places_of (20 - k) left ≡ suc (places_of (20 - (k + 1)) (left / 10)))
-one_place_more k left most ten h =
-    let more = place_more (20 - k) left ten h in
-    let room : 0 < 20 - k = more.0 in
-    let same : suc (20 - (k + 1)) ≡ 20 - k = omega arith in
-    let less : 20 - (k + 1) ≡ (20 - k) - 1 = omega arith in
-    (omega arith, rw same more.1, rw less more.2)
-
-pub last_place : (j left : ℕ) → left < 10 → places_of j left ≡ 1
+last_place : (j left : ℕ) → left < 10 → places_of j left ≡ 1
 unfolding places_of
 last_place zero left h = refl
 last_place (suc j) left h = rw (lt-ltb left 10 h)
+
+-- by the power of 10 that it reaches
+pub places_is : (k j n : ℕ) → k ≤ j → 10 ^ k ≤ n → n < 10 * 10 ^ k → places_of j n ≡ k + 1
+unfolding places_of
+places_is zero j n few low high = last_place j n high
+places_is (suc k) zero n few low high = absurd (omega arith)
+places_is (suc k) (suc j) n few low high =
+    let is : 10 ^ suc k ≡ 10 ^ k * 10 = pow-suc 10 k in
+    let some : 1 ≤ 10 ^ k = one-le-pow k 10 (omega arith) in
+    rw (le-ltb n 10 (omega (arith, is, low, some))) (omega (arith, places_is k j (n / 10) (omega arith) (omega (arith, is, low)) (omega (arith, is, high))))
+
+pub no_places : (j n : ℕ) → n ≡ 0 → places_of j n ≡ 1
+no_places j n e = last_place j n (omega arith)
 
 -- ---- one thing written behind another
 

@@ -48,13 +48,10 @@ pub fn put_digits(out: &mut [u8], at: usize, n: u64, base: u64, k: usize) -> usi
 fn places(n: u64) -> usize
     ensures { (result ≡ places_of 19 n) × (result ≤ 20) }
 {
-    let mut k = 1;
-    let mut left = n;
-    while 10 <= left {
-        left /= 10;
-        k += 1;
+    match n.checked_ilog10() {
+        Some(k) => k as usize + 1,
+        None => 1,
     }
-    k
 }
 
 // A count in decimal, with no leading zero.

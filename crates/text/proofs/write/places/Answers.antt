@@ -1,15 +1,13 @@
--- `text::write::places` meets its contract. The invariant of its loop: the places counted, and those of what is left, are those of the number.
--- Assumes nothing.
-use Prim.Native.Nat.{◌-◌}
+-- `text::write::places` meets its contract: by the power of 10 that the number reaches. Assumes nothing.
+use mathlib.Core.Path.{sym}
 use native.Mathlib.Omega.{arith}
-use Rattle.text.proofs.Writing.{one_place_more, last_place}
+use Rattle.text.proofs.Writing.{places_is, no_places}
 use Rattle.text.proofs.write.places.Goals as goal
 
-pub loop-left-preserved : goal.loop-left-preserved
-loop-left-preserved c =
-    let l = c.loop-left in
-    let more = one_place_more l.k l.left l.invariant.0 c.loop-left-test.true l.invariant.1 in
-    (more.0, more.1, omega (arith, more.2))
+pub returns-in-Some : goal.returns-in-Some
+returns-in-Some c =
+    let e = c.in-Some.ensures in
+    (sym (places_is c.in-Some.k 19 c.args.n (omega (arith, e.bound)) e.power_le e.next_power_gt), omega (arith, e.bound))
 
-pub returns : goal.returns
-returns c = omega (arith, last_place (20 - c.loop-left.k) c.loop-left.left (omega arith))
+pub returns-in-None : goal.returns-in-None
+returns-in-None c = (sym (no_places 19 c.args.n c.in-None.ensures.none), omega arith)
