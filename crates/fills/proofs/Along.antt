@@ -1,11 +1,12 @@
 -- What is left of the places of a block: by a run that is lent the places to fill. Assumes nothing.
 use mathlib.Core.Path.{◌≡◌, refl, sym, ap, ◌∙◌}
 use mathlib.Core.Bool.{Bool, true, false}
-use mathlib.Core.List.{List, ◌++◌, append_assoc, append-nil}
-use Prim.Native.Nat.{ℕ, ◌-◌, ◌≤◌}
+use mathlib.Core.List.{List, [], ◌∷◌, ◌++◌, append_assoc, append-nil}
+use Prim.Native.Nat.{ℕ, ◌+◌, ◌-◌, ◌≤◌, ◌<◌}
+use native.Mathlib.Numerals.{add-one}
 use native.Mathlib.Omega.{arith}
-use lib.ListN.{length, take, length-append}
-use lib.Seq.{length-take-le, take_at}
+use lib.ListN.{length, take, set, replicate, length-set, length-append, replicate-append-replicate}
+use lib.Seq.{length-take-le, take-suc-set, take_at}
 use lib.Ieee.{Float}
 use borrow.Author.Tests.{leb-true, leb-false}
 use borrow.Rule.Slice.PartMut.{mid_of, post_of, put_mid, mid_len, same_len_mid}
@@ -45,6 +46,28 @@ nothing f sample {from} {to} {b} room Rate.A e w =
     let z : to - from ≡ 0 = omega (arith, leb-true to from w) in
     filled_a f sample room e ∙ rw z (append-nil (take from b))
 nothing f sample {from} {to} {b} room Rate.K e w = fill_k f to sample (take from b) e
+
+-- ---- one value written place by place, as std's fill does: it is at place i, the buffer was b and is s (docs/MAP.md names goes_on)
+
+pub record Along (v : Float) (from to : ℕ) (b : List Float) (i : ℕ) (s : List Float) : Type 0 where
+  pub past : from ≤ i
+  pub upto : i ≤ to
+  pub room : to ≤ length b
+  pub whole : length s ≡ length b
+  pub values : take i s ≡ take from b ++ replicate (i - from) v
+
+pub goes_on : {v : Float} {from to : ℕ} {b : List Float} {i : ℕ} {s : List Float} → Along v from to b i s → i < to → Along v from to b (i + 1) (set s i v)
+goes_on {v} {from} {to} {b} {i} {s} a h =
+    let k : i + 1 - from ≡ i - from + 1 = omega (arith, a.past) in
+    record {
+      past = omega (arith, a.past);
+      upto = omega arith;
+      room = a.room;
+      whole = length-set s i v ∙ a.whole;
+      values =
+          rw (k, ← replicate-append-replicate (i - from) 1 v, add-one i, take-suc-set s i v (omega (arith, a.whole, a.room)), a.values)
+          (append_assoc (take from b) (replicate (i - from) v) (v ∷ []));
+    }
 
 -- ---- what they leave; w is what code asks before it writes
 
