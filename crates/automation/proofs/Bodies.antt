@@ -57,7 +57,7 @@ module _ {f : BlockInfos} {w : Walk} {b : List Float} {v t end : Float} {u : Wal
   step_stops h =
       rw s.walk_is (record { turn = rw (← s.end_is, h, s.filled.values); filled = s.filled.small; whole = s.filled.whole })
 
-  pub step_goes : Ieee.lt f.next end ≡ false → Turns b [] (step_turn f (walk_as w b) v t) (went_on_with (consumed_with end v u) (Event.Step v t)) c
+  pub step_goes : Ieee.lt f.next end ≡ false → Turns b [] (step_turn f (walk_as w b) v t) (went_on_with (consumed_with end v u)) c
   unfolding turn_as step_turn step_from fill with_values Rules.consumed
   step_goes h =
       rw s.walk_is (record { turn = rw (← s.end_is, h, s.filled.values, add-one); filled = s.filled.small; whole = s.filled.whole })
@@ -88,18 +88,18 @@ module _ {f : BlockInfos} {b numbers : List Float} {e : Event} {turn : Rules.Tur
       rw (s.turn_is, s.walk_is)
       (record { turn = rw (← s.end_is, g, s.filled.values, q); filled = s.filled.small; whole = s.filled.whole })
 
-  span_goes : Ieee.le f.next end ≡ false → {r : Float} → r ≡ value_at_end h v sample → Turns b numbers turn (went_on_with (consumed_with end r u) e) c
+  span_goes : Ieee.le f.next end ≡ false → {r : Float} → r ≡ value_at_end h v sample → Turns b numbers turn (went_on_with (consumed_with end r u)) c
   unfolding turn_as span_turn fill with_values Rules.consumed
   span_goes g q =
       rw (s.turn_is, s.walk_is)
       (record { turn = rw (← s.end_is, g, s.filled.values, q, add-one); filled = s.filled.small; whole = s.filled.whole })
 
-  pub span_ends : Ieee.le f.next end ≡ false → h ≡ None → {r : Float} → r ≡ v → Turns b numbers turn (went_on_with (consumed_with end r u) e) c
+  pub span_ends : Ieee.le f.next end ≡ false → h ≡ None → {r : Float} → r ≡ v → Turns b numbers turn (went_on_with (consumed_with end r u)) c
   unfolding value_at_end
   span_ends g m q = span_goes g (rw m q)
 
   pub span_held : Ieee.le f.next end ≡ false → {k : Float} → h ≡ Some k → {r : Float} → r ≡ sample end
-      → Turns b numbers turn (went_on_with (consumed_with end r u) e) c
+      → Turns b numbers turn (went_on_with (consumed_with end r u)) c
   unfolding value_at_end hold_or
   span_held g {k} m q = let z : end ≡ k = rw m at s.end_is in span_goes g (q ∙ rw (z, m))
 
@@ -115,7 +115,7 @@ pub record Targeted (f : BlockInfos) (w : Walk) (b : List Float) (ended : Option
 module _ {f : BlockInfos} {w : Walk} {b : List Float} {ended : Option Float} {sample : Float → Float} {end : Float} {u : Walk} {c : List Float}
     (s : Targeted f w b ended sample end u c) {r : Float} (value : r ≡ sample end) where
   pub target_ends : {k : Float} → ended ≡ Some k → (e : Event) (target : Float)
-      → Turns b [] (target_run f (walk_as w b) (alone e) target sample ended) (went_on_with (consumed_with end r u) e) c
+      → Turns b [] (target_run f (walk_as w b) (alone e) target sample ended) (went_on_with (consumed_with end r u)) c
   unfolding turn_as target_run fill with_values Rules.consumed hold_or
   target_ends {k} m e target =
       let z : end ≡ k = rw m at s.end_is in

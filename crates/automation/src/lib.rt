@@ -96,19 +96,11 @@ impl Walk {
     }
 }
 
-// What a body answers.
-#[derive(Clone, Copy)]
-pub enum Go {
-    Stop,
-    On,
-}
-
-// A body's answer: what the walk then carries, and, where it stops, what its head has become.
+// A body's answer: what the walk then carries, and, where it stops there, what its head has become.
 #[derive(Clone, Copy)]
 pub struct Turn {
     pub walk: Walk,
-    pub go: Go,
-    pub head: Event,
+    pub left: Option<Event>,
 }
 
 impl Turn {
@@ -118,20 +110,18 @@ impl Turn {
     {
         Turn {
             walk,
-            go: Go::Stop,
-            head,
+            left: Some(head),
         }
     }
 
     // The head is consumed, with its end and the value there.
-    fn consume(walk: Walk, time: f64, value: f32, head: Event) -> Self
+    fn consume(walk: Walk, time: f64, value: f32) -> Self
         requires { walk.finished < 2 ^ 32 }
-        ensures { result ≡ went_on_with (consumed_with time value walk) head }
+        ensures { result ≡ went_on_with (consumed_with time value walk) }
     {
         Turn {
             walk: walk.consumed(time, value),
-            go: Go::On,
-            head,
+            left: None,
         }
     }
 }
@@ -139,6 +129,7 @@ impl Turn {
 // ---- what the bodies share
 
 // Time 0 becomes the block time.
+#[tactic(auto, unfolding(rules::specs::Walk::step_time, rules::specs::Numbers::is_zero))]
 fn step_time(infos: BlockInfos, time: f64) -> f64
     ensures { result ≡ step_time infos time }
 {
@@ -146,20 +137,18 @@ fn step_time(infos: BlockInfos, time: f64) -> f64
 }
 
 // The last event; with none, one made from block time and intrinsic value.
+#[tactic(auto, unfolding(rules::specs::Walk::last_or))]
 fn start_of(infos: BlockInfos, walk: Walk) -> Finished
     ensures { result ≡ last_or infos walk.intrinsic walk.last }
 {
-    let last = walk.last;
-    match last {
-        None => Finished {
-            time: infos.time,
-            value: walk.intrinsic,
-        },
-        Some(finished) => finished,
-    }
+    walk.last.unwrap_or(Finished {
+        time: infos.time,
+        value: walk.intrinsic,
+    })
 }
 
 // Whether an exponential ramp can follow a ratio: finite and above 0.
+#[tactic(auto, unfolding(rules::specs::Samples::is_ratio))]
 fn is_ratio(ratio: f32) -> bool
     ensures { result ≡ is_ratio ratio }
 {
@@ -167,6 +156,7 @@ fn is_ratio(ratio: f32) -> bool
 }
 
 // Where the next event ends a target.
+#[tactic(auto, unfolding(rules::specs::Walk::end_by_next))]
 fn end_by_next(infos: BlockInfos, time: f64, next: Option<Event>) -> Option<f64>
     ensures { result ≡ end_by_next infos time next }
 {
@@ -181,13 +171,14 @@ fn end_by_next(infos: BlockInfos, time: f64, next: Option<Event>) -> Option<f64>
 }
 
 // A hold time in the block replaces that end.
+#[tactic(auto, unfolding(rules::specs::Walk::end_by_hold))]
 fn end_by_hold(infos: BlockInfos, hold: Option<f64>, end: Option<f64>) -> Option<f64>
     ensures { result ≡ end_by_hold infos hold end }
 {
-    let Some(c) = hold else {
-        return end;
-    };
-    if c < infos.next { Some(c) } else { end }
+    match hold {
+        Some(c) if c < infos.next => hold,
+        _ => end,
+    }
 }
 
 // Whether a value is so near a target that it becomes it.
@@ -217,7 +208,7 @@ pub fn compute_set_value_automation(
     if end_time > infos.next {
         return Turn::stop(w, head);
     }
-    Turn::consume(w, end_time, value, head)
+    Turn::consume(w, end_time, value)
 }
 
 pub fn compute_linear_ramp_automation(
@@ -254,10 +245,10 @@ pub fn compute_linear_ramp_automation(
     }
     // it ends in this one: with its own value, or where it is held
     let Some(_) = hold else {
-        return Turn::consume(w, end_time, value, head);
+        return Turn::consume(w, end_time, value);
     };
     let at_end = samples::linear_value(last_event, value, duration, end_time);
-    Turn::consume(w, end_time, at_end, head)
+    Turn::consume(w, end_time, at_end)
 }
 
 // An exponential ramp that has a ratio: it goes on or ends as ramps do.
@@ -295,10 +286,10 @@ fn exponential_span(
         return Turn::stop(w.with_intrinsic(at_next), head);
     }
     let Some(_) = hold else {
-        return Turn::consume(w, end_time, value, head);
+        return Turn::consume(w, end_time, value);
     };
     let at_end = samples::exponential_value(from, value, duration, log, end_time);
-    Turn::consume(w, end_time, at_end, head)
+    Turn::consume(w, end_time, at_end)
 }
 
 pub fn compute_exponential_ramp_automation(
@@ -381,7 +372,7 @@ fn target_run(
     let Some(_) = ended else {
         return target_left(infos, w, buffer, head, value, at_end);
     };
-    Turn::consume(w, end_time, at_end, head)
+    Turn::consume(w, end_time, at_end)
 }
 
 // `next` is the event behind the head.
@@ -447,10 +438,10 @@ fn curve_span(
         return Turn::stop(w.with_intrinsic(at_next), head);
     }
     let Some(_) = hold else {
-        return Turn::consume(w, end_time, values[values.len() - 1], head);
+        return Turn::consume(w, end_time, values[values.len() - 1]);
     };
     let at_end = fills::curve_value(start, intrinsic, duration, values, end_time);
-    Turn::consume(w, end_time, at_end, head)
+    Turn::consume(w, end_time, at_end)
 }
 
 // `values` are the curve's own numbers.
@@ -592,30 +583,17 @@ pub fn compute_buffer(
     ensures { Walks infos (walk_from intrinsic last (values_before infos.rate intrinsic) 0) (waiting timeline) store.now buffer.old result buffer.new }
 {
     let mut walk = begin(infos, intrinsic, last, buffer);
-    let mut head = timeline.peek();
-    let mut at = 0usize;
-    let mut offset = 0usize;
-    loop {
-        let Some(event) = head else {
-            return end(infos, walk.counted(), buffer, at, None);
-        };
-        // from the slot itself: a call with the whole queue would copy it for each head
-        let behind = at + 1;
-        let mut next = None;
-        if behind < timeline.len {
-            let slot = timeline.slots[behind];
-            let waits = slot.event;
-            next = Some(waits);
-        }
-        let turn = take_head(infos, walk, buffer, event, next, store, offset);
+    let mut offset = 0;
+    // the slots themselves: a call with the whole queue would copy it for each head
+    let heads = &timeline.slots[..timeline.len];
+    for (at, head) in heads.iter().enumerate() {
+        let next = heads.get(at + 1).map(|slot| slot.event);
+        let turn = take_head(infos, walk, buffer, head.event, next, store, offset);
         walk = turn.walk;
-        let go = turn.go;
-        if let Go::Stop = go {
-            let left = turn.head;
-            return end(infos, walk, buffer, at, Some(left));
+        if turn.left.is_some() {
+            return end(infos, walk, buffer, at, turn.left);
         }
-        at = behind;
-        offset = offset + timeline::length_of(event);
-        head = next;
+        offset += timeline::length_of(head.event);
     }
+    end(infos, walk.counted(), buffer, heads.len(), None)
 }
