@@ -81,7 +81,7 @@ returns-then-is_some c =
     walks c.begin-walk.ensures (stopped (c.take_head-turn.result.left) (c.if-is_some.ensures) (λ x e. head_stops c.loop-at.invariant (there k) (behind k) c.take_head-turn.ensures e c.end.ensures))
 
 pub shape_of-buffer-then-is_some : goal.shape_of-buffer-then-is_some
-shape_of-buffer-then-is_some c = (returns-then-is_some c).whole
+shape_of-buffer-then-is_some c = c.end.ensures.whole ∙ c.take_head-turn.ensures.whole ∙ c.loop-at.invariant.whole ∙ c.begin-walk.ensures.whole
 
 pub overflow_add-offset : goal.overflow_add-offset
 overflow_add-offset c =
