@@ -5,10 +5,11 @@ use mathlib.Core.Path.{◌≡◌, refl, sym, ap, ◌∙◌}
 use mathlib.Core.Bool.{Bool, true, false, cond, ◌&&◌, ◌||◌, and-false, and_assoc}
 use mathlib.Core.List.{List, [], ◌∷◌, ◌++◌}
 use Prim.Native.Nat.{ℕ, ◌+◌, ◌-◌, ◌≤◌, ◌<◌}
+use native.Mathlib.Numerals.{add-one}
 use native.Mathlib.Omega.{arith}
 use lib.Dec.{leb}
-use lib.ListN.{length, take, set, length-append}
-use lib.Seq.{take_all, append_snoc}
+use lib.ListN.{length, take, get_or, set, get_or-map, length-append, length-map, length-take}
+use lib.Seq.{take_all, take-suc, get_or-take, append_snoc}
 use lib.Ieee as Ieee
 use lib.Ieee.{Float, inf}
 use borrow.Author.Tests.{le-leb, lt-leb}
@@ -29,7 +30,7 @@ use Rattle.laws.proofs.Kept.{made_sound}
 use Rattle.timeline.specs.declared.AudioParamEvent.{AudioParamEvent}
 use Rattle.timeline.specs.declared.AudioParamEventTimeline.{AudioParamEventTimeline}
 use Rattle.timeline.specs.Timeline.{slot_of, waiting, made as queue_of}
-use Rattle.timeline.proofs.Laws.{Filled, filled_more, filled-made}
+use Rattle.timeline.proofs.Laws.{nothing, Filled, filled_more, filled-made}
 use Rattle.param.specs.declared.AudioParam.{AudioParam}
 use Rattle.param.specs.declared.Outcome.{Outcome}
 use Rattle.param.specs.Param.{param_of, struct_of, nothing_made, unmade, parts_of, is_whole, Restores}
@@ -172,6 +173,16 @@ took_all {es} {played} {i = i} {slots} t e h =
 
 pub all_taken : (q : AudioParamEventTimeline) (played : Bool) {r : AudioParamEventTimeline} → (true ≡ are_fine played (waiting q)) × (r ≡ queue_of (waiting q)) → Some r ≡ taken q played
 all_taken q played a = rw (← a.0) (ap (λ (q : AudioParamEventTimeline). Some q) a.1)
+
+-- the event in a slot is the next that waits
+pub slot_next : (q : AudioParamEventTimeline) (i : ℕ) → length q.slots ≡ most_events → i < q.len → q.len ≤ most_events
+    → take (i + 1) (waiting q) ≡ take i (waiting q) ++ ((get_or q.slots i (slot_of nothing)).event ∷ [])
+slot_next q i n l m =
+    let few : i < length (waiting q) = simp (length-map, length-take) (omega arith) in
+    rw (add-one, take-suc (waiting q) i nothing few)
+    (ap (λ (e : Event). take i (waiting q) ++ (e ∷ []))
+    (get_or-map (λ (s : AudioParamEvent). s.event) (take q.len q.slots) i (slot_of nothing)
+    ∙ ap (λ (s : AudioParamEvent). s.event) (get_or-take q.len q.slots i (slot_of nothing) l)))
 
 -- ---- all the parts
 
