@@ -1,7 +1,8 @@
 -- A body's branches, each the rules' turn: over what was filled and what the callees gave. Assumes nothing.
 use Rattle.std.proofs.Common.{Option, Some, None}
+use Rattle.std.specs.Option.{option_map_or}
 use mathlib.Core.Path.{◌≡◌, refl, sym, ap, ◌∙◌}
-use mathlib.Core.Bool.{true, false}
+use mathlib.Core.Bool.{Bool, true, false, cond}
 use mathlib.Core.List.{List, []}
 use Prim.Native.Nat.{ℕ, ◌-◌, ◌≤◌, ◌<◌, ◌^◌}
 use native.Mathlib.Numerals.{add-one}
@@ -23,7 +24,7 @@ use Rattle.timeline.specs.Heads.{waiting_as}
 use Rattle.fills.specs.Filled.{Room, Filled, Flushed}
 use Rattle.automation.specs.declared.Walk.{Walk}
 use Rattle.automation.specs.declared.Turn.{Turn}
-use Rattle.automation.specs.Walks.{walk_as, turn_as, Ready, Turns, with_filled, with_intrinsic, with_last, turned_to_step, consumed_with, stopped_with, went_on_with}
+use Rattle.automation.specs.Walks.{walk_as, turn_as, Ready, Turns, with_filled, with_intrinsic, with_last, turned_to_step, consumed_with, stopped_with, went_on_with, ended_at}
 
 -- room for a fill up to an end place
 pub ready_room : {f : BlockInfos} {w : Walk} {b : List Float} → Ready f w b → (t : Float) {n : ℕ} → n ≡ end_place f t → Room w.filled n b
@@ -102,6 +103,15 @@ module _ {f : BlockInfos} {b numbers : List Float} {e : Event} {turn : Rules.Tur
       → Turns b numbers turn (went_on_with (consumed_with end r u)) c
   unfolding value_at_end hold_or
   span_held g {k} m q = let z : end ≡ k = rw m at s.end_is in span_goes g (q ∙ rw (z, m))
+
+  pub span_answers : {r : Turn} → r ≡ ended_at f u e end h v sample → Turns b numbers turn r c
+  span_answers {r} a = rw a (go (Ieee.le f.next end) refl h refl)
+    where
+      go : (t : Bool) → Ieee.le f.next end ≡ t → (k : Option Float) → h ≡ k
+          → Turns b numbers turn (cond t (stopped_with (with_intrinsic (sample f.next) u) e) (went_on_with (consumed_with end (option_map_or (λ (x : Float). sample end) k v) u))) c
+      go true g k m = span_stops g refl
+      go false g None m = span_ends g m refl
+      go false g (Some x) m = span_held g m refl
 
 -- ---- targets
 

@@ -1,5 +1,7 @@
 -- How the code's walk stands for the rules': the filled places of the block are the walk's values.
-use Rattle.std.specs.Prelude.{◌≡◌, List, ℕ, ◌+◌, ◌≤◌, ◌<◌, ◌^◌, length, take, Float, Option, Some, None}
+use Rattle.std.specs.Prelude.{◌≡◌, List, ℕ, ◌+◌, ◌≤◌, ◌<◌, ◌^◌, length, take, cond, Float, Option, Some, None}
+use Rattle.std.specs.Float.Ieee as Ieee
+use Rattle.std.specs.Option.{option_map_or}
 use Rattle.rules.specs.declared.Event.{Event}
 use Rattle.rules.specs.declared.BlockInfos.{BlockInfos}
 use Rattle.rules.specs.declared.Finished.{Finished}
@@ -81,3 +83,11 @@ consumed_with t v w =
       finished = w.finished + 1;
       turned = w.turned;
     }
+
+-- a ramp or a curve at its end, in the walk w behind its fill: v is its own value, the sample what it has at a time
+abbrev pub ended_at : BlockInfos → Walk → Event → Float → Option Float → Float → (Float → Float) → Turn
+ended_at f w e end h v sample =
+    cond
+    (Ieee.le f.next end)
+    (stopped_with (with_intrinsic (sample f.next) w) e)
+    (went_on_with (consumed_with end (option_map_or (λ (t : Float). sample end) h v) w))

@@ -1,7 +1,7 @@
 // The walk over a block's heads: the five bodies, named as in the Rust, and the loop that takes one head after the other.
 #![tactic(auto)]
 
-ghost use Rattle.std.specs.Prelude.{◌≡◌, [], ℕ, ◌+◌, ◌≤◌, ◌<◌, ◌^◌, length};
+ghost use Rattle.std.specs.Prelude.{◌≡◌, Float, [], ℕ, ◌+◌, ◌≤◌, ◌<◌, ◌^◌, length};
 ghost use Rattle.std.specs.Float.{binary64};
 ghost use Rattle.std.specs.Float.Ieee.{add, sub};
 ghost use Rattle.rules.specs.Numbers.{store_length};
@@ -13,7 +13,7 @@ ghost use Rattle.samples.specs.At.{exponential_at};
 ghost use Rattle.fills.specs.Filled.{Room};
 ghost use Rattle.timeline.specs.Timeline.{waiting};
 ghost use Rattle.timeline.specs.Heads.{waiting_as, numbers_at, Numbered};
-ghost use Rattle.automation.specs.Walks.{walk_as, Ready, Turns, with_filled, with_intrinsic, with_last, consumed_with, counted_once, turned_to_step, stopped_with, went_on_with};
+ghost use Rattle.automation.specs.Walks.{walk_as, Ready, Turns, with_filled, with_intrinsic, with_last, consumed_with, counted_once, turned_to_step, stopped_with, went_on_with, ended_at};
 ghost use Rattle.automation.specs.Walked.{Begins, Ends, Walkable, Walks};
 
 use rules::{AutomationRate, BlockInfos, Event, Finished};
@@ -188,7 +188,32 @@ fn snaps(target: f32, value: f32) -> bool
     floats::magnitude(target - value) < 1e-10
 }
 
-// ---- the five bodies
+// What a ramp or a curve does behind its fill: with its end in a later block it stops, with its value at the next one; else it is consumed, with its own value or, held,
+// with the one there.
+fn ramp_end<F: Fn(f64) -> f32>(
+    infos: BlockInfos,
+    walk: Walk,
+    head: Event,
+    end_time: f64,
+    hold: Option<f64>,
+    value: f32,
+    sample: F,
+) -> Turn
+    requires { F.IsAlwaysCallable sample × (walk.finished < 2 ^ 32) }
+    ensures { (s : Float → Float) → ((t v : Float) → F.post sample t v → v ≡ s t) → result ≡ ended_at infos walk head end_time hold value s }
+{
+    if end_time >= infos.next {
+        let at_next = sample(infos.next);
+        return Turn::stop(walk.with_intrinsic(at_next), head);
+    }
+    let at_end = match hold {
+        None => value,
+        Some(_) => sample(end_time),
+    };
+    Turn::consume(walk, end_time, at_end)
+}
+
+// ---- the five bodies: with the Rust's parameters, and so no struct for block, walk and buffer
 
 pub fn compute_set_value_automation(
     infos: BlockInfos,
@@ -238,17 +263,9 @@ pub fn compute_linear_ramp_automation(
     );
     let w = walk.with_last(last_event).with_filled(filled);
     let head = Event::Linear { value, time, hold };
-    // it goes on in the next block
-    if end_time >= infos.next {
-        let at_next = samples::linear_value(last_event, value, duration, infos.next);
-        return Turn::stop(w.with_intrinsic(at_next), head);
-    }
-    // it ends in this one: with its own value, or where it is held
-    let Some(_) = hold else {
-        return Turn::consume(w, end_time, value);
-    };
-    let at_end = samples::linear_value(last_event, value, duration, end_time);
-    Turn::consume(w, end_time, at_end)
+    ramp_end(infos, w, head, end_time, hold, value, |t| {
+        samples::linear_value(last_event, value, duration, t)
+    })
 }
 
 // An exponential ramp that has a ratio: it goes on or ends as ramps do.
@@ -281,15 +298,9 @@ fn exponential_span(
     );
     let w = walk.with_filled(filled);
     let head = Event::Exponential { value, time, hold };
-    if end_time >= infos.next {
-        let at_next = samples::exponential_value(from, value, duration, log, infos.next);
-        return Turn::stop(w.with_intrinsic(at_next), head);
-    }
-    let Some(_) = hold else {
-        return Turn::consume(w, end_time, value);
-    };
-    let at_end = samples::exponential_value(from, value, duration, log, end_time);
-    Turn::consume(w, end_time, at_end)
+    ramp_end(infos, w, head, end_time, hold, value, |t| {
+        samples::exponential_value(from, value, duration, log, t)
+    })
 }
 
 pub fn compute_exponential_ramp_automation(
@@ -433,15 +444,10 @@ fn curve_span(
         values,
     );
     let w = walk.with_filled(filled);
-    if end_time >= infos.next {
-        let at_next = fills::curve_value(start, intrinsic, duration, values, infos.next);
-        return Turn::stop(w.with_intrinsic(at_next), head);
-    }
-    let Some(_) = hold else {
-        return Turn::consume(w, end_time, values[values.len() - 1]);
-    };
-    let at_end = fills::curve_value(start, intrinsic, duration, values, end_time);
-    Turn::consume(w, end_time, at_end)
+    let last = values[values.len() - 1];
+    ramp_end(infos, w, head, end_time, hold, last, |t| {
+        fills::curve_value(start, intrinsic, duration, values, t)
+    })
 }
 
 // `values` are the curve's own numbers.

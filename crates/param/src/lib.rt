@@ -17,6 +17,7 @@ use timeline::{AudioParamEventTimeline, curve_end, filed_under, goes_at, is_ramp
 mod taking; // taking.rt: events that can wait, from outside
 pub mod process; // process.rt: the block
 
+// `SoundParam` is no invariant: `bounds` to `last_block_end` ask nothing of their parameter.
 #[derive(Clone, Copy)]
 pub struct AudioParam {
     bounds: Bounds,
@@ -31,7 +32,7 @@ pub struct AudioParam {
     last: Option<Finished>,
 }
 
-// What a call says, and the parameter after it.
+// What a call says, and the parameter after it: a refused call gives it back, too.
 #[derive(Clone, Copy)]
 pub struct Outcome {
     pub verdict: Result<(), Refusal>,
