@@ -34,29 +34,24 @@ impl Walk {
     fn with_filled(self, filled: usize) -> Walk
         ensures { result ≡ with_filled filled self }
     {
-        let mut w = self;
-        w.filled = filled;
-        w
+        Walk { filled, ..self }
     }
 
     fn with_intrinsic(self, value: f32) -> Walk
         ensures { result ≡ with_intrinsic value self }
     {
-        let mut w = self;
-        w.intrinsic = value;
-        w
+        Walk {
+            intrinsic: value,
+            ..self
+        }
     }
 
     fn with_last(self, finished: Finished) -> Walk
         ensures { result ≡ with_last finished self }
     {
         Walk {
-            intrinsic: self.intrinsic,
             last: Some(finished),
-            filled: self.filled,
-            steps: self.steps,
-            finished: self.finished,
-            turned: self.turned,
+            ..self
         }
     }
 
@@ -68,10 +63,8 @@ impl Walk {
         Walk {
             intrinsic: value,
             last: Some(Finished { time, value }),
-            filled: self.filled,
-            steps: self.steps,
             finished: self.finished + 1,
-            turned: self.turned,
+            ..self
         }
     }
 
@@ -80,9 +73,10 @@ impl Walk {
         requires { self.steps < 2 ^ 33 }
         ensures { result ≡ counted_once self }
     {
-        let mut w = self;
-        w.steps = w.steps + 1;
-        w
+        Walk {
+            steps: self.steps + 1,
+            ..self
+        }
     }
 
     // An exponential that became a step, which is one head more.
@@ -90,9 +84,11 @@ impl Walk {
         requires { (self.steps < 2 ^ 32) × (self.turned < 2 ^ 32) }
         ensures { result ≡ turned_to_step self }
     {
-        let mut w = self.counted();
-        w.turned = w.turned + 1;
-        w
+        let w = self.counted();
+        Walk {
+            turned: w.turned + 1,
+            ..w
+        }
     }
 }
 
