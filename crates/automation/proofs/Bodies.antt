@@ -1,7 +1,8 @@
 -- A body's branches, each the rules' turn: over what was filled and what the callees gave. Assumes nothing.
 use Rattle.std.proofs.Common.{Option, Some, None}
+use Rattle.std.specs.Option.{option_map_or}
 use mathlib.Core.Path.{◌≡◌, refl, sym, ap, ◌∙◌}
-use mathlib.Core.Bool.{true, false}
+use mathlib.Core.Bool.{Bool, true, false, cond}
 use mathlib.Core.List.{List, []}
 use Prim.Native.Nat.{ℕ, ◌-◌, ◌≤◌, ◌<◌, ◌^◌}
 use native.Mathlib.Numerals.{add-one}
@@ -23,7 +24,7 @@ use Rattle.timeline.specs.Heads.{waiting_as}
 use Rattle.fills.specs.Filled.{Room, Filled, Flushed}
 use Rattle.automation.specs.declared.Walk.{Walk}
 use Rattle.automation.specs.declared.Turn.{Turn}
-use Rattle.automation.specs.Walks.{walk_as, turn_as, Ready, Turns, with_filled, with_intrinsic, with_last, turned_to_step, consumed_with, stopped_with, went_on_with}
+use Rattle.automation.specs.Walks.{walk_as, turn_as, Ready, Turns, with_filled, with_intrinsic, with_last, turned_to_step, consumed_with, stopped_with, went_on_with, ended_at}
 
 -- room for a fill up to an end place
 pub ready_room : {f : BlockInfos} {w : Walk} {b : List Float} → Ready f w b → (t : Float) {n : ℕ} → n ≡ end_place f t → Room w.filled n b
@@ -57,7 +58,7 @@ module _ {f : BlockInfos} {w : Walk} {b : List Float} {v t end : Float} {u : Wal
   step_stops h =
       rw s.walk_is (record { turn = rw (← s.end_is, h, s.filled.values); filled = s.filled.small; whole = s.filled.whole })
 
-  pub step_goes : Ieee.lt f.next end ≡ false → Turns b [] (step_turn f (walk_as w b) v t) (went_on_with (consumed_with end v u) (Event.Step v t)) c
+  pub step_goes : Ieee.lt f.next end ≡ false → Turns b [] (step_turn f (walk_as w b) v t) (went_on_with (consumed_with end v u)) c
   unfolding turn_as step_turn step_from fill with_values Rules.consumed
   step_goes h =
       rw s.walk_is (record { turn = rw (← s.end_is, h, s.filled.values, add-one); filled = s.filled.small; whole = s.filled.whole })
@@ -88,20 +89,29 @@ module _ {f : BlockInfos} {b numbers : List Float} {e : Event} {turn : Rules.Tur
       rw (s.turn_is, s.walk_is)
       (record { turn = rw (← s.end_is, g, s.filled.values, q); filled = s.filled.small; whole = s.filled.whole })
 
-  span_goes : Ieee.le f.next end ≡ false → {r : Float} → r ≡ value_at_end h v sample → Turns b numbers turn (went_on_with (consumed_with end r u) e) c
+  span_goes : Ieee.le f.next end ≡ false → {r : Float} → r ≡ value_at_end h v sample → Turns b numbers turn (went_on_with (consumed_with end r u)) c
   unfolding turn_as span_turn fill with_values Rules.consumed
   span_goes g q =
       rw (s.turn_is, s.walk_is)
       (record { turn = rw (← s.end_is, g, s.filled.values, q, add-one); filled = s.filled.small; whole = s.filled.whole })
 
-  pub span_ends : Ieee.le f.next end ≡ false → h ≡ None → {r : Float} → r ≡ v → Turns b numbers turn (went_on_with (consumed_with end r u) e) c
+  pub span_ends : Ieee.le f.next end ≡ false → h ≡ None → {r : Float} → r ≡ v → Turns b numbers turn (went_on_with (consumed_with end r u)) c
   unfolding value_at_end
   span_ends g m q = span_goes g (rw m q)
 
   pub span_held : Ieee.le f.next end ≡ false → {k : Float} → h ≡ Some k → {r : Float} → r ≡ sample end
-      → Turns b numbers turn (went_on_with (consumed_with end r u) e) c
+      → Turns b numbers turn (went_on_with (consumed_with end r u)) c
   unfolding value_at_end hold_or
   span_held g {k} m q = let z : end ≡ k = rw m at s.end_is in span_goes g (q ∙ rw (z, m))
+
+  pub span_answers : {r : Turn} → r ≡ ended_at f u e end h v sample → Turns b numbers turn r c
+  span_answers {r} a = rw a (go (Ieee.le f.next end) refl h refl)
+    where
+      go : (t : Bool) → Ieee.le f.next end ≡ t → (k : Option Float) → h ≡ k
+          → Turns b numbers turn (cond t (stopped_with (with_intrinsic (sample f.next) u) e) (went_on_with (consumed_with end (option_map_or (λ (x : Float). sample end) k v) u))) c
+      go true g k m = span_stops g refl
+      go false g None m = span_ends g m refl
+      go false g (Some x) m = span_held g m refl
 
 -- ---- targets
 
@@ -115,7 +125,7 @@ pub record Targeted (f : BlockInfos) (w : Walk) (b : List Float) (ended : Option
 module _ {f : BlockInfos} {w : Walk} {b : List Float} {ended : Option Float} {sample : Float → Float} {end : Float} {u : Walk} {c : List Float}
     (s : Targeted f w b ended sample end u c) {r : Float} (value : r ≡ sample end) where
   pub target_ends : {k : Float} → ended ≡ Some k → (e : Event) (target : Float)
-      → Turns b [] (target_run f (walk_as w b) (alone e) target sample ended) (went_on_with (consumed_with end r u) e) c
+      → Turns b [] (target_run f (walk_as w b) (alone e) target sample ended) (went_on_with (consumed_with end r u)) c
   unfolding turn_as target_run fill with_values Rules.consumed hold_or
   target_ends {k} m e target =
       let z : end ≡ k = rw m at s.end_is in

@@ -27,7 +27,6 @@ use Rattle.fills.specs.Filled.{Room, Filled}
 use Rattle.automation.specs.declared.Walk.{Walk}
 use Rattle.automation.specs.declared.Walked.{Walked}
 use Rattle.automation.specs.declared.Turn.{Turn}
-use Rattle.automation.specs.declared.Go.{Go}
 use Rattle.automation.specs.Walks.{walk_as, turn_as, with_filled, counted_once, Ready, Turns}
 use Rattle.automation.specs.Walked.{Begins, Ends, Walkable, Walks}
 
@@ -67,9 +66,8 @@ module _ (store : List Float) (offset : ℕ) (e : Event) {k : ℕ} (size : k ≡
 
 -- Before a head: as many heads are finished as `at` says, and where the next one's numbers begin is known. The walk w, in the buffer b, goes on as the whole
 -- walk from w₀.
-pub record Going (f : BlockInfos) (es : List Event) (store : List Float) (w₀ : Rules.Walk) (b₀ : List Float) (w : Walk) (b : List Float) (head : Option Event) (at offset : ℕ) : Type 0 where
+pub record Going (f : BlockInfos) (es : List Event) (store : List Float) (w₀ : Rules.Walk) (b₀ : List Float) (w : Walk) (b : List Float) (at offset : ℕ) : Type 0 where
   pub offset_is : offset ≡ lengths_of (take at es)
-  pub head_is : head ≡ first_of (drop at es)
   pub filled : w.filled ≤ length b
   pub whole : length b ≡ length b₀
   pub few : at ≤ length es
@@ -78,13 +76,12 @@ pub record Going (f : BlockInfos) (es : List Event) (store : List Float) (w₀ :
   pub turned : w.turned ≤ at
   pub goes_on : walked f (walk_as w b) (drop at (attached es store)) ≡ walked f w₀ (attached es store)
 
-pub begins : {f : BlockInfos} {v : Float} {l : Option Finished} {b : List Float} {w : Walk} {c : List Float} → Begins f v l b w c → {es : List Event} {store : List Float} {head : Option Event}
-    → head ≡ first_of es → Going f es store (walk_as w c) c w c head 0 0
+pub begins : {f : BlockInfos} {v : Float} {l : Option Finished} {b : List Float} {w : Walk} {c : List Float} → Begins f v l b w c → {es : List Event} {store : List Float}
+    → Going f es store (walk_as w c) c w c 0 0
 unfolding lengths_of
-begins g e =
+begins g =
     record {
       offset_is = refl;
-      head_is = e;
       filled = g.filled;
       whole = refl;
       few = omega arith;
@@ -94,17 +91,17 @@ begins g e =
       goes_on = refl;
     }
 
-module _ {f : BlockInfos} {es : List Event} {store : List Float} {w₀ : Rules.Walk} {b₀ : List Float} {w : Walk} {b : List Float} {head : Option Event} {at offset : ℕ}
-    (g : Going f es store w₀ b₀ w b head at offset) where
+module _ {f : BlockInfos} {es : List Event} {store : List Float} {w₀ : Rules.Walk} {b₀ : List Float} {w : Walk} {b : List Float} {at offset : ℕ}
+    (g : Going f es store w₀ b₀ w b at offset) where
   abbrev ws : List Waiting
   ws = attached es store
 
   -- ---- the queue is empty
 
-  pub none_left : head ≡ None → {r : Walked} {c : List Float} → Ends f (counted_once w) b at None r c → Walks f w₀ es store b₀ r c
+  pub none_left : first_of (drop at es) ≡ None → {r : Walked} {c : List Float} → Ends f (counted_once w) b at None r c → Walks f w₀ es store b₀ r c
   unfolding ended with_head counted
   none_left h {r} {c} d =
-      let y : drop at ws ≡ [] = none_waits es store at (sym g.head_is ∙ h) in
+      let y : drop at ws ≡ [] = none_waits es store at h in
       let e : walked f w₀ ws ≡ ended f (counted (walk_as w b)) [] = sym g.goes_on ∙ ap (walked f (walk_as w b)) y ∙ walk_empty f (walk_as w b) in
       record {
         walk = rw e (d.walk ∙ ap (fill f f.count (λ s. w.intrinsic)) (counted_is w b));
@@ -115,15 +112,12 @@ module _ {f : BlockInfos} {es : List Event} {store : List Float} {w₀ : Rules.W
 
   -- ---- the head e, with what is behind it
 
-  module _ {e : Event} (is : head ≡ Some e) where
+  module _ {e : Event} (waits : first_of (drop at es) ≡ Some e) where
     abbrev numbers : List Float
     numbers = numbers_at store offset e
 
     abbrev rest : List Waiting
     rest = drop (at + 1) ws
-
-    waits : first_of (drop at es) ≡ Some e
-    waits = sym g.head_is ∙ is
 
     -- the head stands there, with what is behind it
     stands : drop at ws ≡ waiting_as e numbers ∷ rest
@@ -139,29 +133,28 @@ module _ {f : BlockInfos} {es : List Event} {store : List Float} {w₀ : Rules.W
     numbered = numbered-there es store at g.offset_is waits
 
     module _ {n : Option Event} (behind : n ≡ first_of (drop (at + 1) es)) {r : Turn} {c : List Float} (answer : Turns b numbers (turn f (walk_as w b) (waiting_as e numbers) n) r c) where
-      turned_as : turn_as r.go r.walk c r.head numbers ≡ turn f (walk_as w b) (waiting_as e numbers) (head_of rest)
+      turned_as : turn_as r.walk c r.left numbers ≡ turn f (walk_as w b) (waiting_as e numbers) (head_of rest)
       turned_as = answer.turn ∙ ap (turn f (walk_as w b) (waiting_as e numbers)) (behind_is es store at behind)
 
-      pub head_stops : r.go ≡ Go.Stop → {d : Walked} {c' : List Float} → Ends f r.walk c at (Some r.head) d c' → Walks f w₀ es store b₀ d c'
+      pub head_stops : {x : Event} → r.left ≡ Some x → {d : Walked} {c' : List Float} → Ends f r.walk c at r.left d c' → Walks f w₀ es store b₀ d c'
       unfolding turn_as ended with_head
-      head_stops s {d} {c'} h =
-          let y : walked f w₀ ws ≡ ended f (walk_as r.walk c) (waiting_as r.head numbers ∷ rest) =
+      head_stops {x} s {d} {c'} h =
+          let y : walked f w₀ ws ≡ ended f (walk_as r.walk c) (waiting_as x numbers ∷ rest) =
           sym g.goes_on ∙ ap (walked f (walk_as w b)) stands ∙ walk_stops f (walk_as w b) (waiting_as e numbers) rest _ _ (sym (rw s at turned_as)) in
           record {
             walk = rw y h.walk;
-            queue = rw (y, h.left, h.place, stands);
+            queue = rw (y, h.left, s, h.place, stands);
             filled = h.filled;
             whole = h.whole ∙ answer.whole ∙ g.whole;
           }
 
-      pub head_goes : r.go ≡ Go.On → {k : ℕ} → k ≡ length_of e → Going f es store w₀ b₀ r.walk c n (at + 1) (offset + k)
+      pub head_goes : r.left ≡ None → {k : ℕ} → k ≡ length_of e → Going f es store w₀ b₀ r.walk c (at + 1) (offset + k)
       unfolding turn_as
       head_goes o size =
           let q : turn f (walk_as w b) (waiting_as e numbers) (head_of rest) ≡ on (walk_as r.walk c) = sym (rw o at turned_as) in
           let m = head_counts f (walk_as w b) (walk_as r.walk c) (waiting_as e numbers) rest q in
           record {
             offset_is = rw size (past_is es store at g.offset_is waits);
-            head_is = behind;
             filled = answer.filled;
             whole = answer.whole ∙ g.whole;
             few = omega (arith, inside);
@@ -177,8 +170,8 @@ pub end_room : {f : BlockInfos} {q : AudioParamEventTimeline} {b store : List Fl
     → Room n f.count c
 end_room p h e = record { filled = h; upto = omega (arith, p.room); most = omega (arith, p.most) }
 
-module _ {f : BlockInfos} {q : AudioParamEventTimeline} {b store : List Float} (p : Walkable f q b store) {w₀ : Rules.Walk} {b₀ : List Float} {w : Walk} {c : List Float} {head : Option Event}
-    {at offset : ℕ} (g : Going f (waiting q) store w₀ b₀ w c head at offset) where
+module _ {f : BlockInfos} {q : AudioParamEventTimeline} {b store : List Float} (p : Walkable f q b store) {w₀ : Rules.Walk} {b₀ : List Float} {w : Walk} {c : List Float}
+    {at offset : ℕ} (g : Going f (waiting q) store w₀ b₀ w c at offset) where
   -- every count is at most twice the number of events
   pub few_steps : w.steps < 2 ^ 31
   few_steps = omega (arith, g.steps, g.few, p.sound.few)

@@ -1,7 +1,7 @@
 // The walk over a block's heads: the five bodies, named as in the Rust, and the loop that takes one head after the other.
 #![tactic(auto)]
 
-ghost use Rattle.std.specs.Prelude.{◌≡◌, [], ℕ, ◌+◌, ◌≤◌, ◌<◌, ◌^◌, length};
+ghost use Rattle.std.specs.Prelude.{◌≡◌, Float, [], ℕ, ◌+◌, ◌≤◌, ◌<◌, ◌^◌, length};
 ghost use Rattle.std.specs.Float.{binary64};
 ghost use Rattle.std.specs.Float.Ieee.{add, sub};
 ghost use Rattle.rules.specs.Numbers.{store_length};
@@ -13,7 +13,7 @@ ghost use Rattle.samples.specs.At.{exponential_at};
 ghost use Rattle.fills.specs.Filled.{Room};
 ghost use Rattle.timeline.specs.Timeline.{waiting};
 ghost use Rattle.timeline.specs.Heads.{waiting_as, numbers_at, Numbered};
-ghost use Rattle.automation.specs.Walks.{walk_as, Ready, Turns, with_filled, with_intrinsic, with_last, consumed_with, counted_once, turned_to_step, stopped_with, went_on_with};
+ghost use Rattle.automation.specs.Walks.{walk_as, Ready, Turns, with_filled, with_intrinsic, with_last, consumed_with, counted_once, turned_to_step, stopped_with, went_on_with, ended_at};
 ghost use Rattle.automation.specs.Walked.{Begins, Ends, Walkable, Walks};
 
 use rules::{AutomationRate, BlockInfos, Event, Finished};
@@ -34,29 +34,24 @@ impl Walk {
     fn with_filled(self, filled: usize) -> Walk
         ensures { result ≡ with_filled filled self }
     {
-        let mut w = self;
-        w.filled = filled;
-        w
+        Walk { filled, ..self }
     }
 
     fn with_intrinsic(self, value: f32) -> Walk
         ensures { result ≡ with_intrinsic value self }
     {
-        let mut w = self;
-        w.intrinsic = value;
-        w
+        Walk {
+            intrinsic: value,
+            ..self
+        }
     }
 
     fn with_last(self, finished: Finished) -> Walk
         ensures { result ≡ with_last finished self }
     {
         Walk {
-            intrinsic: self.intrinsic,
             last: Some(finished),
-            filled: self.filled,
-            steps: self.steps,
-            finished: self.finished,
-            turned: self.turned,
+            ..self
         }
     }
 
@@ -68,10 +63,8 @@ impl Walk {
         Walk {
             intrinsic: value,
             last: Some(Finished { time, value }),
-            filled: self.filled,
-            steps: self.steps,
             finished: self.finished + 1,
-            turned: self.turned,
+            ..self
         }
     }
 
@@ -80,9 +73,10 @@ impl Walk {
         requires { self.steps < 2 ^ 33 }
         ensures { result ≡ counted_once self }
     {
-        let mut w = self;
-        w.steps = w.steps + 1;
-        w
+        Walk {
+            steps: self.steps + 1,
+            ..self
+        }
     }
 
     // An exponential that became a step, which is one head more.
@@ -90,25 +84,19 @@ impl Walk {
         requires { (self.steps < 2 ^ 32) × (self.turned < 2 ^ 32) }
         ensures { result ≡ turned_to_step self }
     {
-        let mut w = self.counted();
-        w.turned = w.turned + 1;
-        w
+        let w = self.counted();
+        Walk {
+            turned: w.turned + 1,
+            ..w
+        }
     }
 }
 
-// What a body answers.
-#[derive(Clone, Copy)]
-pub enum Go {
-    Stop,
-    On,
-}
-
-// A body's answer: what the walk then carries, and, where it stops, what its head has become.
+// A body's answer: what the walk then carries, and, where it stops there, what its head has become.
 #[derive(Clone, Copy)]
 pub struct Turn {
     pub walk: Walk,
-    pub go: Go,
-    pub head: Event,
+    pub left: Option<Event>,
 }
 
 impl Turn {
@@ -118,20 +106,18 @@ impl Turn {
     {
         Turn {
             walk,
-            go: Go::Stop,
-            head,
+            left: Some(head),
         }
     }
 
     // The head is consumed, with its end and the value there.
-    fn consume(walk: Walk, time: f64, value: f32, head: Event) -> Self
+    fn consume(walk: Walk, time: f64, value: f32) -> Self
         requires { walk.finished < 2 ^ 32 }
-        ensures { result ≡ went_on_with (consumed_with time value walk) head }
+        ensures { result ≡ went_on_with (consumed_with time value walk) }
     {
         Turn {
             walk: walk.consumed(time, value),
-            go: Go::On,
-            head,
+            left: None,
         }
     }
 }
@@ -139,6 +125,7 @@ impl Turn {
 // ---- what the bodies share
 
 // Time 0 becomes the block time.
+#[tactic(auto, unfolding(rules::specs::Walk::step_time, rules::specs::Numbers::is_zero))]
 fn step_time(infos: BlockInfos, time: f64) -> f64
     ensures { result ≡ step_time infos time }
 {
@@ -146,20 +133,18 @@ fn step_time(infos: BlockInfos, time: f64) -> f64
 }
 
 // The last event; with none, one made from block time and intrinsic value.
+#[tactic(auto, unfolding(rules::specs::Walk::last_or))]
 fn start_of(infos: BlockInfos, walk: Walk) -> Finished
     ensures { result ≡ last_or infos walk.intrinsic walk.last }
 {
-    let last = walk.last;
-    match last {
-        None => Finished {
-            time: infos.time,
-            value: walk.intrinsic,
-        },
-        Some(finished) => finished,
-    }
+    walk.last.unwrap_or(Finished {
+        time: infos.time,
+        value: walk.intrinsic,
+    })
 }
 
 // Whether an exponential ramp can follow a ratio: finite and above 0.
+#[tactic(auto, unfolding(rules::specs::Samples::is_ratio))]
 fn is_ratio(ratio: f32) -> bool
     ensures { result ≡ is_ratio ratio }
 {
@@ -167,6 +152,7 @@ fn is_ratio(ratio: f32) -> bool
 }
 
 // Where the next event ends a target.
+#[tactic(auto, unfolding(rules::specs::Walk::end_by_next))]
 fn end_by_next(infos: BlockInfos, time: f64, next: Option<Event>) -> Option<f64>
     ensures { result ≡ end_by_next infos time next }
 {
@@ -181,13 +167,14 @@ fn end_by_next(infos: BlockInfos, time: f64, next: Option<Event>) -> Option<f64>
 }
 
 // A hold time in the block replaces that end.
+#[tactic(auto, unfolding(rules::specs::Walk::end_by_hold))]
 fn end_by_hold(infos: BlockInfos, hold: Option<f64>, end: Option<f64>) -> Option<f64>
     ensures { result ≡ end_by_hold infos hold end }
 {
-    let Some(c) = hold else {
-        return end;
-    };
-    if c < infos.next { Some(c) } else { end }
+    match hold {
+        Some(c) if c < infos.next => hold,
+        _ => end,
+    }
 }
 
 // Whether a value is so near a target that it becomes it.
@@ -197,7 +184,32 @@ fn snaps(target: f32, value: f32) -> bool
     floats::magnitude(target - value) < 1e-10
 }
 
-// ---- the five bodies
+// What a ramp or a curve does behind its fill: with its end in a later block it stops, with its value at the next one; else it is consumed, with its own value or, held,
+// with the one there.
+fn ramp_end<F: Fn(f64) -> f32>(
+    infos: BlockInfos,
+    walk: Walk,
+    head: Event,
+    end_time: f64,
+    hold: Option<f64>,
+    value: f32,
+    sample: F,
+) -> Turn
+    requires { F.IsAlwaysCallable sample × (walk.finished < 2 ^ 32) }
+    ensures { (s : Float → Float) → ((t v : Float) → F.post sample t v → v ≡ s t) → result ≡ ended_at infos walk head end_time hold value s }
+{
+    if end_time >= infos.next {
+        let at_next = sample(infos.next);
+        return Turn::stop(walk.with_intrinsic(at_next), head);
+    }
+    let at_end = match hold {
+        None => value,
+        Some(_) => sample(end_time),
+    };
+    Turn::consume(walk, end_time, at_end)
+}
+
+// ---- the five bodies: with the Rust's parameters, and so no struct for block, walk and buffer
 
 pub fn compute_set_value_automation(
     infos: BlockInfos,
@@ -217,7 +229,7 @@ pub fn compute_set_value_automation(
     if end_time > infos.next {
         return Turn::stop(w, head);
     }
-    Turn::consume(w, end_time, value, head)
+    Turn::consume(w, end_time, value)
 }
 
 pub fn compute_linear_ramp_automation(
@@ -247,17 +259,9 @@ pub fn compute_linear_ramp_automation(
     );
     let w = walk.with_last(last_event).with_filled(filled);
     let head = Event::Linear { value, time, hold };
-    // it goes on in the next block
-    if end_time >= infos.next {
-        let at_next = samples::linear_value(last_event, value, duration, infos.next);
-        return Turn::stop(w.with_intrinsic(at_next), head);
-    }
-    // it ends in this one: with its own value, or where it is held
-    let Some(_) = hold else {
-        return Turn::consume(w, end_time, value, head);
-    };
-    let at_end = samples::linear_value(last_event, value, duration, end_time);
-    Turn::consume(w, end_time, at_end, head)
+    ramp_end(infos, w, head, end_time, hold, value, |t| {
+        samples::linear_value(last_event, value, duration, t)
+    })
 }
 
 // An exponential ramp that has a ratio: it goes on or ends as ramps do.
@@ -290,15 +294,9 @@ fn exponential_span(
     );
     let w = walk.with_filled(filled);
     let head = Event::Exponential { value, time, hold };
-    if end_time >= infos.next {
-        let at_next = samples::exponential_value(from, value, duration, log, infos.next);
-        return Turn::stop(w.with_intrinsic(at_next), head);
-    }
-    let Some(_) = hold else {
-        return Turn::consume(w, end_time, value, head);
-    };
-    let at_end = samples::exponential_value(from, value, duration, log, end_time);
-    Turn::consume(w, end_time, at_end, head)
+    ramp_end(infos, w, head, end_time, hold, value, |t| {
+        samples::exponential_value(from, value, duration, log, t)
+    })
 }
 
 pub fn compute_exponential_ramp_automation(
@@ -381,7 +379,7 @@ fn target_run(
     let Some(_) = ended else {
         return target_left(infos, w, buffer, head, value, at_end);
     };
-    Turn::consume(w, end_time, at_end, head)
+    Turn::consume(w, end_time, at_end)
 }
 
 // `next` is the event behind the head.
@@ -442,15 +440,10 @@ fn curve_span(
         values,
     );
     let w = walk.with_filled(filled);
-    if end_time >= infos.next {
-        let at_next = fills::curve_value(start, intrinsic, duration, values, infos.next);
-        return Turn::stop(w.with_intrinsic(at_next), head);
-    }
-    let Some(_) = hold else {
-        return Turn::consume(w, end_time, values[values.len() - 1], head);
-    };
-    let at_end = fills::curve_value(start, intrinsic, duration, values, end_time);
-    Turn::consume(w, end_time, at_end, head)
+    let last = values[values.len() - 1];
+    ramp_end(infos, w, head, end_time, hold, last, |t| {
+        fills::curve_value(start, intrinsic, duration, values, t)
+    })
 }
 
 // `values` are the curve's own numbers.
@@ -592,30 +585,17 @@ pub fn compute_buffer(
     ensures { Walks infos (walk_from intrinsic last (values_before infos.rate intrinsic) 0) (waiting timeline) store.now buffer.old result buffer.new }
 {
     let mut walk = begin(infos, intrinsic, last, buffer);
-    let mut head = timeline.peek();
-    let mut at = 0usize;
-    let mut offset = 0usize;
-    loop {
-        let Some(event) = head else {
-            return end(infos, walk.counted(), buffer, at, None);
-        };
-        // from the slot itself: a call with the whole queue would copy it for each head
-        let behind = at + 1;
-        let mut next = None;
-        if behind < timeline.len {
-            let slot = timeline.slots[behind];
-            let waits = slot.event;
-            next = Some(waits);
-        }
-        let turn = take_head(infos, walk, buffer, event, next, store, offset);
+    let mut offset = 0;
+    // the slots themselves: a call with the whole queue would copy it for each head
+    let heads = &timeline.slots[..timeline.len];
+    for (at, head) in heads.iter().enumerate() {
+        let next = heads.get(at + 1).map(|slot| slot.event);
+        let turn = take_head(infos, walk, buffer, head.event, next, store, offset);
         walk = turn.walk;
-        let go = turn.go;
-        if let Go::Stop = go {
-            let left = turn.head;
-            return end(infos, walk, buffer, at, Some(left));
+        if turn.left.is_some() {
+            return end(infos, walk, buffer, at, turn.left);
         }
-        at = behind;
-        offset = offset + timeline::length_of(event);
-        head = next;
+        offset += timeline::length_of(head.event);
     }
+    end(infos, walk.counted(), buffer, heads.len(), None)
 }

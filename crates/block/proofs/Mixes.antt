@@ -106,11 +106,6 @@ first_taken output vs e h =
     let some : 0 < length vs = omega arith in
     sym (get_or-take (length vs) output 0 nan some) ∙ ap (λ (l : List Float). get_or l 0 nan) e ∙ first_at vs h
 
-pub silent_first : (xs : List Float) → length xs ≡ 0 → plus_zero ≡ first_of xs
-unfolding first_of
-silent_first [] h = refl
-silent_first (x ∷ xs) h = absurd (omega arith)
-
 pub one_for_all : (b : Bounds) (f : BlockInfos) (input vs output : List Float) {out : List Float} {v : Float} → f.rate ≡ Rate.K → 1 ≤ f.count → v ≡ first_of vs
     → out ≡ written b f input (replicate f.count v) output → out ≡ written b f input vs output
 unfolding written

@@ -1,14 +1,13 @@
 -- Values mixed where they stand, part by part. Assumes nothing.
 use mathlib.Core.Path.{◌≡◌, refl, sym, ap, ap₂, ◌∙◌}
-use mathlib.Core.Bool.{Bool, true, false}
+use mathlib.Core.Bool.{true, false}
 use mathlib.Core.List.{List, [], ◌∷◌, ◌++◌, append_assoc, append-nil}
-use Prim.Native.Nat.{ℕ, zero, suc, ◌+◌, ◌-◌, ◌≤◌, ◌<◌}
+use Prim.Native.Nat.{ℕ, zero, suc, min, ◌+◌, ◌-◌, ◌≤◌, ◌<◌}
 use native.Mathlib.Omega.{arith}
-use lib.Dec.{leb}
 use lib.ListN.{length, take, drop, replicate, length-replicate, length-append, length-drop, drop_of_length-le}
 use lib.Seq.{length-take-le, take_at, drop_at, drop-drop, take-add, take_all, take-nil, drop-nil}
 use lib.Ieee.{Float}
-use borrow.Author.Tests.{leb-true, leb-false, eqb-true, eq-eqb}
+use borrow.Author.Tests.{eqb-true, eq-eqb}
 use borrow.Rule.Slice.PartMut.{mid_of, post_of, put_mid}
 use Rattle.rules.specs.declared.Bounds.{Bounds}
 use Rattle.rules.specs.declared.AutomationRate.TheVariants as Rate
@@ -68,12 +67,8 @@ lent_fits n (x ∷ xs) h = eq-eqb (length (x ∷ xs)) n h
 abbrev pub Smaller : ℕ → ℕ → ℕ → Type 0
 Smaller i n r = (r ≤ i) × (r ≤ n) × (i ≤ n → r ≡ i) × (n ≤ i → r ≡ n)
 
-pub smaller_rises : {i e n r q : ℕ} → i < e → Smaller i n r → Smaller e n q → r ≤ q
-smaller_rises {i} {e} {n} {r} {q} h a z = go (leb e n) refl
-  where
-    go : (t : Bool) → leb e n ≡ t → r ≤ q
-    go true t = let f : q ≡ e = z.2 (leb-true e n t) in omega (arith, a.0)
-    go false t = let f : q ≡ n = z.3 (omega (arith, leb-false e n t)) in omega (arith, a.1)
+pub smaller_of : {i n r : ℕ} → r ≡ min i n → Smaller i n r
+smaller_of {i} {n} {r} e = (omega arith, omega arith, λ h. omega arith, λ h. omega arith)
 
 -- the input of the places from i to e, by the input of all n: none where that is none
 pub record PartInput (input part : List Float) (n i e : ℕ) : Type 0 where

@@ -27,13 +27,11 @@ pub fn infos_of(rate: AutomationRate, time: f64, period: f64, count: usize) -> B
 }
 
 // Whether the block is one-valued: the first event does not reach into it.
+#[tactic(auto, unfolding(rules::specs::Block::rests_for))]
 pub fn rests_for(infos: BlockInfos, head: Option<Event>) -> bool
     ensures { result ≡ rests_for infos head }
 {
-    match head {
-        None => true,
-        Some(e) => !timeline::is_ramp(e) & (infos.next < timeline::filed_under(e)),
-    }
+    head.is_none_or(|e| !timeline::is_ramp(e) & (infos.next < timeline::filed_under(e)))
 }
 
 // Whether all samples are said to be one value, with an input of this length.
@@ -48,28 +46,10 @@ pub fn says_one(rate: AutomationRate, rests: bool, input: usize) -> bool
 
 // ---- its samples
 
-// The smaller of two.
-fn up_to(i: usize, n: usize) -> usize
-    ensures { (result ≤ i) × (result ≤ n) × (i ≤ n → result ≡ i) × (n ≤ i → result ≡ n) }
-{
-    if i < n { i } else { n }
-}
-
-// Where the part ends that begins at a place.
-fn part_end(i: usize, n: usize) -> usize
-    requires { i < n }
-    ensures { (i < result) × (result ≤ n) × (result ≤ i + 128) }
-{
-    if n - i > 128 { i + 128 } else { n }
-}
-
 fn first_of(input: &[f32]) -> f32
     ensures { result ≡ first_of input.now }
 {
-    if input.len() == 0 {
-        return 0.0;
-    }
-    input[0]
+    input.first().copied().unwrap_or(0.0)
 }
 
 // One value for the whole block.
@@ -108,16 +88,10 @@ fn mix_parts(bounds: Bounds, input: &[f32], output: &mut [f32])
 {
     let n = output.len();
     let lent = input.len();
-    let mut i = 0usize;
-    while i < n {
-        let e = part_end(i, n);
+    for i in (0..n).step_by(128) {
+        let e = n.min(i + 128);
         // where there is no input, the part's is as empty
-        mix_part(
-            bounds,
-            &input[up_to(i, lent)..up_to(e, lent)],
-            &mut output[i..e],
-        );
-        i = e;
+        mix_part(bounds, &input[i.min(lent)..e.min(lent)], &mut output[i..e]);
     }
 }
 

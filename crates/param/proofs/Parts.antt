@@ -1,7 +1,8 @@
 -- A parameter of its parts: events taken one by one, and when all of it is sound. Assumes nothing.
-use Rattle.std.proofs.Common.{Ok}
+use Rattle.std.proofs.Common.{Ok, Option, Some, None}
+use Rattle.std.specs.Option.{is_some}
 use mathlib.Core.Path.{◌≡◌, refl, sym, ap, ◌∙◌}
-use mathlib.Core.Bool.{Bool, true, false, ◌&&◌, ◌||◌, and-false, and_assoc}
+use mathlib.Core.Bool.{Bool, true, false, cond, ◌&&◌, ◌||◌, and-false, and_assoc}
 use mathlib.Core.List.{List, [], ◌∷◌, ◌++◌}
 use Prim.Native.Nat.{ℕ, ◌+◌, ◌-◌, ◌≤◌, ◌<◌}
 use native.Mathlib.Numerals.{add-one}
@@ -33,8 +34,7 @@ use Rattle.timeline.proofs.Laws.{nothing, Filled, filled_more, filled-made}
 use Rattle.param.specs.declared.AudioParam.{AudioParam}
 use Rattle.param.specs.declared.Outcome.{Outcome}
 use Rattle.param.specs.Param.{param_of, struct_of, nothing_made, unmade, parts_of, is_whole, Restores}
-use Rattle.param.specs.declared.taking.Taken.{Taken}
-use Rattle.param.specs.Takes.{Takes}
+use Rattle.param.specs.Takes.{taken}
 use Rattle.param.proofs.Calls.{struct_sound, same_test}
 
 -- ---- restored, or not
@@ -171,6 +171,9 @@ took_all {es} {played} {i = i} {slots} t e h =
       ap (λ (n : ℕ). record { slots = slots; len = n }) (sym e) ∙ filled-made t.filled ∙ ap queue_of all,
     )
 
+pub all_taken : (q : AudioParamEventTimeline) (played : Bool) {r : AudioParamEventTimeline} → (true ≡ are_fine played (waiting q)) × (r ≡ queue_of (waiting q)) → Some r ≡ taken q played
+all_taken q played a = rw (← a.0) (ap (λ (q : AudioParamEventTimeline). Some q) a.1)
+
 -- the event in a slot is the next that waits
 pub slot_next : (q : AudioParamEventTimeline) (i : ℕ) → length q.slots ≡ most_events → i < q.len → q.len ≤ most_events
     → take (i + 1) (waiting q) ≡ take i (waiting q) ++ ((get_or q.slots i (slot_of nothing)).event ∷ [])
@@ -183,17 +186,36 @@ slot_next q i n l m =
 
 -- ---- all the parts
 
-module _ (parts : AudioParam) (few : parts.timeline.len ≤ most_events) {t : Taken} {played : Bool} (k : Takes parts.timeline played t) (ep : played ≡ has_played parts.block)
-    {bounds last block : Bool} (eb : bounds ≡ are_bounds parts.bounds) (el : last ≡ is_last_clear parts.last) (et : block ≡ are_block_times parts.block parts.end) where
-  whole_is : (t.sound && (bounds && (last && block))) ≡ is_whole parts
-  unfolding is_whole is_sound
-  whole_is =
-      rw (le-leb parts.timeline.len most_events few, k.sound, ep, eb, el, et)
-      (and_assoc (is_sound_queue (waiting parts.timeline)) _ _)
+module _ (parts : AudioParam) (few : parts.timeline.len ≤ most_events) {t : Option AudioParamEventTimeline} {played : Bool} (k : t ≡ taken parts.timeline played)
+    (ep : played ≡ has_played parts.block) where
+  fine_is : is_some t ≡ are_fine played (waiting parts.timeline)
+  fine_is = rw k (go (are_fine played (waiting parts.timeline)))
+    where
+      go : (b : Bool) → is_some (cond b (Some (queue_of (waiting parts.timeline))) None) ≡ b
+      go true = refl
+      go false = refl
 
-  pub restores_all : {r : Outcome} → (t.sound && (bounds && (last && block))) ≡ true
-      → r ≡ record { verdict = (Ok tt); param = parts_of parts.bounds parts.rate parts.edition parts.intrinsic t.queue parts.block parts.end parts.last } → Restores parts r
-  restores_all h e = restores_whole (sym whole_is ∙ h) (e ∙ rw (k.queue (both t.sound _ h).0))
+  queue_is : {q : AudioParamEventTimeline} → t ≡ Some q → q ≡ queue_of (waiting parts.timeline)
+  queue_is {q} e = go (are_fine played (waiting parts.timeline)) (sym e ∙ k)
+    where
+      go : (b : Bool) → Some q ≡ cond b (Some (queue_of (waiting parts.timeline))) None → q ≡ queue_of (waiting parts.timeline)
+      go true f = cc
+      go false f = let z : ◌≡◌ {A = ℕ} 0 1 = cc in absurd (omega arith)
 
-  pub restores_none : {r : Outcome} → (t.sound && (bounds && (last && block))) ≡ false → r ≡ unmade → Restores parts r
-  restores_none h e = restores_not (sym whole_is ∙ h) e
+  module _ {bounds last block : Bool} (eb : bounds ≡ are_bounds parts.bounds) (el : last ≡ is_last_clear parts.last) (et : block ≡ are_block_times parts.block parts.end) where
+    whole_is : (is_some t && (bounds && (last && block))) ≡ is_whole parts
+    unfolding is_whole is_sound
+    whole_is =
+        rw (le-leb parts.timeline.len most_events few, fine_is, ep, eb, el, et)
+        (and_assoc (is_sound_queue (waiting parts.timeline)) _ _)
+
+    pub restores_all : {q : AudioParamEventTimeline} {r : Outcome} → t ≡ Some q → (bounds && (last && block)) ≡ true
+        → r ≡ record { verdict = (Ok tt); param = parts_of parts.bounds parts.rate parts.edition parts.intrinsic q parts.block parts.end parts.last } → Restores parts r
+    restores_all m h e = restores_whole (sym whole_is ∙ rw (m, h)) (e ∙ rw (queue_is m))
+
+    pub restores_bad : {r : Outcome} → (bounds && (last && block)) ≡ false → r ≡ unmade → Restores parts r
+    restores_bad h e = restores_not (sym whole_is ∙ rw (h, and-false)) e
+
+  -- the events are not sound
+  pub restores_none : {r : Outcome} → t ≡ None → r ≡ unmade → Restores parts r
+  restores_none h e = restores_not (sym (whole_is refl refl refl) ∙ rw h) e

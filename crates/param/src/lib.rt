@@ -17,6 +17,7 @@ use timeline::{AudioParamEventTimeline, curve_end, filed_under, goes_at, is_ramp
 mod taking; // taking.rt: events that can wait, from outside
 pub mod process; // process.rt: the block
 
+// `SoundParam` is no invariant: `bounds` to `last_block_end` ask nothing of their parameter.
 #[derive(Clone, Copy)]
 pub struct AudioParam {
     bounds: Bounds,
@@ -31,7 +32,7 @@ pub struct AudioParam {
     last: Option<Finished>,
 }
 
-// What a call says, and the parameter after it.
+// What a call says, and the parameter after it: a refused call gives it back, too.
 #[derive(Clone, Copy)]
 pub struct Outcome {
     pub verdict: Result<(), Refusal>,
@@ -70,6 +71,7 @@ pub fn ceiling_of(edition: Edition) -> usize
 }
 
 // A target with time constant 0 is a step.
+#[tactic(auto, unfolding(rules::specs::Queue::target_event))]
 fn target_event(value: f32, time: f64, constant: f64) -> Event
     ensures { result ≡ target_event value time constant }
 {
@@ -86,57 +88,47 @@ fn target_event(value: f32, time: f64, constant: f64) -> Event
 }
 
 // Whether a time is at or before the last answered block's end.
+#[tactic(auto, unfolding(rules::specs::Queue::is_by))]
 fn is_by(end: Option<f64>, time: f64) -> bool
     ensures { result ≡ is_by end time }
 {
-    match end {
-        None => false,
-        Some(end) => time <= end,
-    }
+    end.is_some_and(|end| time <= end)
 }
 
 // Whether the event is a curve that had started by the last answered block's end.
+#[tactic(auto, unfolding(rules::specs::Queue::has_started))]
 fn has_started(end: Option<f64>, e: Event) -> bool
     ensures { result ≡ has_started end e }
 {
     match e {
-        Event::Step { .. } => false,
-        Event::Linear { .. } => false,
-        Event::Exponential { .. } => false,
-        Event::Target { .. } => false,
         Event::Curve { start, .. } => is_by(end, start),
+        _ => false,
     }
 }
 
 // Whether a cancel at c takes the head, and that is a ramp, or a curve that had started.
+#[tactic(auto, unfolding(rules::specs::Queue::loses_head))]
 fn loses_head(c: f64, end: Option<f64>, head: Option<Event>) -> bool
     ensures { result ≡ loses_head c end head }
 {
-    match head {
-        None => false,
-        Some(e) => goes_at(e, c) & (is_ramp(e) | has_started(end, e)),
-    }
+    head.is_some_and(|e| goes_at(e, c) & (is_ramp(e) | has_started(end, e)))
 }
 
 // Whether a hold at c takes the head, and that is a curve that had started.
+#[tactic(auto, unfolding(rules::specs::Queue::loses_curve))]
 fn loses_curve(c: f64, end: Option<f64>, head: Option<Event>) -> bool
     ensures { result ≡ loses_curve c end head }
 {
-    match head {
-        None => false,
-        Some(e) => (c < filed_under(e)) & has_started(end, e),
-    }
+    head.is_some_and(|e| (c < filed_under(e)) & has_started(end, e))
 }
 
 // The intrinsic value, or the last event's where such a head is lost and there is one.
+#[tactic(auto, unfolding(rules::specs::Queue::returned))]
 fn value_after(lost: bool, last: Option<Finished>, value: f32) -> f32
     ensures { result ≡ cond lost (returned last value) value }
 {
     if lost {
-        match last {
-            None => value,
-            Some(l) => l.value,
-        }
+        last.map_or(value, |l| l.value)
     } else {
         value
     }
@@ -484,27 +476,26 @@ impl AudioParam {
         if AudioParam::EVENTS < timeline.len {
             return AudioParam::refused(Refusal::Bounds);
         }
-        let taken = taking::take(timeline, has_played(block));
-        let sound = taken.sound;
+        let Some(timeline) = taking::take(timeline, has_played(block)) else {
+            return AudioParam::refused(Refusal::Bounds);
+        };
         let clear = is_last_clear(last) & are_block_times(block, end);
-        if sound & (refusals::are_bounds(bounds) & clear) {
-            let timeline = taken.queue;
-            let param = AudioParam {
-                bounds,
-                rate,
-                edition,
-                intrinsic,
-                timeline,
-                block,
-                end,
-                last,
-            };
-            Outcome {
-                verdict: Ok(()),
-                param,
-            }
-        } else {
-            AudioParam::refused(Refusal::Bounds)
+        if !(refusals::are_bounds(bounds) & clear) {
+            return AudioParam::refused(Refusal::Bounds);
+        }
+        let param = AudioParam {
+            bounds,
+            rate,
+            edition,
+            intrinsic,
+            timeline,
+            block,
+            end,
+            last,
+        };
+        Outcome {
+            verdict: Ok(()),
+            param,
         }
     }
 }

@@ -24,13 +24,11 @@ pub struct Played {
 }
 
 // How many numbers of the store are the head's.
+#[tactic(auto, unfolding(crate::specs::Processed::length_of_head))]
 fn length_of_head(head: Option<Event>) -> usize
     ensures { result ≡ length_of_head head }
 {
-    match head {
-        None => 0,
-        Some(e) => timeline::length_of(e),
-    }
+    head.map_or(0, timeline::length_of)
 }
 
 // How many numbers of the store are the waiting curves'. Mostly one event waits: a call with the whole queue would copy it.

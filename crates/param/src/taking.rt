@@ -1,34 +1,24 @@
 // Events from outside, taken as a queue.
-ghost use Rattle.std.specs.Prelude.{◌≤◌};
+ghost use Rattle.std.specs.Prelude.{◌≡◌, ◌≤◌};
 ghost use Rattle.rules.specs.Numbers.{most_events};
-ghost use Rattle.param.specs.Takes.{Takes};
+ghost use Rattle.param.specs.Takes.{taken};
 
 use crate::AudioParam;
 use refusals::sound::{is_clear, is_due, reach_of};
 use timeline::{AudioParamEventTimeline, filed_under, length_of};
 
-// Whether these events pass the tests of the invariant, and then the queue in which they wait.
-#[derive(Clone, Copy)]
-pub struct Taken {
-    pub sound: bool,
-    pub queue: AudioParamEventTimeline,
-}
-
-// The events of a timeline, whose slots behind its length do not count; `played` says whether a block was answered.
-pub fn take(q: AudioParamEventTimeline, played: bool) -> Taken
+// The queue in which the events of a timeline wait, if they pass the tests of the invariant. Its slots behind its length do not count; `played` says whether a block was
+// answered.
+pub fn take(q: AudioParamEventTimeline, played: bool) -> Option<AudioParamEventTimeline>
     requires { q.len ≤ most_events }
-    ensures { Takes q played result }
+    ensures { result ≡ taken q played }
 {
-    let empty = AudioParamEventTimeline::new();
-    let mut slots = empty.slots;
-    let len = q.len;
-    let mut used = 0usize;
+    let mut slots = AudioParamEventTimeline::new().slots;
+    let mut used = 0;
     // how far the event before reaches: at first none is before it
-    let mut before = f64::from_bits(0xfff0_0000_0000_0000);
-    let mut i = 0usize;
-    while i < len {
-        let s = q.slots[i];
-        let e = s.event;
+    let mut before = f64::NEG_INFINITY;
+    for (i, slot) in q.slots[..q.len].iter().enumerate() {
+        let e = slot.event;
         let size = length_of(e);
         let clear = is_clear(e);
         // behind `is_clear`: before it, the compiler copies the queue once more
@@ -37,18 +27,11 @@ pub fn take(q: AudioParamEventTimeline, played: bool) -> Taken
         let sound = clear & is_due(played, time);
         let fits = (before <= time) & (sound & (size <= AudioParam::STORE - used));
         if !fits {
-            return Taken {
-                sound: false,
-                queue: AudioParamEventTimeline { slots, len },
-            };
+            return None;
         }
-        slots[i] = s;
+        slots[i] = *slot;
         used += size;
         before = reach;
-        i += 1;
     }
-    Taken {
-        sound: true,
-        queue: AudioParamEventTimeline { slots, len },
-    }
+    Some(AudioParamEventTimeline { slots, len: q.len })
 }

@@ -164,11 +164,9 @@ fn walk(begun: Look, param: AudioParam, store: &[f32]) -> Looked
     ensures { Walks begun.infos begun.place (unwalked begun) (param_of param).queue store.now result }
 {
     let mut look = begun;
-    let mut at = 0usize;
-    loop {
-        let Some(event) = param.event_at(at) else {
-            return ended(counted(look), at, None);
-        };
+    let waiting = param.timeline();
+    for (at, slot) in waiting.slots[..waiting.len].iter().enumerate() {
+        let event = slot.event;
         let from = param.offset_of(at);
         let to = from + timeline::length_of(event);
         let next = param.event_at(at + 1);
@@ -177,8 +175,8 @@ fn walk(begun: Look, param: AudioParam, store: &[f32]) -> Looked
             Turn::Stop(stopped, left) => return ended(stopped, at, Some(left)),
             Turn::On(gone) => look = gone,
         }
-        at += 1;
     }
+    ended(counted(look), waiting.len, None)
 }
 
 // One head more.
@@ -243,16 +241,14 @@ fn started(look: Look) -> Look
     Look { last, ..look }
 }
 
+#[tactic(auto, unfolding(rules::specs::Walk::last_or))]
 fn start_of(look: Look) -> Finished
     ensures { result ≡ rule.last_or look.infos look.intrinsic look.last }
 {
-    let last = look.last;
-    let Some(from) = last else {
-        let time = look.infos.time;
-        let value = look.intrinsic;
-        return Finished { time, value };
-    };
-    from
+    look.last.unwrap_or(Finished {
+        time: look.infos.time,
+        value: look.intrinsic,
+    })
 }
 
 // Step: time 0 becomes the block time. Fill up to its end place. If its time is greater than the next block time, stop; else consume it.

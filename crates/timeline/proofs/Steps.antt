@@ -31,7 +31,7 @@ pub none_there : (es : List Event) (i : ℕ) → length es ≤ i → None ≡ fi
 unfolding first_of
 none_there es i h = rw (drop_of_length-le es h)
 
-one_there : (es : List Event) (i : ℕ) → i < length es → Some (get_or es i nothing) ≡ first_of (drop i es)
+pub one_there : (es : List Event) (i : ℕ) → i < length es → Some (get_or es i nothing) ≡ first_of (drop i es)
 unfolding first_of
 one_there es i h = rw (drop-cons es i nothing h)
 

@@ -19,7 +19,8 @@ pub struct AudioParamEvent {
     pub event: Event,
 }
 
-// The events of the first `len` slots wait; the other slots are blank.
+// The events of the first `len` slots wait; the other slots are blank. `Neat` says so, and no invariant: `AudioParam::from_parts` takes any timeline, and may refuse it.
+// An array with its length, since document 01 names it: there is no heap.
 #[derive(Clone, Copy)]
 pub struct AudioParamEventTimeline {
     pub slots: [AudioParamEvent; EVENTS],

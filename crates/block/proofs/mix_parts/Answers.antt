@@ -1,74 +1,66 @@
 -- `mix_parts` meets its contract: after each part the first i places are mixed. Assumes nothing.
-use mathlib.Core.Path.{◌≡◌, ap, ◌∙◌}
-use Prim.Native.Nat.{◌+◌, ◌-◌, ◌≤◌}
+use mathlib.Core.Path.{◌≡◌, ap, subst, ◌∙◌}
+use Prim.Native.Nat.{ℕ, ◌+◌, ◌-◌, ◌≤◌, ◌<◌}
 use native.Mathlib.Omega.{arith}
 use lib.ListN.{length}
-use borrow.Rule.Slice.PartMut.{mid_len}
+use borrow.Rule.Slice.PartMut.{mid_len, put_mid}
 use Rattle.block.specs.Asked.{mixed_in}
-use Rattle.block.proofs.Parts.{none_mixed, mixing_length, values_there, part-mixed, all-mixed, smaller_rises, mixed_long, mixed_there, part_input}
+use Rattle.block.proofs.Parts.{Mixing, none_mixed, mixing_length, values_there, part-mixed, all-mixed, smaller_of, mixed_long, mixed_there, part_input}
 use Rattle.block.proofs.mix_parts.Goals as goal
-use Rattle.block.proofs.mix_parts.Goals.{At-loop-i, Start}
+use Rattle.block.proofs.mix_parts.Goals.{After-min-in-loop-i, After-mix_part}
 
-abbrev start : At-loop-i → Start
-start a = a.before.before.before.before
+module _ (c : After-min-in-loop-i) where
+  kept : length c.loop-i.output ≡ length c.args.output.now
+  kept = mixing_length _ _ (mixed_long c.args.bounds c.args.input.now c.args.output.now c.requires) c.loop-i.invariant
 
-kept : (a : At-loop-i) → length a.loop-i.output ≡ length (start a).args.output.now
-kept a = let s = start a in mixing_length _ _ (mixed_long s.args.bounds s.args.input.now s.args.output.now s.requires) a.loop-i.invariant
+  some : c.loop-i.i < c.min-e.result
+  some = omega (arith, c.min-e.ensures, c.loop-i-test.true)
+
+  within : c.min-e.result ≤ length c.args.output.now
+  within = omega (arith, c.min-e.ensures)
 
 pub loop-i-init : goal.loop-i-init
-loop-i-init c =
-    none_mixed _ _ (mixed_long c.args.bounds c.args.input.now c.args.output.now c.requires)
-
-pub part_end-e-requires : goal.part_end-e-requires
-part_end-e-requires c = c.loop-i-test.true
-
-pub offset_bounds-input-up_to : goal.offset_bounds-input-up_to
-offset_bounds-input-up_to c = let a = (goal.at.offset_bounds-input-up_to c).At-loop-i in omega (arith, c.up_to.ensures.1, (start a).well_formed)
-
-pub slice_bounds-mix_part-count : goal.slice_bounds-mix_part-count
-slice_bounds-mix_part-count c = smaller_rises c.part_end-e.ensures.0 c.up_to.ensures c.up_to-in-loop-i.ensures
-
-pub offset_bounds-output-i : goal.offset_bounds-output-i
-offset_bounds-output-i c = let a = (goal.at.offset_bounds-output-i c).At-loop-i in omega (arith, kept a, c.loop-i.invariant.within, (start a).well_formed)
-
-pub slice_bounds-mix_part-count-in-loop-i : goal.slice_bounds-mix_part-count-in-loop-i
-slice_bounds-mix_part-count-in-loop-i c = omega (arith, c.part_end-e.ensures.0)
+loop-i-init c = none_mixed _ _ (mixed_long c.args.bounds c.args.input.now c.args.output.now c.requires)
 
 pub mix_part-requires : goal.mix_part-requires
 mix_part-requires c =
-    let a = (goal.at.mix_part-requires c).At-loop-i in
-    let s = start a in
-    let end = c.part_end-e in
-    let within : end.result ≤ length s.args.output.now = end.ensures.1 in
-    let many = mid_len c.loop-i.i end.result c.loop-i.output (omega (arith, kept a)) in
-    (omega (arith, many, end.ensures.2), rw many (part_input s.args.input.now _ c.loop-i.i end.result s.requires end.ensures.0 within c.up_to.ensures c.up_to-in-loop-i.ensures).fits)
+    let k = (goal.at.mix_part-requires c).After-min-in-loop-i in
+    let a = c.args in
+    let e : ℕ = c.min-e.result in
+    let many = mid_len c.loop-i.i e c.loop-i.output (omega (arith, kept k, within k)) in
+    (omega (arith, many, c.min-e.ensures), rw many (part_input a.input.now _ c.loop-i.i e c.requires (some k) (within k) (smaller_of c.min.ensures) (smaller_of c.min-in-loop-i.ensures)).fits)
 
-pub loop-i-smaller : goal.loop-i-smaller
-loop-i-smaller c = let end = c.part_end-e in omega (arith, end.ensures.0, end.ensures.1)
+-- a part more
+mixed_more : (c : After-mix_part)
+    → Mixing (mixed_in c.args.bounds c.args.input.now c.args.output.now) c.args.output.now c.min-e.result (put_mid c.loop-i.i (c.min-e.result - c.loop-i.i) c.loop-i.output c.mix_part.new.output)
+mixed_more c =
+    let a = c.args in
+    let o = a.output.now in
+    let ys = mixed_in a.bounds a.input.now o in
+    let i : ℕ = c.loop-i.i in
+    let e : ℕ = c.min-e.result in
+    let some : i < e = omega (arith, c.min-e.ensures, c.loop-i-test.true) in
+    let within : e ≤ length o = omega (arith, c.min-e.ensures) in
+    let there : i + (e - i) ≡ e = omega (arith, some) in
+    let many : length ys ≡ length o = mixed_long a.bounds a.input.now o c.requires in
+    let is = c.mix_part.ensures
+    ∙ ap (mixed_in a.bounds _) (values_there ys o many c.loop-i.invariant (e - i))
+    ∙ mixed_there a.bounds a.input.now o c.requires i e some within (smaller_of c.min.ensures) (smaller_of c.min-in-loop-i.ensures) in
+    rw there at (part-mixed ys o many c.loop-i.invariant (e - i) (omega (arith, within)) c.mix_part.new.output is)
 
 pub loop-i-preserved : goal.loop-i-preserved
 loop-i-preserved c =
-    let a = (goal.at.loop-i-preserved c).At-loop-i in
-    let s = start a in
-    let o = s.args.output.now in
-    let input = s.args.input.now in
-    let ys = mixed_in s.args.bounds input o in
-    let end = c.part_end-e in
-    let i = c.loop-i.i in
-    let e = end.result in
-    let there : i + (e - i) ≡ e = omega (arith, end.ensures.0) in
-    let many : length ys ≡ length o = mixed_long s.args.bounds input o s.requires in
-    let p = c.mix_part.new.output in
-    let is = c.mix_part.ensures
-    ∙ ap (mixed_in s.args.bounds _) (values_there ys o many c.loop-i.invariant (e - i))
-    ∙ mixed_there s.args.bounds input o s.requires i e end.ensures.0 end.ensures.1 c.up_to.ensures c.up_to-in-loop-i.ensures in
-    rw there at (part-mixed ys o many c.loop-i.invariant (e - i) (omega (arith, end.ensures.1)) p is)
-
-pub shape_of-output : goal.shape_of-output
-shape_of-output c = kept (goal.at.shape_of-output c).At-loop-i
+    let a = c.args in
+    let e : c.min-e.result ≡ c.loop-i.i + 128 = omega (arith, c.min-e.ensures) in
+    subst
+    (λ (k : ℕ). Mixing (mixed_in a.bounds a.input.now a.output.now) a.output.now k (put_mid c.loop-i.i (c.min-e.result - c.loop-i.i) c.loop-i.output c.mix_part.new.output))
+    e
+    (mixed_more (goal.at.loop-i-preserved c).After-mix_part)
 
 pub returns : goal.returns
-returns c =
-    let a = (goal.at.returns c).At-loop-i in
-    let s = start a in
-    all-mixed _ _ (mixed_long s.args.bounds s.args.input.now s.args.output.now s.requires) c.loop-i.invariant (omega (arith, c.loop-i-test))
+returns c = all-mixed _ _ (mixed_long c.args.bounds c.args.input.now c.args.output.now c.requires) c.loop-i.invariant c.loop-i-test.false
+
+pub returns-2 : goal.returns-2
+returns-2 c =
+    let a = c.args in
+    all-mixed _ _ (mixed_long a.bounds a.input.now a.output.now c.requires) (mixed_more (goal.at.returns-2 c).After-mix_part) (omega (arith, c.min-e.ensures))
