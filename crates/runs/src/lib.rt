@@ -261,8 +261,7 @@ pub fn compute_linear_ramp_samples(
         if floats::is_finite(diff) {
             let c = start_value as f64;
             let a = diff as f64;
-            let bx = phases::once_from(a, c);
-            if bx != 0 {
+            if let Some(bx) = phases::once_from(a, c) {
                 linear_once(out, start_time, duration, c, a, bx, time, dt);
                 return;
             }
@@ -781,7 +780,7 @@ fn target_told(
     requires t { T (fits binary32 a) × T (fits binary32 c) × T (finite a) × T (finite c) }
     ensures { result ≡ true → (v : Float) → out.new ≡ run (from_start start_time v (target_at start_time constant c a)) dt (length out.old) time }
 {
-    let b = phases::once_from(a, c) / 0x10_0000_0000_0000;
+    let b = phases::once_from(a, c).unwrap_or(0) / 0x10_0000_0000_0000;
     if is_steady_for(out.len(), start_time, constant, dt) {
         if is_begun(start_time, time) {
             if start_time < time {
@@ -1032,8 +1031,7 @@ fn sums_between(out: &mut [f32], xs: &[f64; 16], c: f64, a: f64) -> bool
     requires out_len { (length out.old ≡ 16) × (length xs.now ≡ 16) × Between xs.now × Spans (898 * 2 ^ 52) (slice_index_or xs.now 0 nan) (slice_index_or xs.now 15 nan) }
     ensures { result ≡ true → out.new ≡ each (phase_sum c a) xs.now }
 {
-    let bx = phases::once_from(a, c);
-    if bx != 0 {
+    if let Some(bx) = phases::once_from(a, c) {
         if spans(xs[0], xs[15], bx) {
             sums_within(out, xs, c, a, bx);
             return true;

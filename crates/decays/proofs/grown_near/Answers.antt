@@ -1,9 +1,7 @@
 -- `decays::grown_near` meets its contract. Assumes nothing.
-use mathlib.Core.Path.{refl}
-use mathlib.Core.Logic.{inl, inr}
+use mathlib.Core.Logic.{inr}
 use Prim.Native.Nat.{ℕ, ◌≤◌}
 use native.Mathlib.Omega.{arith}
-use Rattle.phases.proofs.Seen.{seen}
 use Rattle.decays.proofs.Growth.{over, by_estimate, over_small}
 use Rattle.decays.proofs.grown_near.Goals as goal
 
@@ -12,9 +10,9 @@ raise_least h e l = omega arith
 
 pub returns-then-e-lt4294967296 : goal.returns-then-e-lt4294967296
 returns-then-e-lt4294967296 c =
-    let h = c.lifted-h.result in
+    let h = c.in-Some.h in
     let e = c.falling_near-e.result in
-    let t = seen h c.lifted-h.ensures (λ z. omega (arith, c.if-h-ge3573547008.true)) in
+    let t = c.in-Some.ensures in
     inr
     (record {
       least = raise_least h e c.if-h-ge3573547008.true;
@@ -24,18 +22,3 @@ returns-then-e-lt4294967296 c =
           by_estimate c.args.x h t.0 c.if-h-ge3573547008.true c.if-h-lt12884901888.true c.if-h-ne0.true from e r f c.falling_near-e.ensures.0
           c.falling_near-e.ensures.1 c.if-e-ge2147483668.true c.if-e-lt4294967296.true k;
     })
-
-pub returns-else-e-lt4294967296 : goal.returns-else-e-lt4294967296
-returns-else-e-lt4294967296 c = inl refl
-
-pub returns-else-e-ge2147483668 : goal.returns-else-e-ge2147483668
-returns-else-e-ge2147483668 c = inl refl
-
-pub returns-else-h-ne0 : goal.returns-else-h-ne0
-returns-else-h-ne0 c = inl refl
-
-pub returns-else-h-lt12884901888 : goal.returns-else-h-lt12884901888
-returns-else-h-lt12884901888 c = inl refl
-
-pub returns-else-h-ge3573547008 : goal.returns-else-h-ge3573547008
-returns-else-h-ge3573547008 c = inl refl

@@ -1,6 +1,5 @@
 -- `runs::compute_linear_ramp_samples` meets its contract. Assumes nothing.
 use Rattle.std.proofs.Common.{T, sym, ◌∙◌, subst}
-use Rattle.phases.proofs.Seen.{seen}
 use Rattle.floats.proofs.Compared.{finite_of, finite_held}
 use Rattle.runs.proofs.Fine.{Fine, asked}
 use Rattle.runs.proofs.compute_linear_ramp_samples.Goals as goal
@@ -23,11 +22,11 @@ float_to_float-c c = let f = fine (goal.at.float_to_float-c c).Then-is_finite-2 
 pub float_to_float-a : goal.float_to_float-a
 float_to_float-a c = let f = fine (goal.at.float_to_float-a c).Then-is_finite-2 in finite_held _ f.fits_a f.is_a
 
-pub once_from-bx-requires : goal.once_from-bx-requires
-once_from-bx-requires c = let f = fine (goal.at.once_from-bx-requires c).Then-is_finite-2 in (finite_of _ f.is_a, finite_of _ f.is_c)
+pub once_from-requires : goal.once_from-requires
+once_from-requires c = let f = fine (goal.at.once_from-requires c).Then-is_finite-2 in (finite_of _ f.is_a, finite_of _ f.is_c)
 
 pub linear_once-requires : goal.linear_once-requires
 linear_once-requires c = record {
   t = asked _ _ (fine (goal.at.linear_once-requires c).Then-is_finite-2);
-  once = seen c.once_from-bx.result c.once_from-bx.ensures c.if-bx-ne0.true;
+  once = c.in-Some.ensures;
 }
