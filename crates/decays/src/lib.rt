@@ -67,8 +67,7 @@ pub fn decay_at(y: f64) -> f64
     if y >= 160.0 {
         return 0.0;
     }
-    let b = phases::raised(y * 16777216.0);
-    if b != 0 {
+    if let Some(b) = phases::raised(y * 16777216.0) {
         if b < 0x4219_f400_0000_0000 {
             return f64::from_bits(shown_by(b, told_of(b)));
         }
@@ -101,17 +100,12 @@ fn grown_slow(from: f64, x: f64) -> f32
     requires { T (finite from) }
     ensures { result ≡ narrowed (mul binary64 from (factor_of x)) }
 {
-    let h = phases::lifted(x);
-    if h >= 3573547008 {
-        if h < 12884901888 {
-            if h % 16777216 != 0 {
-                let d = powers::falling_by(16777216 - h % 16777216);
-                if d >= 2147483648 {
-                    if d < 4294967296 {
-                        let f = (h / 16777216 + 510) * 0x10_0000_0000_0000 + d * 0x20_0000;
-                        return rounding::narrow(from * f64::from_bits(f));
-                    }
-                }
+    if let Some(h) = phases::lifted(x) {
+        if h >= 3573547008 && h < 12884901888 && h % 16777216 != 0 {
+            let d = powers::falling_by(16777216 - h % 16777216);
+            if d >= 2147483648 && d < 4294967296 {
+                let f = (h / 16777216 + 510) * 0x10_0000_0000_0000 + d * 0x20_0000;
+                return rounding::narrow(from * f64::from_bits(f));
             }
         }
     }
@@ -122,16 +116,11 @@ fn grown_slow(from: f64, x: f64) -> f32
 fn grown_near(x: f64) -> Option<u64>
     ensures { IfSome result (λ n. Grown x n) }
 {
-    let h = phases::lifted(x);
-    if h >= 3573547008 {
-        if h < 12884901888 {
-            if h % 16777216 != 0 {
-                let e = powers::falling_near(16777216 - h % 16777216);
-                if e >= 2147483668 {
-                    if e < 4294967296 {
-                        return Some((h / 16777216 + 510) * 0x10_0000_0000_0000 + e * 0x20_0000);
-                    }
-                }
+    if let Some(h) = phases::lifted(x) {
+        if h >= 3573547008 && h < 12884901888 && h % 16777216 != 0 {
+            let e = powers::falling_near(16777216 - h % 16777216);
+            if e >= 2147483668 && e < 4294967296 {
+                return Some((h / 16777216 + 510) * 0x10_0000_0000_0000 + e * 0x20_0000);
             }
         }
     }

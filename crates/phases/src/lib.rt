@@ -1,7 +1,7 @@
 // What fast paths share: floors and sums seen in the patterns of `f64` values, and with them the sum of a linear or a curve's sample.
 #![tactic(auto)]
 
-ghost use Rattle.std.specs.Prelude.{◌≡◌, true, IfSome, ◌⊎◌, ◌+◌, ◌*◌, ◌^◌, ◌≤◌, ◌<◌, T};
+ghost use Rattle.std.specs.Prelude.{◌≡◌, true, IfSome, ◌⊎◌, ◌+◌, ◌-◌, ◌*◌, ◌/◌, ◌^◌, ◌≤◌, ◌<◌, T};
 ghost use Rattle.std.specs.Float.{binary32};
 ghost use Rattle.std.specs.Float.Ieee.{fits, eq};
 ghost use Rattle.std.specs.Float.Ieee.Scale.{finite};
@@ -9,40 +9,36 @@ ghost use Rattle.rules.specs.Numbers.{plus_zero, narrowed, fused};
 ghost use Rattle.phases.specs.Patterns.{Lifted, Raised, Holds};
 ghost use Rattle.phases.specs.Once.{Grid, Once, Within, Served};
 
-// 2^33 more than the whole number next below x, or 0 where it is not seen. At 3 * 2^33 the last 18 digits are the fraction, and where one of them is set no rounding has reached the whole part.
-pub fn lifted(x: f64) -> u64
-    ensures { (result ≡ 0) ⊎ (Lifted x result × (result < 2 ^ 34)) }
+// The pattern of x + 3 * 2^33 where it is `least` at least, below 2^35, and one of its last 18 digits is set. These are x's fraction, and no rounding has reached the whole part.
+fn seen_from(x: f64, least: u64) -> Option<u64>
+    requires { 1057 * 2 ^ 52 ≤ least }
+    ensures { IfSome result (λ b. (least ≤ b) × (b < 1058 * 2 ^ 52) × Lifted x ((b - 1057 * 2 ^ 52) / 2 ^ 18)) }
 {
     let v = x + 25769803776.0;
-    if v == v {
-        let b = f64::to_bits(v);
-        if b >= 0x4210_0000_0000_0000 {
-            if b < 0x4220_0000_0000_0000 {
-                if b % 0x4_0000 != 0 {
-                    return (b - 0x4210_0000_0000_0000) / 0x4_0000;
-                }
-            }
-        }
+    if v.is_nan() {
+        return None;
     }
-    0
+    let b = f64::to_bits(v);
+    if b >= least && b < 0x4220_0000_0000_0000 && b % 0x4_0000 != 0 {
+        Some(b)
+    } else {
+        None
+    }
 }
 
-// The pattern of x + 3 * 2^33, or 0 where it does not show the whole part of an x from 0 on.
-pub fn raised(x: f64) -> u64
-    ensures { (result ≡ 0) ⊎ Raised x result }
+// 2^33 more than the whole number next below x, where it is seen.
+pub fn lifted(x: f64) -> Option<u64>
+    ensures { IfSome result (λ h. Lifted x h × (h < 2 ^ 34)) }
 {
-    let v = x + 25769803776.0;
-    if v == v {
-        let b = f64::to_bits(v);
-        if b >= 0x4218_0000_0000_0000 {
-            if b < 0x4220_0000_0000_0000 {
-                if b % 0x4_0000 != 0 {
-                    return b;
-                }
-            }
-        }
-    }
-    0
+    let b = seen_from(x, 0x4210_0000_0000_0000)?;
+    Some((b - 0x4210_0000_0000_0000) / 0x4_0000)
+}
+
+// The pattern of x + 3 * 2^33, where it shows the whole part of an x from 0 on.
+pub fn raised(x: f64) -> Option<u64>
+    ensures { IfSome result (Raised x) }
+{
+    seen_from(x, 0x4218_0000_0000_0000)
 }
 
 // The pattern of x rounded to an `f32`, where x lies in the range of the normal ones above 0.
@@ -140,7 +136,7 @@ pub fn phase_sum_within(a: f64, x: f64, c: f64, bx: u64) -> f32
     sum_once(a, f64::from_bits(q - q % 0x2000_0000), c)
 }
 
-// The pattern of the same at an x up to 1, for any finite a and c; or 0, as for `cut_sum`. It has few tests, so that several can be worked out side by side.
+// The pattern of the same at an x up to 1, for any finite a and c, or 0. It has few tests, so that several can be worked out side by side; 0 and no Option, since callers store what they get without a test.
 pub fn phase_sum_seen(a: f64, x: f64, c: f64) -> u64
     requires t { T (fits binary32 a) × T (fits binary32 c) × T (finite a) × T (finite c) }
     requires within { Within (898 * 2 ^ 52) x }
@@ -218,31 +214,29 @@ fn grid_of(a: f64) -> Option<u64>
     }
 }
 
-// The smallest pattern of an x from which on `phase_sum_once` serves a and c, or 0 where there is none.
-pub fn once_from(a: f64, c: f64) -> u64
+// The smallest pattern of an x from which on `phase_sum_once` serves a and c.
+pub fn once_from(a: f64, c: f64) -> Option<u64>
     requires { T (finite a) × T (finite c) }
-    ensures { (result ≡ 0) ⊎ Once a c result }
+    ensures { IfSome result (Once a c) }
 {
     let z = f64::to_bits(c) % 0x8000_0000_0000_0000;
     let fa = f64::to_bits(a) % 0x8000_0000_0000_0000 / 0x10_0000_0000_0000;
     let high = higher(fa, z / 0x10_0000_0000_0000);
-    let Some(grid) = grid_of(a) else {
-        return 0;
-    };
+    let grid = grid_of(a)?;
     if high > 1147 {
-        return 0;
+        return None;
     }
     // few phases would be so large
     if high >= grid + 4 {
-        return 0;
+        return None;
     }
     if z != 0 {
         if high > z / 0x10_0000_0000_0000 + 29 {
-            return 0;
+            return None;
         }
     }
     if high + 119 <= grid {
-        return 0x3820_0000_0000_0000;
+        return Some(0x3820_0000_0000_0000);
     }
-    (high + 1017 - grid) * 0x10_0000_0000_0000
+    Some((high + 1017 - grid) * 0x10_0000_0000_0000)
 }

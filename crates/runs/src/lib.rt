@@ -252,8 +252,7 @@ pub fn compute_linear_ramp_samples(
         period: dt,
     };
     if let Some(line) = Line::between(start_value, diff) {
-        let bx = phases::once_from(line.a, line.c);
-        if bx != 0 {
+        if let Some(bx) = phases::once_from(line.a, line.c) {
             linear_once(out, start_time, duration, line, bx, times);
             return;
         }
@@ -768,7 +767,7 @@ fn target_told(out: &mut [f32], start_time: f64, constant: f64, line: Line, time
     requires out_len_bound { (length out.old ≤ 128) }
     ensures { result ≡ true → (v : Float) → out.new ≡ run (from_start start_time v (target_at start_time constant line.c line.a)) times.period (length out.old) times.first }
 {
-    let b = phases::once_from(line.a, line.c) / 0x10_0000_0000_0000;
+    let b = phases::once_from(line.a, line.c).unwrap_or(0) / 0x10_0000_0000_0000;
     if is_steady_for(out.len(), start_time, constant, times.period) {
         if is_begun(start_time, times.first) {
             if start_time < times.first {
@@ -1005,8 +1004,7 @@ fn sums_between(out: &mut [f32], xs: &[f64; 16], line: Line) -> bool
     requires out_len { (length out.old ≡ 16) × (length xs.now ≡ 16) × Between xs.now × Spans (898 * 2 ^ 52) (slice_index_or xs.now 0 nan) (slice_index_or xs.now 15 nan) }
     ensures { result ≡ true → out.new ≡ each (phase_sum line.c line.a) xs.now }
 {
-    let bx = phases::once_from(line.a, line.c);
-    if bx != 0 {
+    if let Some(bx) = phases::once_from(line.a, line.c) {
         if spans(xs[0], xs[15], bx) {
             sums_within(out, xs, line, bx);
             return true;

@@ -15,11 +15,10 @@ use rules::{BlockInfos, Finished};
 pub fn whole(x: f64) -> u64
     ensures { result ≡ whole_part x }
 {
-    let b = phases::raised(x);
-    if b != 0 {
-        return (b - 0x4218_0000_0000_0000) / 0x4_0000;
+    match phases::raised(x) {
+        Some(b) => (b - 0x4218_0000_0000_0000) / 0x4_0000,
+        None => std::num::saturating_f64_to_u64(x),
     }
-    std::num::saturating_f64_to_u64(x)
 }
 
 // The factor of a target after p steps of 2^-24.

@@ -7,7 +7,6 @@ use lib.Ieee.{Float, binary64, fits, is_nan, of_bits, nan_bits}
 use lib.Ieee.Fits.{and_i, fits_widens}
 use Rattle.rules.specs.Numbers.{narrowed}
 use Rattle.rules.specs.Samples.{decay_of, decay}
-use Rattle.phases.proofs.Seen.{seen}
 use Rattle.samples.proofs.Fading.{decay_gone, decay-left}
 use Rattle.decays.specs.Told.{steps_in, Steps}
 use Rattle.decays.proofs.Fits.{decay_fits, decay_no_nan}
@@ -15,14 +14,14 @@ use Rattle.decays.proofs.decay_at.Goals as goal
 use Rattle.decays.proofs.decay_at.Goals.{Then-b-lt4763106361758187520}
 
 -- steps that are seen, and few
-steps : (c : Then-b-lt4763106361758187520) → Steps c.raised-b.result
-steps c = let r = c.raised-b in record { lo = (seen r.result r.ensures c.if-b-ne0.true).lo; hi = c.if-b-lt4763106361758187520.true }
+steps : (c : Then-b-lt4763106361758187520) → Steps c.in-Some.b
+steps c = record { lo = c.in-Some.ensures.lo; hi = c.if-b-lt4763106361758187520.true }
 
-factor : (c : Then-b-lt4763106361758187520) → narrowed (decay_of (steps_in c.raised-b.result)) ≡ decay c.args.y
+factor : (c : Then-b-lt4763106361758187520) → narrowed (decay_of (steps_in c.in-Some.b)) ≡ decay c.args.y
 unfolding of_bits
 factor c =
     let r = c.before.before in
-    ap (λ (p : ℕ). narrowed (decay_of p)) (seen r.raised-b.result r.raised-b.ensures c.if-b-ne0.true).whole ∙ decay-left r.args.y r.if-y.false
+    ap (λ (p : ℕ). narrowed (decay_of p)) c.in-Some.ensures.whole ∙ decay-left r.args.y r.if-y.false
 
 castable : (v y : Float) → v ≡ decay y → T (fits binary64 v && not (is_nan v))
 castable v y e = subst (λ (v : Float). T (fits binary64 v && not (is_nan v))) (sym e) (and_i (fits binary64 (decay y)) (not (is_nan (decay y))) (fits_widens (decay y) (decay_fits y)) (decay_no_nan y))

@@ -1,7 +1,6 @@
 -- `decays::grown_near` meets its contract. Assumes nothing.
 use Prim.Native.Nat.{ℕ, ◌≤◌}
 use native.Mathlib.Omega.{arith}
-use Rattle.phases.proofs.Seen.{seen}
 use Rattle.decays.proofs.Growth.{over, by_estimate, over_small}
 use Rattle.decays.proofs.grown_near.Goals as goal
 
@@ -10,9 +9,9 @@ raise_least h e l = omega arith
 
 pub returns-then-e-lt4294967296 : goal.returns-then-e-lt4294967296
 returns-then-e-lt4294967296 c =
-    let h = c.lifted-h.result in
+    let h = c.in-Some.h in
     let e = c.falling_near-e.result in
-    let t = seen h c.lifted-h.ensures (λ z. omega (arith, c.if-h-ge3573547008.true)) in
+    let t = c.in-Some.ensures in
     record {
       least = raise_least h e c.if-h-ge3573547008.true;
       most = over_small h e c.if-h-lt12884901888.true c.if-e-lt4294967296.true;

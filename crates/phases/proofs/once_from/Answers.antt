@@ -1,5 +1,5 @@
 -- `phases::once_from` meets its contract. Assumes nothing.
-use mathlib.Core.Path.{◌≡◌, refl}
+use mathlib.Core.Path.{◌≡◌}
 use mathlib.Core.Logic.{◌⊎◌, inl, inr}
 use Prim.Native.Nat.{ℕ, ◌+◌, ◌-◌, ◌*◌, ◌^◌, ◌≤◌}
 use native.Mathlib.Omega.{arith}
@@ -14,11 +14,11 @@ made : (a c : Float) (high grid x : ℕ) → Grid a grid → field a + 2 ≤ hig
 made a c high grid x g u uc l h v w t = record { high = high; grid = grid; few = g; over = u; over_c = uc; least = l; most = h; first = omega arith; room = omega arith; third = t }
 
 -- what is known behind the tests
-once : (c : Joined-z-ne0) (x : ℕ) → 898 ≤ x → c.higher-high.result + 1017 ≤ c.in-Some.grid + x
+once : (c : Joined-z-ne0) (x : ℕ) → 898 ≤ x → c.higher-high.result + 1017 ≤ c.in_ok-grid.grid + x
     → Once c.args.a c.args.c (x * 2 ^ 52)
 once c x k r =
     let h = c.higher-high in
-    made c.args.a c.args.c h.result c.in-Some.grid x c.in-Some.ensures.0 h.ensures.0 h.ensures.1 h.ensures.2
+    made c.args.a c.args.c h.result c.in_ok-grid.grid x c.in_ok-grid.ensures.0 h.ensures.0 h.ensures.1 h.ensures.2
     c.if-high-gt1147.false k r
     (elim c.if-z-ne0.branch [ then-z-ne0+else-high-z w ↦ inr w.if-high-z.false | else-z-ne0 w ↦ inl w.if-z-ne0.false ])
 
@@ -31,19 +31,10 @@ float_to_bits-fa c = finite_no_nan c.args.a c.requires.0
 pub grid_of-requires : goal.grid_of-requires
 grid_of-requires c = c.requires.0
 
-pub returns-then-high-gt1147 : goal.returns-then-high-gt1147
-returns-then-high-gt1147 c = inl refl
-
-pub returns-then-high-grid : goal.returns-then-high-grid
-returns-then-high-grid c = inl refl
-
-pub returns-then-high-z : goal.returns-then-high-z
-returns-then-high-z c = inl refl
-
 pub returns-then-high-grid-2 : goal.returns-then-high-grid-2
-returns-then-high-grid-2 c = inr (once (goal.at.returns-then-high-grid-2 c).Joined-z-ne0 898 (omega arith) (omega arith))
+returns-then-high-grid-2 c = once (goal.at.returns-then-high-grid-2 c).Joined-z-ne0 898 (omega arith) (omega arith)
 
 pub returns : goal.returns
 returns c =
     let j = (goal.at.returns c).Joined-z-ne0 in
-    inr (once j (c.higher-high.result + 1017 - c.in-Some.grid) (omega arith) (omega arith))
+    once j (c.higher-high.result + 1017 - c.in_ok-grid.grid) (omega arith) (omega arith)

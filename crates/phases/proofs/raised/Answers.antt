@@ -1,47 +1,22 @@
 -- `phases::raised` meets its contract: 2 ^ 33 of what the pattern shows are not x's. Assumes nothing.
-use mathlib.Core.Path.{◌≡◌, refl, ◌∙◌}
-use mathlib.Core.Logic.{inl, inr}
-use Prim.Native.Nat.{ℕ, ◌-◌, ◌*◌, ◌/◌, ◌%◌, ◌^◌, ◌≤◌, ◌<◌}
+use mathlib.Core.Path.{◌≡◌, ◌∙◌}
+use Prim.Native.Nat.{ℕ, ◌-◌, ◌*◌, ◌/◌, ◌^◌, ◌≤◌, ◌<◌}
 use native.Mathlib.Omega.{arith}
-use lib.Ieee.{of_bits}
-use Rattle.rounding_laws.proofs.Cut.{no_nan_eq}
-use Rattle.phases.proofs.Quick.{bits, lifts, whole_lifted}
+use lib.Ieee.{Float}
+use Rattle.std.specs.Prelude.{Option, Some, None, IfSome}
+use Rattle.phases.specs.Patterns.{Lifted, Raised}
+use Rattle.phases.proofs.Quick.{whole_lifted}
 use Rattle.phases.proofs.raised.Goals as goal
 
--- what the tests say of the pattern
-tests : (b : ℕ) → 2115 * 2 ^ 51 ≤ b → b < 1058 * 2 ^ 52 → (b % 2 ^ 18 ≡ 0 → ⊥)
-    → (1057 * 2 ^ 52 < b) × ((b - 1057 * 2 ^ 52) % 2 ^ 18 ≡ 0 → ⊥) × (2 ^ 33 ≤ (b - 1057 * 2 ^ 52) / 2 ^ 18) × ((b - 1057 * 2 ^ 52) / 2 ^ 18 < 2 ^ 34)
-tests b l h n = (omega arith, (λ z. n (omega arith)), omega arith, omega arith)
+tests : (b : ℕ) → 2115 * 2 ^ 51 ≤ b → b < 1058 * 2 ^ 52
+    → (2 ^ 33 ≤ (b - 1057 * 2 ^ 52) / 2 ^ 18) × ((b - 1057 * 2 ^ 52) / 2 ^ 18 < 2 ^ 34) × ((b - 2115 * 2 ^ 51) / 2 ^ 18 ≡ (b - 1057 * 2 ^ 52) / 2 ^ 18 - 2 ^ 33)
+tests b l h = (omega arith, omega arith, omega arith)
 
-same : (b : ℕ) → 2115 * 2 ^ 51 ≤ b → (b - 2115 * 2 ^ 51) / 2 ^ 18 ≡ (b - 1057 * 2 ^ 52) / 2 ^ 18 - 2 ^ 33
-same b l = omega arith
+pattern : (x : Float) (o : Option ℕ) → IfSome o (λ b. (2115 * 2 ^ 51 ≤ b) × (b < 1058 * 2 ^ 52) × Lifted x ((b - 1057 * 2 ^ 52) / 2 ^ 18)) → IfSome o (Raised x)
+pattern x None h = tt
+pattern x (Some b) h =
+    let s = tests b h.0 h.1 in
+    record { lo = h.0; hi = h.1; whole = s.2 ∙ whole_lifted x ((b - 1057 * 2 ^ 52) / 2 ^ 18) h.2 s.0 s.1 }
 
-pub float_to_bits-b : goal.float_to_bits-b
-float_to_bits-b c = no_nan_eq _ c.if-v.true
-
-pub returns-then-b-ne0 : goal.returns-then-b-ne0
-unfolding of_bits
-returns-then-b-ne0 c =
-    let x = c.args.x in
-    let l = c.if-b-ge4762556605944299520.true in
-    let h = c.if-b-lt4764808405757984768.true in
-    let s = tests (bits x) l h c.if-b-ne0.true in
-    inr (record {
-      lo = l;
-      hi = h;
-      whole =
-          same (bits x) l
-          ∙ whole_lifted x ((bits x - 1057 * 2 ^ 52) / 2 ^ 18) (lifts x (record { some = no_nan_eq _ c.if-v.true; lo = s.0; hi = h; apart = s.1 })) s.2 s.3;
-    })
-
-pub returns-else-b-ne0 : goal.returns-else-b-ne0
-returns-else-b-ne0 c = inl refl
-
-pub returns-else-b-lt4764808405757984768 : goal.returns-else-b-lt4764808405757984768
-returns-else-b-lt4764808405757984768 c = inl refl
-
-pub returns-else-b-ge4762556605944299520 : goal.returns-else-b-ge4762556605944299520
-returns-else-b-ge4762556605944299520 c = inl refl
-
-pub returns-else-v : goal.returns-else-v
-returns-else-v c = inl refl
+pub returns : goal.returns
+returns c = pattern c.args.x c.seen_from.result c.seen_from.ensures

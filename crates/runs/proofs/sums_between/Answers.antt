@@ -1,13 +1,12 @@
 -- `runs::sums_between` meets its contract. Assumes nothing.
 use Rattle.std.proofs.Common.{◌*◌, ◌^◌}
-use Rattle.phases.proofs.Seen.{seen}
 use Rattle.runs.proofs.sums_between.Goals as goal
 
 pub sums_within-requires : goal.sums_within-requires
 sums_within-requires c =
     let p = c.requires in
     record {
-      once = (seen c.once_from-bx.result c.once_from-bx.ensures c.if-bx-ne0.true, p.out_len.0, p.out_len.1, p.out_len.2 _ (c.spans.ensures c.if-spans.true));
+      once = (c.in-Some.ensures, p.out_len.0, p.out_len.1, p.out_len.2 _ (c.spans.ensures c.if-spans.true));
     }
 
 pub returns-then-spans : goal.returns-then-spans

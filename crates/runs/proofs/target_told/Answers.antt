@@ -1,22 +1,21 @@
 -- `runs::target_told` meets its contract. Assumes nothing.
-use Rattle.std.proofs.Common.{◌≡◌, ℕ, ◌+◌, ◌-◌, ◌*◌, ◌/◌, ◌^◌, ◌≤◌, ◌⊎◌, length, sym, ◌∙◌, subst, arith, eqb-true}
+use Rattle.std.proofs.Common.{◌≡◌, ℕ, ◌+◌, ◌-◌, ◌*◌, ◌/◌, ◌^◌, ◌≤◌, length, sym, ◌∙◌, subst, arith, eqb-true}
 use lib.Ieee.{Float}
+use Rattle.std.specs.Prelude.{Option, Some, None, IfSome}
+use Rattle.std.specs.Option.{unwrap_or}
 use Rattle.rules.specs.Walk.{from_start}
 use Rattle.samples.specs.At.{target_at}
 use Rattle.phases.specs.Once.{Once}
-use Rattle.phases.proofs.Seen.{seen}
 use Rattle.runs.specs.Rising.{Rises}
 use Rattle.runs.proofs.Filling.{run-same}
 use Rattle.runs.proofs.Later.{not_before}
 use Rattle.runs.proofs.target_told.Goals as goal
 
 -- from a whole power of two on
-once_cut : (a c : Float) (bx few : ℕ) → (bx ≡ 0) ⊎ Once a c bx → few ≤ 124 → few + bx / 2 ^ 52 ≡ 1022 → Once a c ((1022 - few) * 2 ^ 52)
-once_cut a c bx few w f e = go (seen bx w (λ z. some bx few f e z))
+once_cut : (a c : Float) (o : Option ℕ) (bx few : ℕ) → bx ≡ unwrap_or o 0 → IfSome o (Once a c) → few ≤ 124 → few + bx / 2 ^ 52 ≡ 1022 → Once a c ((1022 - few) * 2 ^ 52)
+once_cut a c None bx few u w f e = absurd (omega arith)
+once_cut a c (Some from) bx few u w f e = go (subst (Once a c) (sym u) w)
   where
-    some : (bx few : ℕ) → few ≤ 124 → few + bx / 2 ^ 52 ≡ 1022 → bx ≡ 0 → ⊥
-    some bx few f e z = omega arith
-
     cut : (b few : ℕ) → few + b ≡ 1022 → (1022 - few) * 2 ^ 52 / 2 ^ 52 ≡ b
     cut b few e = omega arith
 
@@ -30,7 +29,7 @@ pub target_shown-requires : goal.target_shown-requires
 target_shown-requires c =
     let f = c.few_from-few in
     record {
-      out_len_bound = (c.requires.out_len_bound, f.ensures, λ e. once_cut _ _ c.once_from-b.result f.result c.once_from-b.ensures f.ensures (eqb-true _ _ e));
+      out_len_bound = (c.requires.out_len_bound, f.ensures, λ e. once_cut _ _ c.once_from.result c.unwrap_or-b.result f.result c.unwrap_or-b.ensures c.once_from.ensures f.ensures (eqb-true _ _ e));
     }
 
 pub returns-then-start_time-times : goal.returns-then-start_time-times
