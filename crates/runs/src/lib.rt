@@ -30,7 +30,7 @@ struct Times {
     period: f64,
 }
 
-// Every place takes what f makes of its time: the first `time`, each next one `dt` later. The time after them is given back.
+// Every place takes what f makes of its time. The time after them is given back.
 #[tactic(auto, unfolding(crate::specs::After::after))]
 fn at_times<T: Copy, F: Fn(f64) -> T>(out: &mut [T], times: Times, f: F) -> f64
     requires { F.IsAlwaysCallable f }
@@ -72,7 +72,7 @@ fn linear_run(
     });
 }
 
-// From c, by a, values of `f32` whose sums are exact from bx on.
+// By a line whose sums are exact from bx on.
 fn linear_rest(out: &mut [f32], start_time: f64, duration: f64, line: Line, bx: u64, times: Times)
     requires once { Once line.a line.c bx }
     ensures { out.new ≡ run (linear_at start_time duration line.c line.a) times.period (length out.old) times.first }
@@ -680,23 +680,13 @@ fn few_from(b: u64, x: f64) -> u64
     124
 }
 
-// x, or 0 where it is not above 0.
-fn from_zero(x: f64) -> f64
-    ensures { ((result ≡ x) × (lt plus_zero x ≡ true)) ⊎ (result ≡ plus_zero) }
-{
-    if x > 0.0 {
-        return x;
-    }
-    0.0
-}
-
 // The pattern that shows the steps of a target's factor at the phase x, where they are fewer than `top`; else one that ends in 18 zeros.
 fn placed(x: f64, few: u64, top: f64) -> u64
     requires { (few ≤ 124) × (top ≡ wide ((few + 1) * 2 ^ 24)) }
     ensures { (result % 2 ^ 18 ≡ 0) ⊎ Placed few x result }
 {
     let y = x * 1.4426950408889634;
-    let z = from_zero(below(y * 16777216.0, top));
+    let z = above(below(y * 16777216.0, top), 0.0);
     f64::to_bits(z + 25769803776.0)
 }
 
