@@ -416,6 +416,7 @@ impl AudioParam {
         }
     }
 
+    // As the hold below. One function for both would take what is lost and the cut as closures, the second callable only on some queues and stores.
     pub fn cancel_scheduled_values(self, cancel_time: f64, store: &mut [f32]) -> Outcome
         requires { SoundParam self }
         ensures { Answers self store.old (cancel cancel_time) result store.new }
