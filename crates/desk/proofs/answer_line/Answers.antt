@@ -11,9 +11,9 @@ answer-r-requires c =
     let k = c.read_call-call in
     (a.0, heard_in_range _ _ _ _ k.ensures, omega (arith, a.1, k.auto.numbers), omega (arith, a.2, k.auto.file), a.3, a.4)
 
-pub put_byte-next-requires : goal.put_byte-next-requires
-put_byte-next-requires c = omega (arith, c.requires.4, c.answer-r.ensures.room, c.answer-r.auto.out)
+pub put_byte-requires : goal.put_byte-requires
+put_byte-requires c = omega (arith, c.requires.4, c.answer-r.ensures.room, c.answer-r.auto.out)
 
 pub returns : goal.returns
 unfolding line_turn
-returns c = newline (heard-turn _ _ _ _ c.read_call-call.ensures) c.answer-r.ensures c.put_byte-next.ensures c.requires.4
+returns c = newline (heard-turn _ _ _ _ c.read_call-call.ensures) c.answer-r.ensures c.put_byte.ensures c.requires.4
