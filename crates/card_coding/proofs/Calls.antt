@@ -1,5 +1,5 @@
 -- What the calls do, case by case. Assumes nothing.
-use Rattle.std.proofs.Common.{Ok, Err}
+use Rattle.std.proofs.Common.{Option, Some, None, Ok, Err}
 use mathlib.Core.Path.{◌≡◌, refl, sym, ap, ◌∙◌}
 use mathlib.Core.Bool.{true, false, ◌&&◌}
 use mathlib.Core.List.{List, ◌++◌}
@@ -21,7 +21,6 @@ use Rattle.card.specs.declared.Judged.{Judged}
 use Rattle.card.specs.Card.{is_accepted, is_whole, has_head, Reader, Reading, opened, begun, fed, Saved, saved}
 use Rattle.card.proofs.Fields.{and_false}
 use Rattle.card_reader.specs.declared.CardReader.{CardReader}
-use Rattle.card_reader.specs.declared.Fed.{Fed}
 use Rattle.card_reader.specs.Reader.{reading_of, window_length, part_length, SoundWindow, Opens, Feeds, TakesPart}
 use Rattle.card_writer.specs.Writer.{Saves}
 use Rattle.card_coding.specs.Array.{card_length, state_in, is_going, reading_in, is_card, head_words, card_of, Keeps, Numbers, ReadsCard, PutsCard}
@@ -87,10 +86,22 @@ module _ (card : List ℕ) (numbers : List Float) (rate : AutomationRate) (editi
 
 -- ---- a part
 
-pub feeds_part : (part : List ℕ) {r : CardReader} {numbers : List Float} {window : List ℕ} (f : Fed) {left : List Float} {over : List ℕ} → length part ≤ part_length
-    → TakesPart (leb (length part) part_length) part r numbers window f left over → Feeds part r numbers window f.reader left over
+pub feeds_part : (part : List ℕ) {r : CardReader} {numbers : List Float} {window : List ℕ} {f : Option CardReader} {q : CardReader} {left : List Float} {over : List ℕ} → length part ≤ part_length
+    → TakesPart (leb (length part) part_length) part r numbers window f left over → f ≡ Some q → Feeds part r numbers window q left over
 unfolding TakesPart
-feeds_part part f l t = (rw (le-leb (length part) part_length l) at t).1
+feeds_part part {r} {numbers} {window} {f} {q} {left} {over} l t e =
+    let k = rw (le-leb (length part) part_length l) at t in
+    let same : k.0 ≡ q = cc (k.1, e) in
+    rw same at k.2
+
+-- a part that is not too long is taken
+pub part_taken : (part : List ℕ) (r : CardReader) (numbers : List Float) (window : List ℕ) {f : Option CardReader} (left : List Float) (over : List ℕ) → length part ≤ part_length
+    → TakesPart (leb (length part) part_length) part r numbers window f left over → f ≡ None → ⊥
+unfolding TakesPart
+part_taken part r numbers window {f} left over l t e =
+    let k = rw (le-leb (length part) part_length l) at t in
+    let same : Some k.0 ≡ None = sym k.1 ∙ e in
+    cc
 
 module _ (card : List ℕ) (numbers : List Float) (window part : List ℕ) where
   pub hears_bad : is_card card numbers window ≡ false → HearsCard card numbers window part bad_card card numbers window

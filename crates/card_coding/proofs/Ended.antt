@@ -139,15 +139,12 @@ module _ (card : List ℕ) (numbers : List Float) (window : List ℕ) (before : 
             gives = λ s k h. (b h).1 ∙ ap (λ (t : Reading). (loaded (at_end t) (param_in before.state) before.store).param) (k.going z);
           }
 
-      pub ends_kept : {after : List ℕ} → n ≡ 0 → Encodes l.param before.state after → EndsCard card numbers window before (record { number = n; at = l.says.at; state = after; store = left })
-      ends_kept h e =
-          let kept : is_accepted l.says.verdict ≡ true = sym (kept_zero l.says.verdict) ∙ eq-eqb _ 0 (sym m.is ∙ h) in
+      pub ends_kept : {after : List ℕ} → is_accepted l.says.verdict ≡ true → Encodes l.param before.state after → EndsCard card numbers window before (record { number = n; at = l.says.at; state = after; store = left })
+      ends_kept kept e =
           let back = reads_back y.sound long e in
           let same-param = same_given (at_end (reading_of r numbers window)) (param_of r.param) (param_in before.state) before.store (rw y.says at kept) in
           let is = ap (λ (q : CardReader). (loaded (at_end (reading_of q numbers window)) (param_in before.state) before.store).param) x.is in
           ends (rw kept e.is) (λ _. (back.0, back.1 ∙ param_is ∙ same-param ∙ is))
 
-      pub ends_left : (n ≡ 0 → ⊥) → EndsCard card numbers window before (record { number = n; at = l.says.at; state = before.state; store = left })
-      ends_left h =
-          let kept : is_accepted l.says.verdict ≡ false = sym (kept_zero l.says.verdict) ∙ ne_eqb _ 0 (λ e. h (m.is ∙ e)) in
-          ends (rw kept) (λ e. absurd (h e))
+      pub ends_left : is_accepted l.says.verdict ≡ false → EndsCard card numbers window before (record { number = n; at = l.says.at; state = before.state; store = left })
+      ends_left refused = ends (rw refused) (λ e. clash (sym (kept_zero l.says.verdict) ∙ eq-eqb _ 0 (sym m.is ∙ e)) refused)

@@ -36,35 +36,37 @@ pub fn verdict_number(verdict: Result<(), Fault>) -> u32
     }
 }
 
+#[tactic(auto, unfolding(crate::specs::Array::bit_of))]
 fn bit_of(b: bool) -> u64
     ensures { result ≡ bit_of b }
 {
-    if b { 1 } else { 0 }
+    b as u64
 }
 
 // ---- the test
 
+#[tactic(auto, unfolding(crate::specs::Array::are_long))]
 fn are_long(card: &[u64], numbers: &[f32], window: &[u8]) -> bool
     ensures { result ≡ are_long card.now numbers.now window.now }
 {
-    (card.len() == LENGTH)
-        & ((numbers.len() == AudioParam::STORE) & (window.len() == card_reader::WINDOW))
+    card.len() == LENGTH
+        && numbers.len() == AudioParam::STORE
+        && window.len() == card_reader::WINDOW
 }
 
+#[tactic(auto, unfolding(crate::specs::Array::is_head))]
 fn is_head(card: &[u64]) -> bool
     requires { length card.now ≡ card_length }
     ensures { result ≡ is_head card.now }
 {
-    let held = card[3] as usize;
-    (card[0] == VERSION) & ((card[1] <= 255) & (held < card_reader::WINDOW))
+    card[0] == VERSION && card[1] <= 255 && (card[3] as usize) < card_reader::WINDOW
 }
 
 fn is_waiting(card: &[u64], window: &[u8]) -> bool
     requires { (length card.now ≡ card_length) × (get_or card.now 3 0 < window_length) × (length window.now ≡ window_length) }
     ensures { result ≡ is_waiting card.now window.now }
 {
-    let held = card[3] as usize;
-    !((card[1] == 0) & is_whole(&window[..held]))
+    card[1] != 0 || !is_whole(&window[..card[3] as usize])
 }
 
 // The most bytes that the fields of so many events have, and the range's before them.
@@ -84,12 +86,10 @@ fn is_counted(card: &[u64]) -> bool
     ensures { result ≡ is_counted card.now }
 {
     let d = coding::decode(&card[HEAD..]);
-    let verdict = d.verdict;
-    let Ok(()) = verdict else {
+    let Ok(()) = d.verdict else {
         return false;
     };
-    let p = d.param;
-    card[2] as usize <= bytes_counted(card[6] != 0, p.len())
+    card[2] as usize <= bytes_counted(card[6] != 0, d.param.len())
 }
 
 // Whether an array is one of a reader, with these numbers and this window.
@@ -115,10 +115,8 @@ pub fn reader_in(card: &[u64]) -> CardReader
     requires { (length card.now ≡ card_length) × (is_state (state_in card.now) ≡ true) }
     ensures { ReadsCard card.now result }
 {
-    let d = coding::decode(&card[HEAD..]);
-    let param = d.param;
     CardReader {
-        param,
+        param: coding::decode(&card[HEAD..]).param,
         rate: rate_in(card[4]),
         edition: card[5],
         ranged: card[6] != 0,
@@ -134,18 +132,15 @@ fn put_head(card: &mut [u64], r: CardReader)
     requires { length card.old ≡ card_length }
     ensures { PutsHead card.old r card.new }
 {
-    let verdict = r.verdict;
-    let rate = r.rate;
-    let before = r.before;
     card[0] = VERSION;
-    card[1] = verdict_number(verdict) as u64;
+    card[1] = verdict_number(r.verdict) as u64;
     card[2] = r.offset as u64;
     card[3] = r.held as u64;
-    card[4] = rate_word(rate);
+    card[4] = rate_word(r.rate);
     card[5] = r.edition;
     card[6] = bit_of(r.ranged);
-    card[7] = flag_of(before);
-    card[8] = time_bits(before);
+    card[7] = flag_of(r.before);
+    card[8] = time_bits(r.before);
 }
 
 // Writes a reader over an array.
@@ -154,6 +149,5 @@ pub fn put_card(card: &mut [u64], r: CardReader)
     ensures { PutsCard card.old r card.new }
 {
     put_head(card, r);
-    let p = r.param;
-    coding::encode(p, &mut card[HEAD..]);
+    coding::encode(r.param, &mut card[HEAD..]);
 }

@@ -6,6 +6,7 @@ ghost use Rattle.std.specs.Prelude.{◌≡◌};
 ghost use Rattle.card_coding.specs.Calls.{bad_card, WritesCard, OpensCard, HearsCard, EndsCard};
 
 use array::{BAD_CARD, LENGTH, is_card, put_card, reader_in, verdict_number};
+use card::is_accepted;
 use card_reader::CardReader;
 use param::AudioParam;
 use rules::AutomationRate;
@@ -21,25 +22,19 @@ pub fn write(state: &[u64], store: &[f32], out: &mut [u8], at: &mut usize) -> u3
     ensures { WritesCard state.now store.now out.old at.old result out.new at.new }
 {
     let d = coding::decode(state);
-    let verdict = d.verdict;
-    let Ok(()) = verdict else {
+    let Ok(()) = d.verdict else {
         return BAD_CARD;
     };
-    let p = d.param;
-    let said = card_writer::write(p, store, out);
+    let said = card_writer::write(d.param, store, out);
     *at = said.at;
-    let verdict = said.verdict;
-    verdict_number(verdict)
+    verdict_number(said.verdict)
 }
 
 // A reader before the first part.
 pub fn open(card: &mut [u64], numbers: &mut [f32], rate: AutomationRate, edition: u64) -> u32
     ensures { OpensCard rate edition card.old numbers.old result card.new numbers.new }
 {
-    if card.len() != LENGTH {
-        return BAD_CARD;
-    }
-    if numbers.len() != AudioParam::STORE {
+    if card.len() != LENGTH || numbers.len() != AudioParam::STORE {
         return BAD_CARD;
     }
     let r = CardReader::open(rate, edition, numbers);
@@ -60,10 +55,9 @@ pub fn part(card: &mut [u64], window: &mut [u8], numbers: &mut [f32], part: &[u8
     if card[1] != 0 {
         return 0;
     }
-    let r = reader_in(&card[..]);
-    let f = r.take(part, window, numbers);
-    let r = f.reader;
-    put_card(card, r);
+    if let Some(next) = reader_in(&card[..]).take(part, window, numbers) {
+        put_card(card, next);
+    }
     0
 }
 
@@ -80,10 +74,7 @@ pub fn end(
         (record { number = bad_card; at = at.old; state = state.old; store = store.old })
         (record { number = result; at = at.new; state = state.new; store = store.new }) }
 {
-    if !is_card(card, &numbers[..], window) {
-        return BAD_CARD;
-    }
-    if state.len() != coding::LENGTH {
+    if !is_card(card, &numbers[..], window) || state.len() != coding::LENGTH {
         return BAD_CARD;
     }
     if store.len() != AudioParam::STORE {
@@ -95,15 +86,11 @@ pub fn end(
         return card[1] as u32;
     }
     let r = reader_in(card);
-    let p = r.param;
-    let l = r.finish(window, numbers, p, store);
-    let says = l.says;
-    *at = says.at;
-    let verdict = says.verdict;
-    let number = verdict_number(verdict);
-    if number == 0 {
-        let p = l.param;
-        coding::encode(p, state);
+    let l = r.finish(window, numbers, r.param, store);
+    *at = l.says.at;
+    let number = verdict_number(l.says.verdict);
+    if is_accepted(l.says.verdict) {
+        coding::encode(l.param, state);
     }
     number
 }

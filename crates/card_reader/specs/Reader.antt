@@ -1,5 +1,5 @@
 -- The reader as code holds it, and what its functions ensure: one relation for a kind of call, by the rules of `card`.
-use Rattle.std.specs.Prelude.{◌≡◌, Bool, true, false, cond, ◌&&◌, List, ℕ, suc, ◌+◌, ◌-◌, ◌*◌, ◌≤◌, ◌<◌, length, take, drop, Float, Option, Ok, Err}
+use Rattle.std.specs.Prelude.{◌≡◌, Bool, true, false, cond, ◌&&◌, List, ℕ, suc, ◌+◌, ◌-◌, ◌*◌, ◌≤◌, ◌<◌, length, take, drop, Float, Option, Some, None, Ok, Err}
 use Rattle.rules.specs.declared.AutomationRate.{AutomationRate}
 use Rattle.rules.specs.Numbers.{store_length}
 use Rattle.param.specs.declared.AudioParam.{AudioParam}
@@ -9,7 +9,6 @@ use Rattle.card.specs.Card.{tag_of, is_tag, is_wrong, is_whole, is_accepted, Rea
 use Rattle.card.specs.Card as card
 use Rattle.card_reader.specs.declared.CardReader.{CardReader}
 use Rattle.card_reader.specs.declared.Taken.{Taken}
-use Rattle.card_reader.specs.declared.Fed.{Fed}
 use Rattle.card_reader.specs.declared.Loaded.{Loaded}
 
 -- ---- fields
@@ -120,9 +119,9 @@ pub record Feeds (part : List ℕ) (r : CardReader) (numbers : List Float) (wind
   pub fits : SoundWindow s left
 
 -- "A part longer than 65,536 bytes is refused by the call's own verdict (ours), nothing read" (reading 9): the reader, its numbers and its window stay
-unfoldable pub TakesPart : Bool → List ℕ → CardReader → List Float → List ℕ → Fed → List Float → List ℕ → Type 0
-TakesPart true part r numbers window f after left = (f.taken ≡ true) × Feeds part r numbers window f.reader after left
-TakesPart false part r numbers window f after left = (f.taken ≡ false) × (f.reader ≡ r) × (after ≡ numbers) × (left ≡ window)
+unfoldable pub TakesPart : Bool → List ℕ → CardReader → List Float → List ℕ → Option CardReader → List Float → List ℕ → Type 0
+TakesPart true part r numbers window f after left = (k : CardReader) × (f ≡ Some k) × Feeds part r numbers window k after left
+TakesPart false part r numbers window f after left = (f ≡ None) × (after ≡ numbers) × (left ≡ window)
 
 -- the file's end: p and the store are the caller's
 pub record Loads (s : Reading) (p : AudioParam) (store : List Float) (r : Loaded) (after : List Float) : Type 0 where

@@ -17,6 +17,7 @@ use words::{double_at, single_at, word_at};
 
 pub const RANGE: u8 = 6;
 
+#[tactic(auto, unfolding(card::specs::Card::has_head))]
 fn has_head(bytes: &[u8]) -> bool
     ensures { result ≡ has_head bytes.now }
 {
@@ -32,6 +33,7 @@ fn length_in(bytes: &[u8]) -> usize
 }
 
 // How many bytes the field has.
+#[tactic(auto, unfolding(card::specs::Card::field_length))]
 pub fn field_length(bytes: &[u8]) -> usize
     requires { 3 ≤ length bytes.now }
     ensures { (result ≡ field_length bytes.now) × (result ≤ 65538) }
@@ -46,10 +48,11 @@ pub fn is_whole(bytes: &[u8]) -> bool
     has_head(bytes) && field_length(bytes) <= bytes.len()
 }
 
+#[tactic(auto, unfolding(card::specs::Card::is_tag))]
 pub fn is_tag(tag: u8) -> bool
     ensures { result ≡ is_tag tag }
 {
-    (1 <= tag) & (tag <= 6)
+    1 <= tag && tag <= 6
 }
 
 #[tactic(auto, unfolding(card::specs::Card::fits_tag))]
@@ -72,6 +75,7 @@ pub fn is_wrong(bytes: &[u8]) -> bool
 }
 
 // An event before the range, or a second range.
+#[tactic(auto, unfolding(card::specs::Card::is_misplaced, card::specs::Card::tag_of, card::specs::Card::is_range))]
 pub fn is_misplaced(ranged: bool, bytes: &[u8]) -> bool
     requires { 1 ≤ length bytes.now }
     ensures { result ≡ is_misplaced «ranged» bytes.now }
@@ -80,6 +84,7 @@ pub fn is_misplaced(ranged: bool, bytes: &[u8]) -> bool
 }
 
 // Minimum, default, maximum.
+#[tactic(auto, unfolding(card::specs::Card::bounds_in))]
 pub fn bounds_in(bytes: &[u8]) -> Bounds
     requires { 15 ≤ length bytes.now }
     ensures { result ≡ bounds_in bytes.now }
@@ -103,10 +108,11 @@ pub fn time_in(bytes: &[u8]) -> f64
     }
 }
 
+#[tactic(auto, unfolding(card::specs::Card::is_minus_zero))]
 fn is_minus_zero(time: f64) -> bool
     ensures { result ≡ is_minus_zero time }
 {
-    is_zero(time) & !is_from_zero(time)
+    is_zero(time) && !is_from_zero(time)
 }
 
 // A target whose time constant is 0.
@@ -118,12 +124,13 @@ fn has_no_constant(bytes: &[u8]) -> bool
 }
 
 // An event earlier than the one before it, a time of -0, or a time constant of 0.
+#[tactic(auto, unfolding(card::specs::Card::is_out_of_turn))]
 pub fn is_out_of_turn(before: Option<f64>, bytes: &[u8]) -> bool
     requires { FieldFits bytes.now × (is_range bytes.now ≡ false) }
     ensures { result ≡ is_out_of_turn before (event_in bytes.now) }
 {
     let time = time_in(bytes);
-    is_earlier(before, time) | (is_minus_zero(time) | has_no_constant(bytes))
+    is_earlier(before, time) || is_minus_zero(time) || has_no_constant(bytes)
 }
 
 // As many numbers as the slice has places, from a place of the field on.

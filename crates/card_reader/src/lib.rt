@@ -51,13 +51,6 @@ pub struct Taken {
     used: usize,
 }
 
-// The reader after a part; one that is too long is not taken, and nothing changes.
-#[derive(Clone, Copy)]
-pub struct Fed {
-    pub taken: bool,
-    pub reader: CardReader,
-}
-
 // What reading a file says, and the parameter after it: the caller's where the file is refused.
 #[derive(Clone, Copy)]
 pub struct Loaded {
@@ -78,9 +71,8 @@ impl CardReader {
             max: 0.0,
         };
         // of an edition that there is not: nothing is made
-        let r = AudioParam::with_edition(bounds, rate, 0);
         CardReader {
-            param: r.param,
+            param: AudioParam::with_edition(bounds, rate, 0).param,
             rate,
             edition,
             ranged: false,
@@ -138,10 +130,7 @@ impl CardReader {
         }
         let called = schedule(self.param, bytes, numbers);
         match called.verdict {
-            Ok(()) => {
-                let before = Some(time_in(bytes));
-                self.kept(called.param, before, field_length(bytes))
-            }
+            Ok(()) => { self.kept(called.param, Some(time_in(bytes)), field_length(bytes)) }
             Err(why) => self.refused(Fault::Own(why)),
         }
     }
@@ -174,7 +163,7 @@ impl CardReader {
     fn goes_on(self, bytes: &[u8]) -> bool
         ensures { result ≡ (is_accepted self.verdict && is_whole bytes.now) }
     {
-        is_accepted(self.verdict) & is_whole(bytes)
+        is_accepted(self.verdict) && is_whole(bytes)
     }
 
     // The complete fields in turn, up to one that is refused.
@@ -210,16 +199,13 @@ impl CardReader {
         reader
     }
 
-    // The next part of the file, of at most 65,536 bytes.
-    pub fn take(self, part: &[u8], window: &mut [u8], numbers: &mut [f32]) -> Fed
+    // The reader after the next part of the file, of at most 65,536 bytes; a longer one is not taken, and nothing changes.
+    pub fn take(self, part: &[u8], window: &mut [u8], numbers: &mut [f32]) -> Option<CardReader>
         requires { SoundReader self numbers.old × SoundWindow self window.old }
         ensures { TakesPart (leb (length part.now) part_length) part.now self numbers.old window.old result numbers.new window.new }
     {
         if PART < part.len() {
-            return Fed {
-                taken: false,
-                reader: self,
-            };
+            return None;
         }
         let mut reader = self;
         let mut from = 0;
@@ -228,10 +214,7 @@ impl CardReader {
             reader = reader.absorb(&part[from..to], window, numbers);
             from = to;
         }
-        Fed {
-            taken: true,
-            reader,
-        }
+        Some(reader)
     }
 
     // The reader at the file's end: what is left in the window is a field cut short.
@@ -278,8 +261,10 @@ impl CardReader {
         };
         if is_accepted(verdict) {
             curves::write(store, 0, &numbers[..]);
-            let param = r.param;
-            Loaded { says, param }
+            Loaded {
+                says,
+                param: r.param,
+            }
         } else {
             Loaded { says, param }
         }

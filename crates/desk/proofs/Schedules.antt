@@ -1,5 +1,5 @@
 -- A schedule file written and read: from what the writer and the reader ensure to what a session's calls ensure. Assumes nothing.
-use Rattle.std.proofs.Common.{Ok, Result, Err}
+use Rattle.std.proofs.Common.{Option, Some, None, Ok, Result, Err}
 use mathlib.Core.Path.{◌≡◌, refl, sym, ap, ◌∙◌, subst}
 use mathlib.Core.Bool.{Bool, true, false, cond, ◌&&◌}
 use mathlib.Core.List.{List, [], ◌∷◌, ◌++◌, append-nil}
@@ -34,7 +34,6 @@ use Rattle.card.proofs.Fields.{and_false}
 use Rattle.card.proofs.Parts.{fed-append}
 use Rattle.card.proofs.Bound.{written_bound}
 use Rattle.card_reader.specs.declared.CardReader.{CardReader}
-use Rattle.card_reader.specs.declared.Fed.{Fed}
 use Rattle.card_reader.specs.declared.Loaded.{Loaded}
 use Rattle.card_reader.specs.Reader.{Opens, Feeds, TakesPart, Loads}
 use Rattle.card_writer.specs.Writer.{Saves}
@@ -100,22 +99,35 @@ opened_reads {rate} {n} {r} {numbers} window long o =
     same e f = rw (e, f)
 
 -- one part more
-pub part_reads : {rate : AutomationRate} {n : ℕ} {r : CardReader} {numbers after : List Float} {window left : List ℕ} (f : Fed) (file : List ℕ) (from to : ℕ) → from ≤ to
+pub part_reads : {rate : AutomationRate} {n : ℕ} {r q : CardReader} {numbers after : List Float} {window left : List ℕ} {f : Option CardReader} (file : List ℕ) (from to : ℕ) → from ≤ to
     → to - from ≤ 65536 → ReadsFile rate n (take from file) r numbers window
     → TakesPart (leb (length (take (to - from) (drop from file))) 65536) (take (to - from) (drop from file)) r numbers window f after left
-    → ReadsFile rate n (take to file) f.reader after left
+    → f ≡ Some q → ReadsFile rate n (take to file) q after left
 unfolding TakesPart
-part_reads {rate} {n} {r} {numbers} {after} {window} {left} f file from to h few k t =
+part_reads {rate} {n} {r} {q} {numbers} {after} {window} {left} {f} file from to h few k t e =
     let part : List ℕ = take (to - from) (drop from file) in
     let short : length part ≤ 65536 = simp length-take (omega (arith, few)) in
-    let one : (f.taken ≡ true) × Feeds part r numbers window f.reader after left = rw (le-leb (length part) 65536 short) at t in
+    let one = rw (le-leb (length part) 65536 short) at t in
+    let same : one.0 ≡ q = cc (one.1, e) in
+    let feeds : Feeds part r numbers window q after left = rw same at one.2 in
     let end : from + (to - from) ≡ to = omega arith in
     let both : take from file ++ part ≡ take to file = sym (take-add from (to - from) file) ∙ ap (λ (m : ℕ). take m file) end in
     record {
-      reading = one.1.reading ∙ ap (λ (s : Reading). fed s part) k.reading ∙ fed-append (begun rate n) (take from file) part ∙ ap (fed (begun rate n)) both;
-      sound = one.1.sound;
-      fits = one.1.fits;
+      reading = feeds.reading ∙ ap (λ (s : Reading). fed s part) k.reading ∙ fed-append (begun rate n) (take from file) part ∙ ap (fed (begun rate n)) both;
+      sound = feeds.sound;
+      fits = feeds.fits;
     }
+
+-- such a part is taken
+pub part_taken : (r : CardReader) (numbers : List Float) (window : List ℕ) {f : Option CardReader} (after : List Float) (left : List ℕ) (file : List ℕ) (from to : ℕ) → to - from ≤ 65536
+    → TakesPart (leb (length (take (to - from) (drop from file))) 65536) (take (to - from) (drop from file)) r numbers window f after left → f ≡ None → ⊥
+unfolding TakesPart
+part_taken r numbers window {f} after left file from to few t e =
+    let part : List ℕ = take (to - from) (drop from file) in
+    let short : length part ≤ 65536 = simp length-take (omega (arith, few)) in
+    let one = rw (le-leb (length part) 65536 short) at t in
+    let same : Some one.0 ≡ None = sym one.1 ∙ e in
+    cc
 
 -- ---- its end
 

@@ -2,10 +2,9 @@
 use mathlib.Core.Path.{◌≡◌, refl, sym, ap, ◌∙◌, subst}
 use mathlib.Core.Bool.{true, false}
 use mathlib.Core.List.{List, [], ◌∷◌, ◌++◌}
-use Prim.Native.Nat.{ℕ, zero, suc, ◌+◌, ◌≤◌, ◌<◌}
-use native.Mathlib.Numerals.{add-one}
+use Prim.Native.Nat.{ℕ, ◌+◌, ◌≤◌}
 use native.Mathlib.Omega.{arith}
-use lib.ListN.{length, take, drop, set, replicate, take-append-drop}
+use lib.ListN.{length, take, drop, replicate, take-append-drop}
 use lib.Count.{count_trailing_zeros}
 use lib.Ieee.{Float, binary32, of_bits, of_fields, odd, lt, eq, le}
 use Rattle.rules.specs.declared.Bounds.{Bounds}
@@ -137,20 +136,6 @@ said turn d s {t = t} n s' x ok e h is put-text near =
       sound = told_sound d.param n _ e ok.param h;
       room = near;
     }
-
--- ---- a store filled with one number
-
-filled_at : {A : Type 0} (n : ℕ) (v : A) (d : List A) → n < length d → set (replicate n v ++ drop n d) n v ≡ replicate (suc n) v ++ drop (suc n) d
-filled_at n v [] h = absurd (omega arith)
-filled_at zero v (x ∷ d) h = refl
-filled_at {A} (suc n) v (x ∷ d) h = ap (λ (t : List A). v ∷ t) (filled_at n v d (omega arith))
-
-pub filled : {A : Type 0} (n : ℕ) (v : A) (d : List A) → n < length d → set (replicate n v ++ drop n d) n v ≡ replicate (n + 1) v ++ drop (n + 1) d
-filled n v d h = rw (add-one n) (filled_at n v d h)
-
-pub zero_is : of_bits binary32 0 ≡ plus_zero
-unfolding of_bits of_fields odd
-zero_is = refl
 
 -- ---- before the first `make`
 

@@ -20,11 +20,9 @@ fn put_written(said: Judged, file: &[u8], out: &mut [u8], at: usize) -> usize
     ensures put { Put out.old at (saved_line said (take said.at file.now)) out.new result }
     ensures upper_bound { result ≤ at + 41999 }
 {
-    let verdict = said.verdict;
-    let len = said.at;
-    match verdict {
-        Ok(()) => put_saved(out, at, &file[..len]),
-        Err(fault) => put_fault(out, at, number_of(fault) as u64, len as u64),
+    match said.verdict {
+        Ok(()) => put_saved(out, at, &file[..said.at]),
+        Err(fault) => put_fault(out, at, number_of(fault) as u64, said.at as u64),
     }
 }
 
@@ -33,8 +31,7 @@ pub fn save(desk: Desk, store: &[f32], file: &mut [u8], out: &mut [u8], at: usiz
     requires { SoundDesk desk × (length store.now ≡ 8192) × (30000 ≤ length file.old) × (at + 42000 ≤ length out.old) }
     ensures { Spoken 41999 saving desk store.now out.old at result store.now out.new }
 {
-    let p = desk.param;
-    let said = write(p, &store[..4096], file);
+    let said = write(desk.param, &store[..4096], file);
     let next = put_written(said, &file[..], out, at);
     Answered { desk, next }
 }
@@ -54,10 +51,12 @@ fn read_file(
     let mut reader = CardReader::open(rate, edition, numbers);
     let mut from = 0;
     while from < file.len() {
-        let left = file.len() - from;
-        let to = from + if part < left { part } else { left };
-        let fed = reader.take(&file[from..to], window, numbers);
-        reader = fed.reader;
+        let to = from + part.min(file.len() - from);
+        // no part is too long, so each is taken
+        let Some(next) = reader.take(&file[from..to], window, numbers) else {
+            return reader;
+        };
+        reader = next;
         from = to;
     }
     reader
@@ -76,18 +75,15 @@ fn finish(
     requires { SoundDesk desk × SoundReader reader numbers.old × SoundWindow reader window.now × (length store.old ≡ 8192) × (at + 42000 ≤ length out.old) }
     ensures { Spoken 41999 (loading_by (at_end (reading_of reader numbers.old window.now))) desk store.old out.old at result store.new out.new }
 {
-    let p = desk.param;
-    let loaded = reader.finish(window, numbers, p, &mut store[..4096]);
+    let loaded = reader.finish(window, numbers, desk.param, &mut store[..4096]);
     let says = loaded.says;
-    let verdict = says.verdict;
-    match verdict {
+    match says.verdict {
         Ok(()) => {
             clear(&mut store[4096..]);
-            let param = loaded.param;
-            let totals = after_command(none(), 0, param.len());
+            let totals = after_command(none(), 0, loaded.param.len());
             let next = put_word(out, at, b"ok");
             let desk = Desk {
-                param,
+                param: loaded.param,
                 lent: 4096,
                 totals,
             };

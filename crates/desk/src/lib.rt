@@ -49,9 +49,8 @@ pub fn at_first() -> Desk
         max: 0.0,
     };
     let r = AudioParam::new(no_range, AutomationRate::A);
-    let param = r.param;
     Desk {
-        param,
+        param: r.param,
         lent: 4096,
         totals: none(),
     }
@@ -71,11 +70,9 @@ fn told(r: Outcome, lent: usize, totals: Totals, out: &mut [u8], at: usize) -> A
     requires { at + 42000 ≤ length out.old }
     ensures { Told r lent totals out.old at result out.new }
 {
-    let verdict = r.verdict;
-    let param = r.param;
-    let next = put_verdict(out, at, verdict);
+    let next = put_verdict(out, at, r.verdict);
     let desk = Desk {
-        param,
+        param: r.param,
         lent,
         totals,
     };
@@ -87,9 +84,7 @@ fn called(desk: Desk, r: Outcome, out: &mut [u8], at: usize) -> Answered
     requires { SoundParam desk.param × SoundParam r.param × (at + 42000 ≤ length out.old) }
     ensures { Told r desk.lent (after_command desk r.param) out.old at result out.new }
 {
-    let before = desk.param;
-    let after = r.param;
-    let totals = after_command(desk.totals, before.len(), after.len());
+    let totals = after_command(desk.totals, desk.param.len(), r.param.len());
     told(r, desk.lent, totals, out, at)
 }
 
@@ -97,11 +92,7 @@ fn called(desk: Desk, r: Outcome, out: &mut [u8], at: usize) -> Answered
 fn clear(store: &mut [f32])
     ensures { store.new ≡ replicate (length store.old) plus_zero }
 {
-    let mut i = 0;
-    while i < store.len() {
-        store[i] = 0.0;
-        i += 1;
-    }
+    store.fill(0.0);
 }
 
 fn make(
@@ -124,34 +115,35 @@ fn set(desk: Desk, value: f32, out: &mut [u8], at: usize) -> Answered
     requires { SoundDesk desk × (at + 42000 ≤ length out.old) }
     ensures { (s : List Float) → Spoken 41999 (asked (set value)) desk s out.old at result s out.new }
 {
-    let p = desk.param;
-    called(desk, p.set_value(value), out, at)
+    called(desk, desk.param.set_value(value), out, at)
 }
 
 fn step(desk: Desk, value: f32, time: f64, out: &mut [u8], at: usize) -> Answered
     requires { SoundDesk desk × (at + 42000 ≤ length out.old) }
     ensures { (s : List Float) → Spoken 41999 (asked (step value time)) desk s out.old at result s out.new }
 {
-    let p = desk.param;
-    called(desk, p.set_value_at_time(value, time), out, at)
+    called(desk, desk.param.set_value_at_time(value, time), out, at)
 }
 
 fn linear(desk: Desk, value: f32, time: f64, out: &mut [u8], at: usize) -> Answered
     requires { SoundDesk desk × (at + 42000 ≤ length out.old) }
     ensures { (s : List Float) → Spoken 41999 (asked (linear value time)) desk s out.old at result s out.new }
 {
-    let p = desk.param;
-    called(desk, p.linear_ramp_to_value_at_time(value, time), out, at)
+    called(
+        desk,
+        desk.param.linear_ramp_to_value_at_time(value, time),
+        out,
+        at,
+    )
 }
 
 fn exponential(desk: Desk, value: f32, time: f64, out: &mut [u8], at: usize) -> Answered
     requires { SoundDesk desk × (at + 42000 ≤ length out.old) }
     ensures { (s : List Float) → Spoken 41999 (asked (exponential value time)) desk s out.old at result s out.new }
 {
-    let p = desk.param;
     called(
         desk,
-        p.exponential_ramp_to_value_at_time(value, time),
+        desk.param.exponential_ramp_to_value_at_time(value, time),
         out,
         at,
     )
@@ -161,8 +153,12 @@ fn target(desk: Desk, value: f32, time: f64, constant: f64, out: &mut [u8], at: 
     requires { SoundDesk desk × (at + 42000 ≤ length out.old) }
     ensures { (s : List Float) → Spoken 41999 (asked (target value time constant)) desk s out.old at result s out.new }
 {
-    let p = desk.param;
-    called(desk, p.set_target_at_time(value, time, constant), out, at)
+    called(
+        desk,
+        desk.param.set_target_at_time(value, time, constant),
+        out,
+        at,
+    )
 }
 
 fn curve(
@@ -177,9 +173,9 @@ fn curve(
     requires { SoundDesk desk × (length store.old ≡ 8192) × (at + 42000 ≤ length out.old) }
     ensures { Spoken 41999 (asked (curve start duration values.now)) desk store.old out.old at result store.new out.new }
 {
-    let p = desk.param;
-    let lent = desk.lent;
-    let r = p.set_value_curve_at_time(values, start, duration, &mut store[..lent]);
+    let r = desk
+        .param
+        .set_value_curve_at_time(values, start, duration, &mut store[..desk.lent]);
     called(desk, r, out, at)
 }
 
@@ -187,9 +183,9 @@ fn cancel(desk: Desk, time: f64, store: &mut [f32], out: &mut [u8], at: usize) -
     requires { SoundDesk desk × (length store.old ≡ 8192) × (at + 42000 ≤ length out.old) }
     ensures { Spoken 41999 (asked (cancel time)) desk store.old out.old at result store.new out.new }
 {
-    let p = desk.param;
-    let lent = desk.lent;
-    let r = p.cancel_scheduled_values(time, &mut store[..lent]);
+    let r = desk
+        .param
+        .cancel_scheduled_values(time, &mut store[..desk.lent]);
     called(desk, r, out, at)
 }
 
@@ -197,9 +193,9 @@ fn hold(desk: Desk, time: f64, store: &mut [f32], out: &mut [u8], at: usize) -> 
     requires { SoundDesk desk × (length store.old ≡ 8192) × (at + 42000 ≤ length out.old) }
     ensures { Spoken 41999 (asked (hold time)) desk store.old out.old at result store.new out.new }
 {
-    let p = desk.param;
-    let lent = desk.lent;
-    let r = p.cancel_and_hold_at_time(time, &mut store[..lent]);
+    let r = desk
+        .param
+        .cancel_and_hold_at_time(time, &mut store[..desk.lent]);
     called(desk, r, out, at)
 }
 
@@ -207,14 +203,7 @@ fn lend(desk: Desk, len: usize, out: &mut [u8], at: usize) -> Answered
     requires { SoundDesk desk × (len ≤ 8192) × (at + 42000 ≤ length out.old) }
     ensures { (s : List Float) → Spoken 41999 (lending len) desk s out.old at result s out.new }
 {
-    let param = desk.param;
-    let totals = desk.totals;
-    let desk = Desk {
-        param,
-        lent: len,
-        totals,
-    };
-    word(desk, out, at, b"ok")
+    word(Desk { lent: len, ..desk }, out, at, b"ok")
 }
 
 fn poke(
@@ -238,15 +227,14 @@ fn put_processed(r: Processed, count: usize, output: &[f32], out: &mut [u8], at:
     ensures put { Put out.old at (block_line r.verdict count r.steps r.current r.one output.now) out.new result }
     ensures upper_bound { result ≤ at + 9259 }
 {
-    let verdict = r.verdict;
-    match verdict {
+    match r.verdict {
         Ok(()) => {
             let next = put_block(out, at, r.steps as u64, r.current, r.one);
             let next = put_list(out, next, b' ', b' ', &output[..count]);
             put_rest(out, next, is_clean(output, count))
         }
         Err(_) => {
-            let next = put_verdict(out, at, verdict);
+            let next = put_verdict(out, at, r.verdict);
             put_rest(out, next, is_clean(output, 0))
         }
     }
@@ -257,14 +245,17 @@ fn played(desk: Desk, r: Processed) -> Desk
     requires { SoundParam desk.param × SoundParam r.param }
     ensures { result ≡ desk_of r.param desk.lent (after_block desk r) }
 {
-    let before = desk.param;
-    let after = r.param;
-    let verdict = r.verdict;
-    let totals = after_block(desk.totals, verdict, r.steps, before.len(), after.len());
+    let totals = after_block(
+        desk.totals,
+        r.verdict,
+        r.steps,
+        desk.param.len(),
+        r.param.len(),
+    );
     Desk {
-        param: after,
-        lent: desk.lent,
+        param: r.param,
         totals,
+        ..desk
     }
 }
 
@@ -304,17 +295,15 @@ fn play(
     requires { SoundDesk desk × (length store.old ≡ 8192) × (at + 42000 ≤ length out.old) }
     ensures { Spoken 41999 (playing time period count input.now output.old) desk store.old out.old at result store.new out.new }
 {
-    let p = desk.param;
-    let lent = desk.lent;
     let r = render(
         by,
-        p,
+        desk.param,
         time,
         period,
         count,
         input,
         output,
-        &mut store[..lent],
+        &mut store[..desk.lent],
     );
     let next = put_processed(r, count, &output[..], out, at);
     let desk = played(desk, r);
@@ -373,12 +362,9 @@ fn put_queue(p: AudioParam, store: &[f32], out: &mut [u8], at: usize) -> usize
     ensures put { Put out.old at (queue_text (param_of p).queue store.now) out.new result }
     ensures upper_bound { result ≤ at + 41856 }
 {
-    let n = p.len();
     let mut next = at;
-    let mut i = 0;
-    while i < n {
+    for i in 0..p.len() {
         next = put_waiting(p, i, store, out, next);
-        i += 1;
     }
     next
 }
@@ -510,9 +496,10 @@ pub fn answer_line(
         return answer_long(desk, out, at);
     };
     let r = answer(desk, call, &numbers[..], file, store, out, at);
-    let desk = r.desk;
-    let next = put_byte(out, r.next, b'\n');
-    Answered { desk, next }
+    Answered {
+        next: put_byte(out, r.next, b'\n'),
+        ..r
+    }
 }
 
 // A line that is too long to be one.

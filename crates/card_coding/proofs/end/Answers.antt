@@ -7,16 +7,17 @@ use Rattle.card_coding.specs.Array.{is_card}
 use Rattle.card_coding.proofs.Kept.{passes, number_small, state_good, reader_sound, window_sound}
 use Rattle.card_coding.proofs.Ended.{ends_no_card, ends_no_state, ends_no_store, ends_refused, ends_kept, ends_left}
 use Rattle.card_coding.proofs.end.Goals as goal
-use Rattle.card_coding.proofs.end.Goals.{Else-not-is_card}
+use Rattle.card_coding.proofs.end.Goals.{Else-not-is_card, then-not-is_card-via-then-not-is_card, then-not-is_card-via-else-not-is_card+then-state-ne-LENGTH}
 
 good : (c : Else-not-is_card) → is_card c.args.card.now c.args.numbers.now c.args.window.now ≡ true
 good c = found c.is_card.ensures c.if-not-is_card.false
 
 pub returns-then-not-is_card : goal.returns-then-not-is_card
-returns-then-not-is_card c = ends_no_card _ _ _ _ refl (found c.is_card.ensures c.if-not-is_card.true)
-
-pub returns-then-state-ne-LENGTH : goal.returns-then-state-ne-LENGTH
-returns-then-state-ne-LENGTH c = ends_no_state _ _ _ _ refl c.if-state-ne-LENGTH.true
+returns-then-not-is_card c =
+    elim c.then-not-is_card.branch [
+      | then-not-is_card-via-then-not-is_card w ↦ ends_no_card _ _ _ _ refl (found c.is_card.ensures w.if-not-is_card.true)
+      | then-not-is_card-via-else-not-is_card+then-state-ne-LENGTH w ↦ ends_no_state _ _ _ _ refl w.if-state-ne-LENGTH.true
+    ]
 
 pub returns-then-store-ne-STORE : goal.returns-then-store-ne-STORE
 returns-then-store-ne-STORE c = ends_no_store _ _ _ _ (good (goal.at.returns-then-store-ne-STORE c).Else-not-is_card) c.if-state-ne-LENGTH.false c.if-store-ne-STORE.true
@@ -46,10 +47,10 @@ finish-l-requires c =
     let x = c.reader_in-r.ensures in
     (reader_sound g z x, window_sound g z x, x.sound)
 
-pub returns-then-number-eq0 : goal.returns-then-number-eq0
-returns-then-number-eq0 c =
-    ends_kept _ _ _ _ (good (goal.at.returns-then-number-eq0 c).Else-not-is_card) c.if-state-ne-LENGTH.false c.if-store-ne-STORE.false c.if-card-ne0.false c.reader_in-r.ensures c.finish-l.ensures c.verdict_number-number.ensures c.if-number-eq0.true c.encode.ensures
+pub returns-then-is_accepted : goal.returns-then-is_accepted
+returns-then-is_accepted c =
+    ends_kept _ _ _ _ (good (goal.at.returns-then-is_accepted c).Else-not-is_card) c.if-state-ne-LENGTH.false c.if-store-ne-STORE.false c.if-card-ne0.false c.reader_in-r.ensures c.finish-l.ensures c.verdict_number-number.ensures (found c.is_accepted.ensures c.if-is_accepted.true) c.encode.ensures
 
-pub returns-else-number-eq0 : goal.returns-else-number-eq0
-returns-else-number-eq0 c =
-    ends_left _ _ _ _ (good (goal.at.returns-else-number-eq0 c).Else-not-is_card) c.if-state-ne-LENGTH.false c.if-store-ne-STORE.false c.if-card-ne0.false c.reader_in-r.ensures c.finish-l.ensures c.verdict_number-number.ensures c.if-number-eq0.false
+pub returns-else-is_accepted : goal.returns-else-is_accepted
+returns-else-is_accepted c =
+    ends_left _ _ _ _ (good (goal.at.returns-else-is_accepted c).Else-not-is_card) c.if-state-ne-LENGTH.false c.if-store-ne-STORE.false c.if-card-ne0.false c.reader_in-r.ensures c.finish-l.ensures c.verdict_number-number.ensures (found c.is_accepted.ensures c.if-is_accepted.false)

@@ -18,9 +18,9 @@ returns-in_default c =
     let a = c.args in
     subst (λ (turn : Table → Turn). Spoken 42000 (with_newline turn) a.desk a.store.now a.out.now a.at c.answer_long.result a.store.now c.answer_long.new.out) (unheard-turn _ _ _ c.in_default.ensures) (c.answer_long.ensures _)
 
-pub put_byte-next-requires : goal.put_byte-next-requires
-put_byte-next-requires c = omega (arith, c.requires.4, c.answer-r.ensures.room, c.answer-r.auto.out)
+pub put_byte-requires : goal.put_byte-requires
+put_byte-requires c = omega (arith, c.requires.4, c.answer-r.ensures.room, c.answer-r.auto.out)
 
 pub returns : goal.returns
 unfolding line_turn
-returns c = newline (heard-turn _ _ _ _ c.in-Some.ensures) c.answer-r.ensures c.put_byte-next.ensures c.requires.4
+returns c = newline (heard-turn _ _ _ _ c.in-Some.ensures) c.answer-r.ensures c.put_byte.ensures c.requires.4

@@ -11,8 +11,5 @@ use Rattle.desk.proofs.put_queue.Given as goal
 
 abbrev pub invariant-loop-i : goal.invariant-loop-i
 invariant-loop-i l =
-    (l.i ≤ l.n) × (length l.out ≡ length l.initial.out) × (l.next + (78 * (length (param_of l.p).queue - l.i) + 9 * lengths_of (drop l.i (param_of l.p).queue)) ≤ l.at + 41856)
+    (l.i ≤ length (param_of l.p).queue) × (length l.out ≡ length l.initial.out) × (l.next + (78 * (length (param_of l.p).queue - l.i) + 9 * lengths_of (drop l.i (param_of l.p).queue)) ≤ l.at + 41856)
     × ((F : List ℕ) (r : ℕ) → Put l.out l.next (queue_text (drop l.i (param_of l.p).queue) (drop (lengths_of (take l.i (param_of l.p).queue)) l.store)) F r → Put l.initial.out l.at (queue_text (param_of l.p).queue l.store) F r)
-
-abbrev pub decreases-loop-i : goal.decreases-loop-i
-decreases-loop-i l = l.n - l.i

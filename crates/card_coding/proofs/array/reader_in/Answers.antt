@@ -4,4 +4,4 @@ use Rattle.card_coding.proofs.array.reader_in.Goals as goal
 
 pub returns : goal.returns
 returns c =
-    reads_card c.args.card.now c.requires.1 c.decode-d.ensures c.rate_in.ensures c.time_in.ensures
+    reads_card c.args.card.now c.requires.1 c.decode.ensures c.rate_in.ensures c.time_in.ensures

@@ -45,7 +45,7 @@ first rate n p numbers =
 pub returns : goal.returns
 unfolding first
 returns c =
-    let m = c.with_edition-r.ensures in
+    let m = c.with_edition.ensures in
     let z = c.zero_behind in
     let zeros : z.new.part ≡ replicate store_length plus_zero = z.ensures ∙ ap (λ (n : ℕ). replicate n plus_zero) (sub-zero (length c.args.numbers.now) ∙ c.requires) in
     record {

@@ -12,7 +12,7 @@ use Rattle.card_reader.proofs.CardReader.take.Goals as goal
 
 pub returns-then-part-gt-PART : goal.returns-then-part-gt-PART
 unfolding TakesPart
-returns-then-part-gt-PART c = rw (lt-leb _ part_length c.if-part-gt-PART.true) (refl, refl, refl, refl)
+returns-then-part-gt-PART c = rw (lt-leb _ part_length c.if-part-gt-PART.true) (refl, refl, refl)
 
 pub loop-from-init : goal.loop-from-init
 loop-from-init c = (omega arith, c.requires.0, c.requires.1, sym (fed_none _ c.requires.1.waits))
@@ -33,4 +33,4 @@ unfolding TakesPart
 returns c =
     let part = c.args.part.now in
     rw (le-leb (length part) part_length c.if-part-gt-PART.false)
-    (refl, record { reading = c.loop-from.invariant.3 ∙ ap (fed _) (take_all c.loop-from.from part c.loop-from-test.false); sound = c.loop-from.invariant.1; fits = c.loop-from.invariant.2 })
+    (c.loop-from.reader, refl, record { reading = c.loop-from.invariant.3 ∙ ap (fed _) (take_all c.loop-from.from part c.loop-from-test.false); sound = c.loop-from.invariant.1; fits = c.loop-from.invariant.2 })
