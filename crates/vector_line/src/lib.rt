@@ -21,10 +21,8 @@ fn number(s: &[u8; 70], at: usize) -> u64
     ensures { result ≡ number_at s.now at }
 {
     let mut v = 0u64;
-    let mut i = 0usize;
-    while i < 16 {
+    for i in 0..16usize {
         v = v * 16 + digit(s[at + i]);
-        i += 1;
     }
     v
 }

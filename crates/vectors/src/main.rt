@@ -72,13 +72,11 @@ fn main(rt: HostRuntime) -> io::Result<()> {
         wrong: 0,
         more: true,
     };
-    let mut turns = 1000000u64;
-    while turns > 0 {
+    for _turn in 0..1000000u64 {
         if !t.more {
             break;
         }
         t = turn(stdin, stdout, t)?;
-        turns -= 1;
     }
     summary(stdout, t)
 }

@@ -3,7 +3,7 @@ use mathlib.Core.List.{List}
 use mathlib.Core.Bool.{Bool, true, false, cond}
 use lib.Dec.{ltb}
 use mathlib.Core.Path.{◌≡◌, refl, sym, ap, ◌∙◌, subst}
-use Prim.Native.Nat.{ℕ, suc, ◌+◌, ◌*◌, ◌-◌, ◌%◌, ◌^◌, ◌≤◌, ◌<◌, zero-le}
+use Prim.Native.Nat.{ℕ, suc, ◌+◌, ◌*◌, ◌-◌, ◌%◌, ◌^◌, ◌≤◌, ◌<◌}
 use native.Mathlib.Omega.{arith}
 use native.Mathlib.Nat.{lt_of_lt_of_le, lt_of_le_of_lt, le-add_right, zero-lt-suc, add-zero}
 use lib.Pow.{pow-add, pow_mono}
@@ -49,35 +49,23 @@ next s at i v h =
     sums at i = omega arith
 
 digit_at : (c : After-digit) → c.digit.result < 16
-digit_at c = let k = c.before.before.before.before.before in subst (λ (x : ℕ). x < 16) (sym c.digit.ensures) (digit_lt (get_or k.args.s.now (k.args.at + k.loop-i.i) 0))
+digit_at c = subst (λ (x : ℕ). x < 16) (sym c.digit.ensures) (digit_lt (get_or c.args.s.now (c.args.at + c.loop-i.i) 0))
 
 pub loop-i-init : goal.loop-i-init
 unfolding number_at
-loop-i-init c = (zero-le, zero-lt-suc 0, ap (λ (x : ℕ). digits_from c.args.s.now 16 x 0) (add-zero c.args.at))
+loop-i-init c = (zero-lt-suc 0, ap (λ (x : ℕ). digits_from c.args.s.now 16 x 0) (add-zero c.args.at))
 
 pub overflow_mul-v : goal.overflow_mul-v
-overflow_mul-v c = let l = c.loop-i in record { fits = lt_of_le_of_lt (le-add_right (l.v * 16) 0) (fits l.v l.i 0 c.loop-i-test.true l.invariant.1 (zero-lt-suc 15)) }
-
-pub overflow_add-at : goal.overflow_add-at
-overflow_add-at c = omega arith
-
-pub bounds-s-at : goal.bounds-s-at
-bounds-s-at c = omega arith
+overflow_mul-v c = let l = c.loop-i in record { fits = lt_of_le_of_lt (le-add_right (l.v * 16) 0) (fits l.v l.i 0 (omega arith) l.invariant.0 (zero-lt-suc 15)) }
 
 pub overflow_add-v : goal.overflow_add-v
-overflow_add-v c = let l = c.loop-i in record { fits = fits l.v l.i c.digit.result c.loop-i-test.true l.invariant.1 (digit_at c) }
-
-pub overflow_add-i : goal.overflow_add-i
-overflow_add-i c = omega arith
-
-pub loop-i-smaller : goal.loop-i-smaller
-loop-i-smaller c = omega arith
+overflow_add-v c = let l = c.loop-i in record { fits = fits l.v l.i c.digit.result (omega arith) l.invariant.0 (digit_at c) }
 
 pub loop-i-preserved : goal.loop-i-preserved
 loop-i-preserved c =
     let l = c.loop-i in
     let a = c.args in
-    (omega arith, short l.v l.i c.digit.result c.loop-i-test.true l.invariant.1 (digit_at c), ap (λ (x : ℕ). digits_from a.s.now (16 - (l.i + 1)) (a.at + (l.i + 1)) (l.v * 16 + x)) c.digit.ensures ∙ sym (next a.s.now a.at l.i l.v c.loop-i-test.true) ∙ l.invariant.2)
+    (short l.v l.i c.digit.result (omega arith) l.invariant.0 (digit_at c), ap (λ (x : ℕ). digits_from a.s.now (16 - (l.i + 1)) (a.at + (l.i + 1)) (l.v * 16 + x)) c.digit.ensures ∙ sym (next a.s.now a.at l.i l.v (omega arith)) ∙ l.invariant.1)
 
 pub returns : goal.returns
 unfolding digits_from
@@ -85,4 +73,4 @@ returns c =
     let l = c.loop-i in
     let a = c.args in
     let none : 16 - l.i ≡ 0 = omega arith in
-    sym (ap (λ (x : ℕ). digits_from a.s.now x (a.at + l.i) l.v) none) ∙ l.invariant.2
+    sym (ap (λ (x : ℕ). digits_from a.s.now x (a.at + l.i) l.v) none) ∙ l.invariant.1
