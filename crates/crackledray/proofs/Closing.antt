@@ -1,5 +1,5 @@
 -- What a state gives, the call on that, and what is written: the exported call, whatever the call is. Assumes nothing.
-use Rattle.std.proofs.Common.{Result, Ok, Err}
+use Rattle.std.proofs.Common.{Result, Ok, Err, is_ok}
 use mathlib.Core.Path.{◌≡◌, refl, sym, ap, ◌∙◌}
 use mathlib.Core.Bool.{true, false}
 use mathlib.Core.List.{List}
@@ -22,29 +22,26 @@ use Rattle.param.specs.Processed.{Processes}
 use Rattle.param.proofs.Calls.{struct_back}
 use Rattle.param.proofs.Settled.{refused_same}
 use Rattle.param.proofs.Blocks.{refused_keeps}
-use Rattle.coding.specs.Coding.{state_length, param_in, is_state, state_of, Decodes, Encodes}
-use Rattle.coding.proofs.Read.{reads_back, answered_state, refused_state}
-use Rattle.card_coding.proofs.Kept.{refusal_number}
-use Rattle.crackledray.specs.Exported.{bad_state, number_as, state_after, told, Played, played, Begins, Tells, Plays, Closes}
+use Rattle.coding.specs.Coding.{state_length, param_in, is_state, state_of, Encodes}
+use Rattle.coding.proofs.Read.{reads_back}
+use Rattle.crackledray.specs.Exported.{bad_state, number_as, state_after, told, Played, played, Keeps, Begins, Tells, Plays, Closes}
 
--- ---- numbers
+-- ---- the test of an answer
 
--- 0 is no refusal's number
-zero_answers : (v : Result Unit Refusal) → number_as v ≡ 0 → v ≡ Ok tt
-unfolding number_as
-zero_answers (Ok _) h = refl
-zero_answers (Err why) h = absurd (refusal_number why h)
+ok_is : (v : Result Unit Refusal) → is_ok v ≡ true → v ≡ Ok tt
+ok_is (Ok _) h = refl
+ok_is (Err why) h = clash h refl
 
 -- ---- the state of a parameter
 
 module _ {p : AudioParam} {s after : List ℕ} (f : SoundParam p) (long : length s ≡ state_length) (e : Encodes p s after) where
-  pub closes_answered : (v : Result Unit Refusal) {n : ℕ} → n ≡ number_as v → n ≡ 0 → Closes v (param_of p) s n after
+  pub closes_answered : (v : Result Unit Refusal) {n : ℕ} → n ≡ number_as v → is_ok v ≡ true → Closes v (param_of p) s n after
   unfolding state_after
-  closes_answered v h z = record { number = h; state = rw (zero_answers v (sym h ∙ z)) e.is; reads = λ t. reads_back f long e }
+  closes_answered v h z = record { number = h; state = rw (ok_is v z) e.is; reads = λ t. reads_back f long e }
 
-pub closes_refused : (v : Result Unit Refusal) {n : ℕ} (p : Param) (s : List ℕ) → n ≡ number_as v → (n ≡ 0 → ⊥) → Closes v p s n s
+pub closes_refused : (v : Result Unit Refusal) {n : ℕ} (p : Param) (s : List ℕ) → n ≡ number_as v → is_ok v ≡ false → Closes v p s n s
 unfolding number_as state_after
-closes_refused (Ok _) p s h z = absurd (z h)
+closes_refused (Ok _) p s h z = clash refl z
 closes_refused (Err why) p s h z =
     record { number = h; state = refl; reads = λ t. let z : ◌≡◌ {A = ℕ} 0 1 = cc in absurd (omega arith) }
 
@@ -69,24 +66,28 @@ begins {s} {after} {b} {rate} {edition} {m} long made-it e h =
 
 -- ---- a call
 
-module _ {s : List ℕ} {d : Outcome} (x : Decodes s d) where
-  pub tells_bad : {store : List Float} {c : Command} {why : Refusal} → d.verdict ≡ Err why → Tells s store c bad_state s store
-  unfolding told
-  tells_bad h = record { says = rw (refused_state x h); reads = λ t. clash t (refused_state x h) }
+pub tells_bad : {s : List ℕ} {store : List Float} {c : Command} → is_state s ≡ false → Tells s store c bad_state s store
+unfolding told
+tells_bad h = record { says = rw h; reads = λ t. clash t h }
 
-  module _ {store left : List Float} {c : Command} {r : Outcome} {n : ℕ} {after : List ℕ} (h : d.verdict ≡ Ok tt) (a : Answers d.param store c r left)
+pub plays_bad : {s : List ℕ} {store : List Float} {c : Call} (before : Played) → is_state s ≡ false → before.state ≡ s → Plays s store c before before
+unfolding played
+plays_bad before h e = record { says = rw h; reads = λ t. clash t h }
+
+module _ {s : List ℕ} {p : AudioParam} (x : Keeps s p) where
+  module _ {store left : List Float} {c : Command} {r : Outcome} {n : ℕ} {after : List ℕ} (a : Answers p store c r left)
       (k : Closes r.verdict (param_of r.param) s n after) where
     abbrev answer : Called
     answer = called (param_in s) store c
 
     verdict : r.verdict ≡ answer.verdict
-    verdict = a.verdict ∙ ap (λ (p : Param). (called p store c).verdict) (answered_state x h).1
+    verdict = a.verdict ∙ ap (λ (p : Param). (called p store c).verdict) x.is
 
     param : param_of r.param ≡ answer.param
-    param = ap param_of a.param ∙ struct_back _ ∙ ap (λ (p : Param). (called p store c).param) (answered_state x h).1
+    param = ap param_of a.param ∙ struct_back _ ∙ ap (λ (p : Param). (called p store c).param) x.is
 
     left_is : left ≡ answer.store
-    left_is = a.left ∙ ap (λ (p : Param). (called p store c).store) (answered_state x h).1
+    left_is = a.left ∙ ap (λ (p : Param). (called p store c).store) x.is
 
     state_reads : (is_state after ≡ true) × (param_in after ≡ answer.param)
     state_reads = go r.verdict refl
@@ -96,25 +97,21 @@ module _ {s : List ℕ} {d : Outcome} (x : Decodes s d) where
         go (Err why) e =
             let same : after ≡ s = k.state ∙ unfold state_after in rw e in
             let kept = (refused_same x.sound a e).0 in
-            (rw same (answered_state x h).0, ap param_in same ∙ sym (answered_state x h).1 ∙ ap param_of (sym kept) ∙ param)
+            (rw same x.good, ap param_in same ∙ sym x.is ∙ ap param_of (sym kept) ∙ param)
 
     pub tells : Tells s store c n after left
     unfolding told
-    tells = record { says = rw (answered_state x h).0 (rw (k.number, k.state, verdict, param, left_is)); reads = λ t. state_reads }
+    tells = record { says = rw x.good (rw (k.number, k.state, verdict, param, left_is)); reads = λ t. state_reads }
 
   -- ---- a block
 
-  pub plays_bad : {store : List Float} {c : Call} {why : Refusal} (before : Played) → d.verdict ≡ Err why → before.state ≡ s → Plays s store c before before
-  unfolding played
-  plays_bad before h e = record { says = rw (refused_state x h); reads = λ t. clash t (refused_state x h) }
-
-  module _ {store left output : List Float} {c : Call} {r : Processed} {n : ℕ} {after : List ℕ} (before : Played) (h : d.verdict ≡ Ok tt)
-      (a : Processes d.param store c r output left) (k : Closes r.verdict (param_of r.param) s n after) where
+  module _ {store left output : List Float} {c : Call} {r : Processed} {n : ℕ} {after : List ℕ} (before : Played)
+      (a : Processes p store c r output left) (k : Closes r.verdict (param_of r.param) s n after) where
     abbrev block : Answer
     block = answered (param_in s) store c
 
-    by : {A : Type 0} (f : Answer → A) → f (answered (param_of d.param) store c) ≡ f block
-    by f = ap (λ (p : Param). f (answered p store c)) (answered_state x h).1
+    by : {A : Type 0} (f : Answer → A) → f (answered (param_of p) store c) ≡ f block
+    by f = ap (λ (p : Param). f (answered p store c)) x.is
 
     block_verdict : r.verdict ≡ block.verdict
     block_verdict = a.verdict ∙ by (λ (y : Answer). y.verdict)
@@ -130,14 +127,14 @@ module _ {s : List ℕ} {d : Outcome} (x : Decodes s d) where
         go (Err why) e =
             let same : after ≡ s = k.state ∙ unfold state_after in rw e in
             let kept = ap (λ (y : Processed). y.param) (refused_keeps a x.sound e).0 in
-            (rw same (answered_state x h).0, ap param_in same ∙ sym (answered_state x h).1 ∙ ap param_of (sym kept) ∙ block_param)
+            (rw same x.good, ap param_in same ∙ sym x.is ∙ ap param_of (sym kept) ∙ block_param)
 
     pub plays : Plays s store c before (record { number = n; state = after; store = left; output = output; steps = r.steps; current = r.current; one = r.one })
     unfolding played
     plays =
         record {
           says =
-              rw (answered_state x h).0
+              rw x.good
               (rw (k.number, k.state, block_verdict, block_param, a.left ∙ by (λ (y : Answer). y.store), a.written ∙ by (λ (y : Answer). y.output), a.steps ∙ by (λ (y : Answer). y.steps), a.current ∙ by (λ (y : Answer). y.current), a.one ∙ by (λ (y : Answer). y.one_valued)));
           reads = λ t. block_reads;
         }

@@ -1,11 +1,13 @@
 -- What the exported calls answer: of a state that passes its test, what document 01's call answers; of any other, a number of its own and no change.
 use Rattle.rules.specs.declared.Refusal.{Refusal}
-use Rattle.std.specs.Prelude.{◌≡◌, Bool, true, false, cond, List, ℕ, eqb, length, Float, Result, Ok, Err}
+use Rattle.std.specs.Prelude.{◌≡◌, Bool, true, false, cond, List, ℕ, eqb, length, Float, Option, Some, None, Result, Ok, Err}
 use Rattle.rules.specs.declared.AutomationRate.{AutomationRate}
 use Rattle.rules.specs.declared.AutomationRate.TheVariants as Rate
 use Rattle.rules.specs.declared.Bounds.{Bounds}
 use Rattle.rules.specs.Refusals.{number_of, lowest, making_rows}
 use Rattle.rules.specs.Block.{Param, made, Command, Called, called, Call, Answer, answered}
+use Rattle.param.specs.declared.AudioParam.{AudioParam}
+use Rattle.param.specs.Param.{param_of, SoundParam}
 use Rattle.coding.specs.Coding.{state_length, param_in, is_state, state_of}
 
 -- ---- numbers
@@ -70,6 +72,18 @@ played true s a before =
     }
 
 -- ---- what the functions ensure
+
+-- the parameter of a state that passes its test
+pub record Keeps (s : List ℕ) (p : AudioParam) : Type 0 where
+  pub good : is_state s ≡ true
+  pub is : param_of p ≡ param_in s
+  pub sound : SoundParam p
+  pub long : length s ≡ state_length
+
+-- none where the state fails it
+abbrev pub Holds : List ℕ → Option AudioParam → Type 0
+Holds s None = is_state s ≡ false
+Holds s (Some p) = Keeps s p
 
 -- The constructors. Nothing of the old state is read but its length; refused, what refusal 1 returns is written, and by 12 the same.
 pub record Begins (s : List ℕ) (b : Bounds) (rate : AutomationRate) (edition : ℕ) (n : ℕ) (after : List ℕ) : Type 0 where

@@ -9,15 +9,16 @@ ghost use Rattle.block.specs.Asked.{asked};
 ghost use Rattle.param.specs.Param.{param_of, SoundParam};
 ghost use Rattle.coding.specs.Coding.{state_length};
 ghost use Rattle.card_coding.specs.Calls.{bad_card, WritesCard, OpensCard, HearsCard, EndsCard};
-ghost use Rattle.crackledray.specs.Exported.{version, bad_state, rate_of, number_as, Begins, Tells, Plays, Closes};
+ghost use Rattle.crackledray.specs.Exported.{version, bad_state, rate_of, number_as, Holds, Begins, Tells, Plays, Closes};
 
-use param::AudioParam;
+use param::{AudioParam, Outcome};
 use rules::{AutomationRate, Bounds, Refusal};
 
 const VERSION: u32 = 0x00_0800;
 
 const BAD_STATE: u32 = 100;
 
+#[tactic(auto, unfolding(crate::specs::Exported::rate_of))]
 fn rate_of(k_rate: bool) -> AutomationRate
     ensures { result ≡ rate_of k_rate }
 {
@@ -29,6 +30,7 @@ fn rate_of(k_rate: bool) -> AutomationRate
 }
 
 // 0, or document 01's number.
+#[tactic(auto, unfolding(crate::specs::Exported::number_as))]
 fn number_of(verdict: Result<(), Refusal>) -> u32
     ensures { result ≡ number_as verdict }
 {
@@ -38,14 +40,25 @@ fn number_of(verdict: Result<(), Refusal>) -> u32
     }
 }
 
-// What a call answers: its number, and its parameter written where it is answered.
-fn close(verdict: Result<(), Refusal>, p: AudioParam, state: &mut [u64]) -> u32
-    requires { SoundParam p × (length state.old ≡ state_length) }
-    ensures { Closes verdict (param_of p) state.old result state.new }
+// The parameter of a state that passes its test.
+fn param_in(state: &[u64]) -> Option<AudioParam>
+    ensures { Holds state.now result }
 {
-    let number = number_of(verdict);
-    if number == 0 {
-        coding::encode(p, state);
+    let d = coding::decode(state);
+    let Ok(()) = d.verdict else {
+        return None;
+    };
+    Some(d.param)
+}
+
+// What a call answers: its number, and its parameter written where it is answered.
+fn close(said: Outcome, state: &mut [u64]) -> u32
+    requires { SoundParam said.param × (length state.old ≡ state_length) }
+    ensures { Closes said.verdict (param_of said.param) state.old result state.new }
+{
+    let number = number_of(said.verdict);
+    if said.verdict.is_ok() {
+        coding::encode(said.param, state);
     }
     number
 }
@@ -58,10 +71,8 @@ fn begin(state: &mut [u64], bounds: Bounds, rate: AutomationRate, edition: u64) 
         return BAD_STATE;
     }
     let r = AudioParam::with_edition(bounds, rate, edition);
-    let p = r.param;
-    coding::encode(p, state);
-    let verdict = r.verdict;
-    number_of(verdict)
+    coding::encode(r.param, state);
+    number_of(r.verdict)
 }
 
 // The library's own version, for a caller to hold against the header that it was compiled with.
@@ -110,80 +121,50 @@ pub extern "C" fn crackledray_make_under(
 pub extern "C" fn crackledray_set(state: &mut [u64], value: f32) -> u32
     ensures { Tells state.old [] (set value) result state.new [] }
 {
-    let d = coding::decode(&state[..]);
-    let verdict = d.verdict;
-    let Ok(()) = verdict else {
+    let Some(p) = param_in(&state[..]) else {
         return BAD_STATE;
     };
-    let p = d.param;
-    let r = p.set_value(value);
-    let verdict = r.verdict;
-    let p = r.param;
-    close(verdict, p, state)
+    close(p.set_value(value), state)
 }
 
 #[unsafe(no_mangle)]
 pub extern "C" fn crackledray_step(state: &mut [u64], value: f32, time: f64) -> u32
     ensures { Tells state.old [] (step value «time») result state.new [] }
 {
-    let d = coding::decode(&state[..]);
-    let verdict = d.verdict;
-    let Ok(()) = verdict else {
+    let Some(p) = param_in(&state[..]) else {
         return BAD_STATE;
     };
-    let p = d.param;
-    let r = p.set_value_at_time(value, time);
-    let verdict = r.verdict;
-    let p = r.param;
-    close(verdict, p, state)
+    close(p.set_value_at_time(value, time), state)
 }
 
 #[unsafe(no_mangle)]
 pub extern "C" fn crackledray_linear(state: &mut [u64], value: f32, time: f64) -> u32
     ensures { Tells state.old [] (linear value «time») result state.new [] }
 {
-    let d = coding::decode(&state[..]);
-    let verdict = d.verdict;
-    let Ok(()) = verdict else {
+    let Some(p) = param_in(&state[..]) else {
         return BAD_STATE;
     };
-    let p = d.param;
-    let r = p.linear_ramp_to_value_at_time(value, time);
-    let verdict = r.verdict;
-    let p = r.param;
-    close(verdict, p, state)
+    close(p.linear_ramp_to_value_at_time(value, time), state)
 }
 
 #[unsafe(no_mangle)]
 pub extern "C" fn crackledray_exponential(state: &mut [u64], value: f32, time: f64) -> u32
     ensures { Tells state.old [] (exponential value «time») result state.new [] }
 {
-    let d = coding::decode(&state[..]);
-    let verdict = d.verdict;
-    let Ok(()) = verdict else {
+    let Some(p) = param_in(&state[..]) else {
         return BAD_STATE;
     };
-    let p = d.param;
-    let r = p.exponential_ramp_to_value_at_time(value, time);
-    let verdict = r.verdict;
-    let p = r.param;
-    close(verdict, p, state)
+    close(p.exponential_ramp_to_value_at_time(value, time), state)
 }
 
 #[unsafe(no_mangle)]
 pub extern "C" fn crackledray_target(state: &mut [u64], value: f32, time: f64, constant: f64) -> u32
     ensures { Tells state.old [] (target value «time» constant) result state.new [] }
 {
-    let d = coding::decode(&state[..]);
-    let verdict = d.verdict;
-    let Ok(()) = verdict else {
+    let Some(p) = param_in(&state[..]) else {
         return BAD_STATE;
     };
-    let p = d.param;
-    let r = p.set_target_at_time(value, time, constant);
-    let verdict = r.verdict;
-    let p = r.param;
-    close(verdict, p, state)
+    close(p.set_target_at_time(value, time, constant), state)
 }
 
 #[unsafe(no_mangle)]
@@ -196,48 +177,33 @@ pub extern "C" fn crackledray_curve(
 ) -> u32
     ensures { Tells state.old store.old (curve «time» duration values.now) result state.new store.new }
 {
-    let d = coding::decode(&state[..]);
-    let verdict = d.verdict;
-    let Ok(()) = verdict else {
+    let Some(p) = param_in(&state[..]) else {
         return BAD_STATE;
     };
-    let p = d.param;
-    let r = p.set_value_curve_at_time(values, time, duration, store);
-    let verdict = r.verdict;
-    let p = r.param;
-    close(verdict, p, state)
+    close(
+        p.set_value_curve_at_time(values, time, duration, store),
+        state,
+    )
 }
 
 #[unsafe(no_mangle)]
 pub extern "C" fn crackledray_cancel(state: &mut [u64], time: f64, store: &mut [f32]) -> u32
     ensures { Tells state.old store.old (cancel «time») result state.new store.new }
 {
-    let d = coding::decode(&state[..]);
-    let verdict = d.verdict;
-    let Ok(()) = verdict else {
+    let Some(p) = param_in(&state[..]) else {
         return BAD_STATE;
     };
-    let p = d.param;
-    let r = p.cancel_scheduled_values(time, store);
-    let verdict = r.verdict;
-    let p = r.param;
-    close(verdict, p, state)
+    close(p.cancel_scheduled_values(time, store), state)
 }
 
 #[unsafe(no_mangle)]
 pub extern "C" fn crackledray_hold(state: &mut [u64], time: f64, store: &mut [f32]) -> u32
     ensures { Tells state.old store.old (hold «time») result state.new store.new }
 {
-    let d = coding::decode(&state[..]);
-    let verdict = d.verdict;
-    let Ok(()) = verdict else {
+    let Some(p) = param_in(&state[..]) else {
         return BAD_STATE;
     };
-    let p = d.param;
-    let r = p.cancel_and_hold_at_time(time, store);
-    let verdict = r.verdict;
-    let p = r.param;
-    close(verdict, p, state)
+    close(p.cancel_and_hold_at_time(time, store), state)
 }
 
 // `steps`, `current` and `one` are written where the state passes its test: 0, 0 and false where the block is refused.
@@ -258,19 +224,18 @@ pub extern "C" fn crackledray_block(
         (record { number = bad_state; state = state.old; store = store.old; output = output.old; steps = steps.old; current = current.old; one = one.old })
         (record { number = result; state = state.new; store = store.new; output = output.new; steps = steps.new; current = current.new; one = one.new }) }
 {
-    let d = coding::decode(&state[..]);
-    let verdict = d.verdict;
-    let Ok(()) = verdict else {
+    let Some(p) = param_in(&state[..]) else {
         return BAD_STATE;
     };
-    let p = d.param;
     let r = p.process(time, period, count, input, output, store);
     *steps = r.steps;
     *current = r.current;
     *one = r.one;
-    let verdict = r.verdict;
-    let p = r.param;
-    close(verdict, p, state)
+    let said = Outcome {
+        verdict: r.verdict,
+        param: r.param,
+    };
+    close(said, state)
 }
 
 // ---- a schedule file for the memory card (02, C-11)

@@ -1,13 +1,12 @@
 -- `crackledray_cancel` meets its contract. Assumes nothing.
-use Rattle.coding.proofs.Read.{answered_long}
 use Rattle.crackledray.proofs.Closing.{tells_bad, tells}
 use Rattle.crackledray.proofs.crackledray_cancel.Goals as goal
 
 pub returns-in_default : goal.returns-in_default
-returns-in_default c = tells_bad c.decode-d.ensures c.in_default.is
+returns-in_default c = tells_bad c.in_default.ensures
 
 pub close-requires : goal.close-requires
-close-requires c = (c.cancel_scheduled_values-r.ensures.sound, answered_long c.decode-d.ensures c.in-Ok.is)
+close-requires c = (c.cancel_scheduled_values.ensures.sound, c.in-Some.ensures.long)
 
 pub returns : goal.returns
-returns c = tells c.decode-d.ensures c.in-Ok.is c.cancel_scheduled_values-r.ensures c.close.ensures
+returns c = tells c.in-Some.ensures c.cancel_scheduled_values.ensures c.close.ensures

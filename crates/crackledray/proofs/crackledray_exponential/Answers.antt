@@ -1,13 +1,12 @@
 -- `crackledray_exponential` meets its contract. Assumes nothing.
-use Rattle.coding.proofs.Read.{answered_long}
 use Rattle.crackledray.proofs.Closing.{tells_bad, tells}
 use Rattle.crackledray.proofs.crackledray_exponential.Goals as goal
 
 pub returns-in_default : goal.returns-in_default
-returns-in_default c = tells_bad c.decode-d.ensures c.in_default.is
+returns-in_default c = tells_bad c.in_default.ensures
 
 pub close-requires : goal.close-requires
-close-requires c = (c.exponential_ramp_to_value_at_time-r.ensures.sound, answered_long c.decode-d.ensures c.in-Ok.is)
+close-requires c = (c.exponential_ramp_to_value_at_time.ensures.sound, c.in-Some.ensures.long)
 
 pub returns : goal.returns
-returns c = tells c.decode-d.ensures c.in-Ok.is c.exponential_ramp_to_value_at_time-r.ensures c.close.ensures
+returns c = tells c.in-Some.ensures c.exponential_ramp_to_value_at_time.ensures c.close.ensures
