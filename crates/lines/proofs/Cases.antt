@@ -2,6 +2,7 @@
 use mathlib.Core.Path.{◌≡◌, refl}
 use mathlib.Core.Bool.{Bool, true, false, cond}
 use mathlib.Core.List.{List}
+use Rattle.std.specs.Prelude.{None, Some}
 use Prim.Native.Nat.{ℕ, ◌+◌, ◌-◌, ◌≤◌}
 use native.Mathlib.Omega.{arith}
 use lib.Arith.{lt_of_le-ne}
@@ -10,75 +11,38 @@ use lib.ListN.{length, take, drop, length-take, length-drop}
 use borrow.Author.Tests.{eq-eqb, ne_eqb, eqb-false}
 use Rattle.text.specs.Put.{put}
 use Rattle.lines.specs.declared.Lines.{Lines}
-use Rattle.lines.specs.declared.Next.{Next}
+use Rattle.lines.specs.declared.Line.{Line}
 use Rattle.lines.specs.declared.Taken.{Taken}
 use Rattle.scan.specs.Bytes.{slice}
 use Rattle.text.proofs.Splitting.{index_le}
 use Rattle.text.proofs.Writing.{length-put}
 use Rattle.lines.specs.Lines.{Within, LineIn, line_end, next_of, last_of, is_long, left_of, moved_of}
 
-module _ (buf : List ℕ) (l : Lines) (end : ℕ) (e : end ≡ line_end buf l) where
-  pub no_newline : end ≡ l.to → record { next = Next.None; lines = l } ≡ next_of buf l
-  unfolding next_of
-  no_newline h = rw (← e, eq-eqb end l.to h)
-
-  pub long_line : (end ≡ l.to → ⊥) → l.long ≡ true → record { next = Next.Long; lines = record { from = end + 1; to = l.to; long = false } } ≡ next_of buf l
-  unfolding next_of
-  long_line h g = rw (← e, ne_eqb end l.to h, g)
-
-  pub a_line : (end ≡ l.to → ⊥) → l.long ≡ false → record { next = Next.Line l.from end; lines = record { from = end + 1; to = l.to; long = false } } ≡ next_of buf l
-  unfolding next_of
-  a_line h g = rw (← e, ne_eqb end l.to h, g)
-
-module _ (buf : List ℕ) (l : Lines) where
-  pub begun_long : l.long ≡ true → is_long buf l ≡ true
-  unfolding is_long
-  begun_long g = rw g
-
-  pub no_room : l.long ≡ false → l.to - l.from ≡ length buf → is_long buf l ≡ true
-  unfolding is_long
-  no_room g h = rw (g, eq-eqb (l.to - l.from) (length buf) h)
-
-  pub has_room : l.long ≡ false → (l.to - l.from ≡ length buf → ⊥) → is_long buf l ≡ false
-  unfolding is_long
-  has_room g h = rw (g, ne_eqb (l.to - l.from) (length buf) h)
-
-  pub dropped : is_long buf l ≡ true → (record { from = 0; to = 0; long = true } ≡ left_of buf l) × (buf ≡ moved_of buf l)
-  unfolding left_of moved_of
-  dropped g = (rw g, rw g)
-
-  pub kept : is_long buf l ≡ false → {count : ℕ} {buf' : List ℕ} → count ≡ l.to - l.from → buf' ≡ put buf 0 (take (l.to - l.from) (drop l.from buf))
-      → (record { from = 0; to = count; long = false } ≡ left_of buf l) × (buf' ≡ moved_of buf l)
-  unfolding left_of moved_of
-  kept g n b = (rw (g, n), rw g b)
-
 -- ---- what is taken lies in the buffer, and less is left
 
 end_in : (buf : List ℕ) (l : Lines) → Within buf l → (l.from ≤ line_end buf l) × (line_end buf l ≤ l.to)
-unfolding line_end slice
+unfolding slice
 end_in buf l w = (omega arith, omega (arith, index_le 10 (drop l.from (take l.to buf)), length-drop l.from (take l.to buf), length-take l.to buf, w.ordered, w.inside))
 
 abbrev next_by : List ℕ → Lines → Bool → Taken
-next_by buf l b = cond b (record { next = Next.None; lines = l }) (record { next = cond l.long Next.Long (Next.Line l.from (line_end buf l)); lines = record { from = line_end buf l + 1; to = l.to; long = false } })
+next_by buf l b = cond b (record { line = None; lines = l }) (record { line = Some (cond l.long Line.Long (Line.At l.from (line_end buf l))); lines = record { from = line_end buf l + 1; to = l.to; long = false } })
 
 -- where the line goes on, nothing is taken; else the line and its newline, which is some; the bytes end where they ended
-pub next_in : (buf : List ℕ) (l : Lines) → Within buf l → LineIn buf (next_of buf l).next × Within buf (next_of buf l).lines × (l.from ≤ (next_of buf l).lines.from) × ((next_of buf l).lines.to ≡ l.to) × ((next_of buf l).lines.from ≡ l.from → (next_of buf l).next ≡ Next.None)
-unfolding next_of LineIn
+pub next_in : (buf : List ℕ) (l : Lines) → Within buf l → LineIn buf (next_of buf l).line × Within buf (next_of buf l).lines × (l.from ≤ (next_of buf l).lines.from) × ((next_of buf l).lines.to ≡ l.to) × ((next_of buf l).lines.from ≡ l.from → (next_of buf l).line ≡ None)
 next_in buf l w = by_end (end_in buf l w) (eqb (line_end buf l) l.to) refl
   where
-    taken : (e : (l.from ≤ line_end buf l) × (line_end buf l ≤ l.to)) (g : Bool) → LineIn buf (cond g Next.Long (Next.Line l.from (line_end buf l)))
+    taken : (e : (l.from ≤ line_end buf l) × (line_end buf l ≤ l.to)) (g : Bool) → LineIn buf (Some (cond g Line.Long (Line.At l.from (line_end buf l))))
     taken e true = tt
     taken e false = (e.0, omega (arith, e.1, w.inside))
 
-    by_end : (e : (l.from ≤ line_end buf l) × (line_end buf l ≤ l.to)) (b : Bool) → eqb (line_end buf l) l.to ≡ b → LineIn buf (next_by buf l b).next × Within buf (next_by buf l b).lines × (l.from ≤ (next_by buf l b).lines.from) × ((next_by buf l b).lines.to ≡ l.to) × ((next_by buf l b).lines.from ≡ l.from → (next_by buf l b).next ≡ Next.None)
+    by_end : (e : (l.from ≤ line_end buf l) × (line_end buf l ≤ l.to)) (b : Bool) → eqb (line_end buf l) l.to ≡ b → LineIn buf (next_by buf l b).line × Within buf (next_by buf l b).lines × (l.from ≤ (next_by buf l b).lines.from) × ((next_by buf l b).lines.to ≡ l.to) × ((next_by buf l b).lines.from ≡ l.from → (next_by buf l b).line ≡ None)
     by_end e true t = (tt, w, omega arith, refl, λ q. refl)
     by_end e false t = (taken e l.long, record { ordered = omega (arith, e.1, lt_of_le-ne e.1 (eqb-false (line_end buf l) l.to t)); inside = w.inside }, omega (arith, e.0), refl, λ q. absurd (omega (arith, e.0, q)))
 
 pub last_in_lem : (buf : List ℕ) (l : Lines) → Within buf l → LineIn buf (last_of l)
-unfolding last_of LineIn
 last_in_lem buf l w = by_long l.long (eqb l.from l.to)
   where
-    by_long : (g b : Bool) → LineIn buf (cond g Next.Long (cond b Next.None (Next.Line l.from l.to)))
+    by_long : (g b : Bool) → LineIn buf (cond g (Some Line.Long) (cond b None (Some (Line.At l.from l.to))))
     by_long true b = tt
     by_long false true = tt
     by_long false false = (w.ordered, w.inside)
@@ -91,7 +55,6 @@ room_for : (buf : List ℕ) (l : Lines) → Within buf l → 0 + length (unread 
 room_for buf l w = simp (length-take, length-drop) (omega (arith, w.ordered, w.inside))
 
 pub left_in : (buf : List ℕ) (l : Lines) → Within buf l → Within (moved_of buf l) (left_of buf l)
-unfolding left_of moved_of
 left_in buf l w = by_long (is_long buf l)
   where
     by_long : (g : Bool) → Within (cond g buf (put buf 0 (unread buf l))) (cond g (record { from = 0; to = 0; long = true }) (record { from = 0; to = l.to - l.from; long = false }))

@@ -1,27 +1,27 @@
 -- From line to line: what was taken lies in the buffer, and less is left. Assumes nothing.
 use mathlib.Core.Path.{◌≡◌, sym, subst}
 use mathlib.Core.List.{List}
+use Rattle.std.specs.Prelude.{Option, None, Some}
 use Prim.Native.Nat.{ℕ, ◌-◌, ◌≤◌, ◌<◌}
 use native.Mathlib.Omega.{arith}
 use lib.Arith.{lt_of_le-ne}
 use lib.ListN.{length}
 use Rattle.lines.specs.declared.Lines.{Lines}
-use Rattle.lines.specs.declared.Next.{Next}
+use Rattle.lines.specs.declared.Line.{Line}
 use Rattle.lines.specs.declared.Taken.{Taken}
 use Rattle.lines.specs.Lines.{Within, LineIn, next_of, left_of, moved_of}
 use Rattle.lines.proofs.Cases.{next_in, left_in}
 
 -- ---- the line that was taken
 
-pub line_in : (buf : List ℕ) {next : Next} {from to : ℕ} → next ≡ Next.Line from to → LineIn buf next → (from ≤ to) × (to ≤ length buf)
-unfolding LineIn
+pub line_in : (buf : List ℕ) {line : Option Line} {from to : ℕ} → line ≡ Some (Line.At from to) → LineIn buf line → (from ≤ to) × (to ≤ length buf)
 line_in buf e h = subst (LineIn buf) e h
 
 -- ---- the lines that are left
 
 module _ (buf : List ℕ) (l : Lines) (w : Within buf l) {t : Taken} (e : t ≡ next_of buf l) where
-  pub taken_in : LineIn buf t.next
-  taken_in = subst (λ (x : Taken). LineIn buf x.next) (sym e) (next_in buf l w).0
+  pub taken_in : LineIn buf t.line
+  taken_in = subst (λ (x : Taken). LineIn buf x.line) (sym e) (next_in buf l w).0
 
   pub rest_in : Within buf t.lines
   rest_in = subst (λ (x : Taken). Within buf x.lines) (sym e) (next_in buf l w).1
@@ -36,7 +36,7 @@ module _ (buf : List ℕ) (l : Lines) (w : Within buf l) {t : Taken} (e : t ≡ 
   fewer_left more = omega (arith, lt_of_le-ne no_sooner (λ q. more (sym q)), same_end, rest_in.ordered)
 
   -- nothing was taken
-  pub none_taken : t.lines.from ≡ l.from → (next_of buf l).next ≡ Next.None
+  pub none_taken : t.lines.from ≡ l.from → (next_of buf l).line ≡ None
   none_taken q = (next_in buf l w).4 (subst (λ (x : Taken). x.lines.from ≡ l.from) e q)
 
 -- what is left of the buffer, once there is room behind it

@@ -14,16 +14,16 @@ pub struct Lines {
     pub long: bool,
 }
 
+// A line: where it lies in the buffer, or that it is too long for it.
 #[derive(Clone, Copy)]
-pub enum Next {
-    Line { from: usize, to: usize },
+pub enum Line {
+    At { from: usize, to: usize },
     Long,
-    None,
 }
 
 #[derive(Clone, Copy)]
 pub struct Taken {
-    pub next: Next,
+    pub line: Option<Line>,
     pub lines: Lines,
 }
 
@@ -32,47 +32,38 @@ pub fn next_line(buf: &[u8], lines: Lines) -> Taken
     requires { Within buf.now lines }
     ensures { result ≡ next_of buf.now lines }
 {
-    let from = lines.from;
-    let to = lines.to;
+    let Lines { from, to, long } = lines;
     let end = scan::find(buf, from, to, b'\n');
     if end == to {
-        return Taken {
-            next: Next::None,
-            lines,
-        };
+        return Taken { line: None, lines };
     }
-    let rest = Lines {
-        from: end + 1,
-        to,
-        long: false,
-    };
-    if lines.long {
-        Taken {
-            next: Next::Long,
-            lines: rest,
-        }
+    let line = if long {
+        Line::Long
     } else {
-        Taken {
-            next: Next::Line { from, to: end },
-            lines: rest,
-        }
+        Line::At { from, to: end }
+    };
+    Taken {
+        line: Some(line),
+        lines: Lines {
+            from: end + 1,
+            to,
+            long: false,
+        },
     }
 }
 
 // The line that the input ends with, without its newline.
-pub fn last_line(lines: Lines) -> Next
+pub fn last_line(lines: Lines) -> Option<Line>
     ensures { result ≡ last_of lines }
 {
-    let from = lines.from;
-    let to = lines.to;
-    if lines.long {
-        return Next::Long;
+    let Lines { from, to, long } = lines;
+    if long {
+        return Some(Line::Long);
     }
     if from == to {
-        Next::None
-    } else {
-        Next::Line { from, to }
+        return None;
     }
+    Some(Line::At { from, to })
 }
 
 // The bytes from one place to another, moved to the front; how many they are.
@@ -81,10 +72,8 @@ pub fn moved(buf: &mut [u8], from: usize, to: usize) -> usize
     ensures { (result ≡ to - from) × (buf.new ≡ put buf.old 0 (take (to - from) (drop from buf.old))) }
 {
     let count = to - from;
-    let mut i = 0;
-    while i < count {
+    for i in 0..count {
         buf[i] = buf[from + i];
-        i += 1;
     }
     count
 }
@@ -94,16 +83,8 @@ pub fn make_room(buf: &mut [u8], lines: Lines) -> Lines
     requires { Within buf.old lines }
     ensures { (result ≡ left_of buf.old lines) × (buf.new ≡ moved_of buf.old lines) }
 {
-    let from = lines.from;
-    let to = lines.to;
-    if lines.long {
-        return Lines {
-            from: 0,
-            to: 0,
-            long: true,
-        };
-    }
-    if to - from == buf.len() {
+    let Lines { from, to, long } = lines;
+    if long || to - from == buf.len() {
         return Lines {
             from: 0,
             to: 0,

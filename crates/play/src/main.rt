@@ -12,7 +12,7 @@ ghost use Rattle.play.specs.Played.{not_read, clash_in, told, strict_turn, cost_
 use calls::read_call;
 use clashes::{Clash, clash_of, put_clash};
 use desk::{Answered, Desk, answer_line, at_first};
-use lines::{Lines, Next, last_line, make_room, next_line};
+use lines::{Line, Lines, last_line, make_room, next_line};
 use replies::put_reply;
 use std::io;
 use std::io::{Read, Stdin, Stdout};
@@ -174,7 +174,7 @@ fn answer_next(
     stdout: Stdout,
     desk: Desk,
     n: u64,
-    next: Next,
+    line: Option<Line>,
     input: &[u8],
     strict: &mut [u8],
     numbers: &mut [f32],
@@ -183,12 +183,12 @@ fn answer_next(
     out: &mut [u8],
     at: usize,
 ) -> io::Result<Answered>
-    requires { SoundDesk desk × LineIn input.now next × Lent input.now strict.old numbers.old store.old said.old out.old × (at ≤ length out.old) }
+    requires { SoundDesk desk × LineIn input.now line × Lent input.now strict.old numbers.old store.old said.old out.old × (at ≤ length out.old) }
     ensures { MatchResult result (λ r. SoundDesk r.desk × (r.next ≤ length out.old)) (λ _. Lent input.now strict.new numbers.new store.new said.new out.new) }
 {
     let at = room(stdout, out, at)?;
-    match next {
-        Next::Line { from, to } => Ok(answer_plain(
+    match line {
+        Some(Line::At { from, to }) => Ok(answer_plain(
             desk,
             n,
             &input[from..to],
@@ -199,8 +199,8 @@ fn answer_next(
             out,
             at,
         )),
-        Next::Long => Ok(answer_not_read(desk, n, out, at)),
-        Next::None => Ok(Answered { desk, next: at }),
+        Some(Line::Long) => Ok(answer_not_read(desk, n, out, at)),
+        None => Ok(Answered { desk, next: at }),
     }
 }
 
@@ -235,10 +235,9 @@ fn answer_lines(
                 more: p.more,
             });
         }
-        let next = t.next;
         n = n.saturating_add(1);
         let r = answer_next(
-            stdout, desk, n, next, input, strict, numbers, store, said, out, at,
+            stdout, desk, n, t.line, input, strict, numbers, store, said, out, at,
         )?;
         desk = r.desk;
         lines = rest;
@@ -305,9 +304,9 @@ fn finish(
 {
     let desk = p.desk;
     let n = p.count.saturating_add(1);
-    let next = last_line(p.lines);
+    let line = last_line(p.lines);
     let r = answer_next(
-        stdout, desk, n, next, input, strict, numbers, store, said, out, 0,
+        stdout, desk, n, line, input, strict, numbers, store, said, out, 0,
     )?;
     let end = r.next;
     stdout.write_all(&out[..end])

@@ -1,25 +1,42 @@
--- A search for a byte, place by place.
-use Rattle.std.proofs.Common.{◌≡◌, ℕ, ◌+◌, ◌≤◌, ◌<◌, List, ◌∷◌, length, get_or, take, arith, drop_of_length-le, length-take-le, eq-eqb, ne_eqb, add-one}
-use Rattle.std.proofs.Math.Seq.{slice-cons}
+-- A search for a byte, as std's `position` has it. Assumes nothing.
+use Rattle.std.proofs.Common.{◌≡◌, ℕ, suc, ◌+◌, ◌-◌, ◌≤◌, ◌<◌, Bool, true, false, cond, not, eqb, ltb, List, [], ◌∷◌, length, take, drop, Option, Some, None, refl, ◌∙◌, rules, arith, ltb-true, ltb-false}
+use Rattle.std.specs.List.{position_or_len, position}
+use Rattle.std.proofs.lemmas.Slice.{between_is}
 use Rattle.scan.specs.Bytes.{index_after, index_of, slice}
 
--- a part begins with the list's value at its first place
-module _ (s : List ℕ) (i to : ℕ) (inside : i < to) (fits : to ≤ length s) where
-  pub slice_front : slice i to s ≡ get_or s i 0 ∷ slice (i + 1) to s
-  unfolding slice
-  slice_front = rw (add-one i) (slice-cons i to s 0 inside fits)
+first_place : (b : ℕ) (cs : List ℕ) → position_or_len (λ c. eqb c b) cs ≡ index_of b cs
+unfolding index_of index_after
+first_place b [] = refl
+first_place b (c ∷ cs) = by_test (first_place b cs) (eqb c b)
+  where
+    by_test : position_or_len (λ c. eqb c b) cs ≡ index_of b cs → (t : Bool) → cond (not t) (1 + position_or_len (λ c. eqb c b) cs) 0 ≡ index_after t (index_of b cs)
+    by_test e true = refl
+    by_test e false = omega (arith, e)
 
-  -- the byte stands at this place
-  pub stands : (b : ℕ) → get_or s i 0 ≡ b → index_of b (slice i to s) ≡ 0
-  unfolding index_of index_after
-  stands b e = rw (slice_front, eq-eqb (get_or s i 0) b e)
+index_le : (b : ℕ) (cs : List ℕ) → index_of b cs ≤ length cs
+unfolding index_of index_after
+index_le b [] = omega arith
+index_le b (c ∷ cs) = by_test (index_le b cs) (eqb c b)
+  where
+    by_test : index_of b cs ≤ length cs → (t : Bool) → index_after t (index_of b cs) ≤ suc (length cs)
+    by_test rest true = omega arith
+    by_test rest false = omega arith
 
-  -- the byte does not stand at this place
-  pub passes : (b : ℕ) → (get_or s i 0 ≡ b → ⊥) → index_of b (slice i to s) ≡ index_of b (slice (i + 1) to s) + 1
-  unfolding index_of index_after
-  passes b n = rw (slice_front, ne_eqb (get_or s i 0) b n, add-one (index_of b (slice (i + 1) to s)))
+module _ (b : ℕ) (cs : List ℕ) where
+  pub found : {i : ℕ} → Some i ≡ position (λ c. eqb c b) cs → (i ≡ index_of b cs) × (i < length cs)
+  found {i} e = by_test (ltb (position_or_len (λ c. eqb c b) cs) (length cs)) refl e
+    where
+      by_test : (t : Bool) → ltb (position_or_len (λ c. eqb c b) cs) (length cs) ≡ t → Some i ≡ cond t (Some (position_or_len (λ c. eqb c b) cs)) None → (i ≡ index_of b cs) × (i < length cs)
+      by_test true h g = let is : i ≡ position_or_len (λ c. eqb c b) cs = grind arith in (is ∙ first_place b cs, omega (arith, is, ltb-true _ _ h))
+      by_test false h g = absurd (grind arith)
 
--- no place is left
-pub ends : (s : List ℕ) (i to b : ℕ) → to ≤ length s → to ≤ i → index_of b (slice i to s) ≡ 0
-unfolding index_of slice
-ends s i to b fits h = rw (drop_of_length-le (take to s) {i = i} (omega (arith, length-take-le to s fits)))
+  pub missing : None ≡ position (λ c. eqb c b) cs → length cs ≡ index_of b cs
+  missing e = by_test (ltb (position_or_len (λ c. eqb c b) cs) (length cs)) refl e
+    where
+      by_test : (t : Bool) → ltb (position_or_len (λ c. eqb c b) cs) (length cs) ≡ t → ◌≡◌ {A = Option ℕ} None (cond t (Some (position_or_len (λ c. eqb c b) cs)) None) → length cs ≡ index_of b cs
+      by_test true h g = absurd (grind arith)
+      by_test false h g = omega (arith, first_place b cs, ltb-false _ _ h, index_le b cs)
+
+pub part_is : (from to : ℕ) (s : List ℕ) → take (to - from) (drop from s) ≡ slice from to s
+unfolding slice
+part_is from to s = search (rules, between_is)

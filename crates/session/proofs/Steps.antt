@@ -1,6 +1,7 @@
 -- A session from line to line: what was said, one thing behind another. Assumes nothing.
 use mathlib.Core.Path.{◌≡◌, refl, sym, ap, ◌∙◌, subst}
 use mathlib.Core.List.{List}
+use Rattle.std.specs.Prelude.{Option}
 use Prim.Native.Nat.{ℕ, suc, ◌+◌, ◌≤◌}
 use native.Mathlib.Omega.{arith}
 use lib.ListN.{length}
@@ -11,7 +12,7 @@ use Rattle.text.proofs.Writing.{put-nothing, put_same, put_then}
 use Rattle.param.specs.Param.{param_of, struct_of}
 use Rattle.param.proofs.Calls.{struct_back}
 use Rattle.lines.specs.declared.Lines.{Lines}
-use Rattle.lines.specs.declared.Next.{Next}
+use Rattle.lines.specs.declared.Line.{Line}
 use Rattle.lines.specs.declared.Taken.{Taken}
 use Rattle.lines.specs.Lines.{next_of}
 use Rattle.desk.specs.declared.Desk.{Desk}
@@ -22,9 +23,9 @@ use Rattle.session.specs.Session.{next_turn, and_then, lines_left, lines_turn, T
 
 -- ---- the line that was taken
 
-pub by_next : (input : List ℕ) {next this : Next} {d : Desk} {s : List Float} {l : List ℕ} {at : ℕ} {r : Answered} {s' : List Float} {l' : List ℕ}
-    → next ≡ this → Spoken 42000 (next_turn input this) d s l at r s' l' → Spoken 42000 (next_turn input next) d s l at r s' l'
-by_next input {d = d} {s} {l} {at} {r} {s'} {l'} e spoken = subst (λ (n : Next). Spoken 42000 (next_turn input n) d s l at r s' l') (sym e) spoken
+pub by_next : (input : List ℕ) {line this : Option Line} {d : Desk} {s : List Float} {l : List ℕ} {at : ℕ} {r : Answered} {s' : List Float} {l' : List ℕ}
+    → line ≡ this → Spoken 42000 (next_turn input this) d s l at r s' l' → Spoken 42000 (next_turn input line) d s l at r s' l'
+by_next input {d = d} {s} {l} {at} {r} {s'} {l'} e spoken = subst (λ (o : Option Line). Spoken 42000 (next_turn input o) d s l at r s' l') (sym e) spoken
 
 -- ---- one thing said behind another
 
@@ -60,7 +61,7 @@ none_answered input d l n store out ok =
     record { count = 0; spoken = said _ _ _ d.lent _ _ ok refl ok.lent refl (put-nothing _ _) (omega arith); left = refl }
 
 pub one_answered : {input : List ℕ} {d d₁ : Desk} {l l₁ : Lines} {n n₁ : ℕ} {s s₁ s' : List Float} {out out₁ out' : List ℕ} {t : Taken} {r : Answered}
-    → Through input d l n s out d₁ l₁ n₁ s₁ out₁ → t ≡ next_of input l₁ → Spoken 42000 (next_turn input t.next) d₁ s₁ out₁ n₁ r s' out'
+    → Through input d l n s out d₁ l₁ n₁ s₁ out₁ → t ≡ next_of input l₁ → Spoken 42000 (next_turn input t.line) d₁ s₁ out₁ n₁ r s' out'
     → n₁ ≤ length out → r.next ≤ length out → Through input d l n s out r.desk t.lines r.next s' out'
 unfolding lines_turn lines_left
 one_answered {input} {d₁ = d₁} {n₁ = n₁} {s₁ = s₁} {s'} {out} {out₁} {out'} {t} {r} k e spoken h near =
@@ -69,7 +70,7 @@ one_answered {input} {d₁ = d₁} {n₁ = n₁} {s₁ = s₁} {s'} {out} {out�
       count = suc k.count;
       spoken =
           then_said (length out) k.spoken
-          (subst (λ (x : Taken). Spoken 42000 (next_turn input x.next) d₁ s₁ out₁ n₁ r s' out') taken spoken)
+          (subst (λ (x : Taken). Spoken 42000 (next_turn input x.line) d₁ s₁ out₁ n₁ r s' out') taken spoken)
           h (omega (arith, near));
       left = ap (λ (x : Taken). x.lines) taken;
     }

@@ -1,7 +1,7 @@
 -- What a session does with its lines, and what it keeps from one to the next.
-use Rattle.std.specs.Prelude.{◌≡◌, List, [], ◌++◌, ℕ, zero, suc, ◌-◌, ◌≤◌, length, take, drop, Float}
+use Rattle.std.specs.Prelude.{◌≡◌, List, [], ◌++◌, ℕ, zero, suc, ◌-◌, ◌≤◌, length, take, drop, Float, Option, None, Some}
 use Rattle.lines.specs.declared.Lines.{Lines}
-use Rattle.lines.specs.declared.Next.{Next}
+use Rattle.lines.specs.declared.Line.{Line}
 use Rattle.lines.specs.Lines.{Within, next_of}
 use Rattle.desk.specs.declared.Desk.{Desk}
 use Rattle.desk.specs.Desk.{SoundDesk, Table, Turn, Spoken, unchanged, unread, with_newline, line_turn}
@@ -9,10 +9,10 @@ use Rattle.desk.specs.Desk.{SoundDesk, Table, Turn, Spoken, unchanged, unread, w
 -- ---- what is done
 
 -- with a line; "a line that is none of these", as one that is too long: `unread`
-unfoldable pub next_turn : List ℕ → Next → Table → Turn
-next_turn input (Next.Line from to) = line_turn (take (to - from) (drop from input))
-next_turn input Next.Long = with_newline unread
-next_turn input Next.None = unchanged []
+unfoldable pub next_turn : List ℕ → Option Line → Table → Turn
+next_turn input (Some (Line.At from to)) = line_turn (take (to - from) (drop from input))
+next_turn input (Some Line.Long) = with_newline unread
+next_turn input None = unchanged []
 
 -- one thing behind another, and its text behind the other's
 unfoldable pub and_then : (Table → Turn) → (Table → Turn) → Table → Turn
@@ -26,7 +26,7 @@ lines_left (suc n) input l = (next_of input (lines_left n input l)).lines
 -- with the first n lines, "in order"
 unfoldable pub lines_turn : ℕ → List ℕ → Lines → Table → Turn
 lines_turn zero input l = unchanged []
-lines_turn (suc n) input l = and_then (lines_turn n input l) (next_turn input (next_of input (lines_left n input l)).next)
+lines_turn (suc n) input l = and_then (lines_turn n input l) (next_turn input (next_of input (lines_left n input l)).line)
 
 -- ---- what is kept and ensured
 

@@ -1,14 +1,13 @@
 // Reads calls of the session language from standard input, a line each, and answers each with a line.
 #![tactic(auto)]
 
-ghost use Rattle.std.specs.Prelude.{◌≡◌, ℕ, ◌+◌, ◌≤◌, length, MatchResult};
+ghost use Rattle.std.specs.Prelude.{◌≡◌, ℕ, ◌+◌, ◌≤◌, length, MatchResult, None};
 ghost use Rattle.desk.specs.Desk.{SoundDesk, Spoken};
-ghost use Rattle.lines.specs.declared.Next.TheVariants as Next;
 ghost use Rattle.lines.specs.Lines.{LineIn, next_of};
 ghost use Rattle.session.specs.Session.{Lent, Going, Through, next_turn};
 
 use desk::{Answered, Desk, answer_line, answer_long, at_first};
-use lines::{Lines, Next, last_line, make_room, next_line};
+use lines::{Line, Lines, last_line, make_room, next_line};
 use std::io;
 use std::io::{Read, Stdin, Stdout};
 
@@ -24,7 +23,7 @@ struct Session {
 // The answer to a line, or none where there is none.
 fn answer_next(
     desk: Desk,
-    next: Next,
+    line: Option<Line>,
     input: &[u8],
     numbers: &mut [f32],
     file: &mut [u8],
@@ -32,15 +31,15 @@ fn answer_next(
     out: &mut [u8],
     at: usize,
 ) -> Answered
-    requires { SoundDesk desk × LineIn input.now next × Lent numbers.old file.old store.old out.old × (at + 42000 ≤ length out.old) }
-    ensures { Spoken 42000 (next_turn input.now next) desk store.old out.old at result store.new out.new }
+    requires { SoundDesk desk × LineIn input.now line × Lent numbers.old file.old store.old out.old × (at + 42000 ≤ length out.old) }
+    ensures { Spoken 42000 (next_turn input.now line) desk store.old out.old at result store.new out.new }
 {
-    match next {
-        Next::Line { from, to } => {
+    match line {
+        Some(Line::At { from, to }) => {
             answer_line(desk, &input[from..to], numbers, file, store, out, at)
         }
-        Next::Long => answer_long(desk, out, at),
-        Next::None => Answered { desk, next: at },
+        Some(Line::Long) => answer_long(desk, out, at),
+        None => Answered { desk, next: at },
     }
 }
 
@@ -56,7 +55,7 @@ fn answer_lines(
     requires { Going s.desk s.lines s.at input.now numbers.old file.old store.old out.old }
     ensures going { Going result.desk result.lines result.at input.now numbers.new file.new store.new out.new }
     ensures through { Through input.now s.desk s.lines s.at store.old out.old result.desk result.lines result.at store.new out.new }
-    ensures lines_value { result.at + 42000 ≤ length out.old → (next_of input.now result.lines).next ≡ Next.None }
+    ensures lines_value { result.at + 42000 ≤ length out.old → (next_of input.now result.lines).line ≡ None }
 {
     let mut desk = s.desk;
     let mut lines = s.lines;
@@ -68,8 +67,7 @@ fn answer_lines(
         if rest.from == lines.from {
             break;
         }
-        let next = t.next;
-        let r = answer_next(desk, next, input, numbers, file, store, out, at);
+        let r = answer_next(desk, t.line, input, numbers, file, store, out, at);
         desk = r.desk;
         lines = rest;
         at = r.next;
@@ -146,8 +144,8 @@ fn finish(
     requires { Going s.desk s.lines s.at input.now numbers.old file.old store.old out.old }
 {
     let desk = s.desk;
-    let next = last_line(s.lines);
-    let r = answer_next(desk, next, input, numbers, file, store, out, 0);
+    let line = last_line(s.lines);
+    let r = answer_next(desk, line, input, numbers, file, store, out, 0);
     let end = r.next;
     stdout.write_all(&out[..end])
 }

@@ -5,7 +5,7 @@ ghost use Rattle.std.specs.Prelude.{◌≡◌, ◌+◌, ◌*◌, ◌≤◌, leng
 ghost use Rattle.lines.specs.Lines.{LineIn};
 ghost use Rattle.strict.specs.Strict.{Going};
 
-use lines::{Lines, Next, last_line, make_room, next_line};
+use lines::{Line, Lines, last_line, make_room, next_line};
 use std::io;
 use std::io::{Read, Stdin, Stdout};
 use wording::translate;
@@ -28,13 +28,13 @@ fn write_line(stdout: Stdout, line: &[u8], strict: &mut [u8]) -> io::Result<()>
 }
 
 // A line, or none where there is none.
-fn write_next(stdout: Stdout, next: Next, input: &[u8], strict: &mut [u8]) -> io::Result<()>
-    requires { LineIn input.now next × (length input.now ≤ 65536) × (21 + 17 * 65536 ≤ length strict.old) }
+fn write_next(stdout: Stdout, line: Option<Line>, input: &[u8], strict: &mut [u8]) -> io::Result<()>
+    requires { LineIn input.now line × (length input.now ≤ 65536) × (21 + 17 * 65536 ≤ length strict.old) }
 {
-    match next {
-        Next::Line { from, to } => write_line(stdout, &input[from..to], strict),
-        Next::Long => stdout.write_all(b"\n"),
-        Next::None => Ok(()),
+    match line {
+        Some(Line::At { from, to }) => write_line(stdout, &input[from..to], strict),
+        Some(Line::Long) => stdout.write_all(b"\n"),
+        None => Ok(()),
     }
 }
 
@@ -51,8 +51,7 @@ fn write_lines(stdout: Stdout, lines: Lines, input: &[u8], strict: &mut [u8]) ->
         if rest.from == lines.from {
             return Ok(lines);
         }
-        let next = t.next;
-        write_next(stdout, next, input, strict)?;
+        write_next(stdout, t.line, input, strict)?;
         lines = rest;
     }
 }

@@ -1,7 +1,7 @@
 -- Totals kept up to the largest number: kept after each call they are the whole sum's, and below that number they are the totals themselves. Assumes nothing.
 use mathlib.Core.Path.{◌≡◌, refl, sym, ap, ◌∙◌}
 use mathlib.Core.Bool.{Bool, true, false, cond}
-use Prim.Native.Nat.{ℕ, suc, ◌+◌, ◌-◌, ◌*◌, ◌≤◌, ◌<◌}
+use Prim.Native.Nat.{ℕ, suc, ◌+◌, ◌-◌, ◌*◌, ◌≤◌, ◌<◌, min}
 use native.Mathlib.Omega.{arith}
 use lib.Dec.{leb}
 use borrow.Author.Tests.{leb-true, leb-false, le-leb}
@@ -25,6 +25,15 @@ capped_full n h = go (leb n largest) refl
     go : (b : Bool) → leb n largest ≡ b → cond b n largest ≡ largest
     go true e = omega (arith, leb-true n largest e)
     go false e = refl
+
+-- as the code has it
+pub capped_is : (n : ℕ) → min n largest ≡ capped n
+unfolding capped
+capped_is n = go (leb n largest) refl
+  where
+    go : (b : Bool) → leb n largest ≡ b → min n largest ≡ cond b n largest
+    go true e = omega (arith, leb-true n largest e)
+    go false e = omega (arith, leb-false n largest e)
 
 -- one that is kept is the number itself, or the largest
 capped_or : (P : ℕ → Type 0) (n : ℕ) → (n ≤ largest → P n) → (largest ≤ n → P largest) → P (capped n)

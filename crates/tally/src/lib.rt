@@ -1,7 +1,7 @@
 // The totals of a session as it goes on, kept from what is seen of each call; and they in words.
 #![tactic(auto)]
 
-ghost use Rattle.std.specs.Prelude.{◌≡◌, ◌++◌, ℕ, ◌+◌, ◌-◌, ◌≤◌, length};
+ghost use Rattle.std.specs.Prelude.{◌≡◌, ◌++◌, ℕ, ◌+◌, ◌≤◌, length};
 ghost use Rattle.text.specs.Digits.{decimal_of};
 ghost use Rattle.text.specs.Put.{Put};
 ghost use Rattle.costs.specs.Costs.{nothing, most_steps};
@@ -14,20 +14,6 @@ use rules::Verdict;
 use text::write::{put_count, put_word};
 
 // ---- counting
-
-// A sum that stops at the largest number.
-fn add(a: u64, b: u64) -> u64
-    ensures { result ≡ capped (a + b) }
-{
-    if b <= u64::MAX - a { a + b } else { u64::MAX }
-}
-
-// How many more n are than m.
-fn more(n: u64, m: u64) -> u64
-    ensures { result ≡ n - m }
-{
-    if m < n { n - m } else { 0 }
-}
 
 pub fn none() -> Totals
     ensures { result ≡ nothing }
@@ -46,12 +32,12 @@ fn plus(t: Totals, u: Totals) -> Totals
     ensures { result ≡ kept (rule.plus t u) }
 {
     Totals {
-        steps: add(t.steps, u.steps),
-        blocks: add(t.blocks, u.blocks),
-        stored: add(t.stored, u.stored),
-        finished: add(t.finished, u.finished),
-        cancelled: add(t.cancelled, u.cancelled),
-        turned: add(t.turned, u.turned),
+        steps: t.steps.saturating_add(u.steps),
+        blocks: t.blocks.saturating_add(u.blocks),
+        stored: t.stored.saturating_add(u.stored),
+        finished: t.finished.saturating_add(u.finished),
+        cancelled: t.cancelled.saturating_add(u.cancelled),
+        turned: t.turned.saturating_add(u.turned),
     }
 }
 
@@ -59,8 +45,8 @@ fn plus(t: Totals, u: Totals) -> Totals
 pub fn after_command(t: Totals, before: usize, after: usize) -> Totals
     ensures { result ≡ kept (rule.plus t (command_seen before after)) }
 {
-    let stored = more(after as u64, before as u64);
-    let cancelled = more(before as u64, after as u64);
+    let stored = (after as u64).saturating_sub(before as u64);
+    let cancelled = (before as u64).saturating_sub(after as u64);
     let cost = Totals {
         steps: 0,
         blocks: 0,
@@ -78,9 +64,9 @@ pub fn after_block(t: Totals, verdict: Verdict, steps: usize, before: usize, aft
 {
     match verdict {
         Verdict::Answered => {
-            let finished = more(before as u64, after as u64);
+            let finished = (before as u64).saturating_sub(after as u64);
             // one step ended the walk
-            let turned = more(more(steps as u64, 1), finished);
+            let turned = (steps as u64).saturating_sub(1).saturating_sub(finished);
             let cost = Totals {
                 steps: steps as u64,
                 blocks: 1,
@@ -124,7 +110,7 @@ fn put_steps(out: &mut [u8], at: usize, t: Totals) -> usize
 fn most_steps(t: Totals) -> u64
     ensures { result ≡ capped (most_steps t) }
 {
-    add(add(t.stored, t.stored), t.blocks)
+    t.stored.saturating_add(t.stored).saturating_add(t.blocks)
 }
 
 // The events stored, where they are now, and the bound.

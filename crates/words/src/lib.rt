@@ -41,9 +41,7 @@ pub fn word_at(bytes: &[u8], at: usize, k: usize) -> u64
     ensures { result ≡ word_at k bytes.now at }
 {
     let mut v: u64 = 0;
-    let mut i = k;
-    while 0 < i {
-        i -= 1;
+    for i in (0..k).rev() {
         v = bytes[at + i] as u64 + 256 * v;
     }
     v
@@ -83,11 +81,9 @@ pub fn put_number(out: &mut [u8], at: usize, n: u64, k: usize) -> usize
     ensures { Put out.old at (bytes_of k n) out.new result }
 {
     let mut left = n;
-    let mut i = 0;
-    while i < k {
+    for i in 0..k {
         out[at + i] = (left % 256) as u8;
         left /= 256;
-        i += 1;
     }
     at + k
 }

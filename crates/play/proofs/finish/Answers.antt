@@ -7,4 +7,4 @@ use Rattle.play.proofs.finish.Goals as goal
 pub answer_next-requires : goal.answer_next-requires
 answer_next-requires c =
     let g = c.requires in
-    (g.desk, subst (LineIn _) (sym c.last_line-next.ensures) (last_in_lem _ _ g.lines), g.lent, zero-le)
+    (g.desk, subst (LineIn _) (sym c.last_line-line.ensures) (last_in_lem _ _ g.lines), g.lent, zero-le)

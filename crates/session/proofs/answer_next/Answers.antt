@@ -1,29 +1,20 @@
 -- `session::answer_next` meets its contract: what is ensured of each kind of line. Assumes nothing.
-use mathlib.Core.Path.{refl}
+use mathlib.Core.Path.{refl, ap, ◌∙◌}
+use Rattle.std.specs.Prelude.{Some}
 use native.Mathlib.Omega.{arith}
 use Rattle.text.proofs.Writing.{put-nothing}
 use Rattle.desk.proofs.Turns.{said}
-use Rattle.lines.proofs.Taking.{line_in}
 use Rattle.session.specs.Session.{next_turn}
 use Rattle.session.proofs.Steps.{by_next}
 use Rattle.session.proofs.answer_next.Goals as goal
 
-pub slice_bounds-answer_line-count : goal.slice_bounds-answer_line-count
-slice_bounds-answer_line-count c = (line_in _ c.in-Line.is c.requires.1).0
-
-pub slice_bounds-answer_line-start : goal.slice_bounds-answer_line-start
-slice_bounds-answer_line-start c = (line_in _ c.in-Line.is c.requires.1).0
-
-pub slice_bounds-answer_line-end : goal.slice_bounds-answer_line-end
-slice_bounds-answer_line-end c = (line_in _ c.in-Line.is c.requires.1).1
-
-pub returns-in-Line : goal.returns-in-Line
+pub returns-in-Some-At : goal.returns-in-Some-At
 unfolding next_turn
-returns-in-Line c = by_next _ c.in-Line.is c.answer_line.ensures
+returns-in-Some-At c = by_next _ (c.in-Some-At.is ∙ ap Some (rw c.in-Some-At.is at c.in-Some-At.field-0-is)) c.answer_line.ensures
 
-pub returns-in-Long : goal.returns-in-Long
+pub returns-in-Some-Long : goal.returns-in-Some-Long
 unfolding next_turn
-returns-in-Long c = by_next _ c.in-Long.is (c.answer_long.ensures c.args.store.now)
+returns-in-Some-Long c = by_next _ (c.in-Some-Long.is ∙ ap Some (rw c.in-Some-Long.is at c.in-Some-Long.field-0-is)) (c.answer_long.ensures c.args.store.now)
 
 pub returns-in-None : goal.returns-in-None
 unfolding next_turn

@@ -7,7 +7,7 @@ use Rattle.session.proofs.finish.Goals as goal
 pub answer_next-r-requires : goal.answer_next-r-requires
 answer_next-r-requires c =
     let g = c.requires in
-    (g.desk, subst (LineIn _) (sym c.last_line-next.ensures) (last_in_lem _ _ g.lines), g.lent, g.lent.out_long)
+    (g.desk, subst (LineIn _) (sym c.last_line-line.ensures) (last_in_lem _ _ g.lines), g.lent, g.lent.out_long)
 
 pub slice_bounds-write_all-end : goal.slice_bounds-write_all-end
 slice_bounds-write_all-end c =

@@ -11,7 +11,7 @@ returns-in-Answered c =
     let a = c.args in
     c.plus.ensures
     ∙ ap (λ (u : Totals). kept (plus a.t u))
-    (answered-parts a.steps a.before a.after c.in-Answered.is c.more-finished.ensures c.more.ensures c.more-turned.ensures)
+    (answered-parts a.steps a.before a.after c.in-Answered.is c.saturating_sub-finished.ensures c.saturating_sub.ensures c.saturating_sub-turned.ensures)
 
 pub returns-in-Refused : goal.returns-in-Refused
 returns-in-Refused c =

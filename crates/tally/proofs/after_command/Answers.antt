@@ -9,4 +9,4 @@ use Rattle.tally.proofs.after_command.Goals as goal
 pub returns : goal.returns
 returns c =
     let a = c.args in
-    c.plus.ensures ∙ ap (λ (u : Totals). kept (plus a.t u)) (command_parts a.before a.after c.more-stored.ensures c.more-cancelled.ensures)
+    c.plus.ensures ∙ ap (λ (u : Totals). kept (plus a.t u)) (command_parts a.before a.after c.saturating_sub-stored.ensures c.saturating_sub-cancelled.ensures)
