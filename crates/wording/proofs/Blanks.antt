@@ -1,6 +1,6 @@
 -- The words of a line by runs of blanks and of other characters. Assumes nothing.
 use mathlib.Core.Path.{◌≡◌, refl, sym, ap, ◌∙◌}
-use mathlib.Core.Bool.{Bool, true, false, cond, ◌||◌, beq, true≢false}
+use mathlib.Core.Bool.{Bool, true, false, cond, beq, true≢false}
 use mathlib.Core.List.{List, [], ◌∷◌}
 use Prim.Native.Nat.{ℕ, zero, suc, ◌+◌, ◌-◌, ◌≤◌, ◌<◌}
 use native.Mathlib.Numerals.{one-add, add-one}
@@ -9,7 +9,7 @@ use lib.ListN.{length, get_or, take, drop, drop_of_length-le}
 use lib.Seq.{drop-cons, drop-drop}
 use Rattle.std.specs.Prelude.{Some}
 use Rattle.std.specs.List.{prefix_len}
-use Rattle.text.specs.Words.{Word, same_word, joined}
+use Rattle.text.specs.Words.{Word, joined}
 use Rattle.wording.specs.Plain.{is_blank, split, is_one, is_small, kept, spoken, words_at}
 use Rattle.wording.specs.Walked.{run_of, first_of, next_at}
 
@@ -132,30 +132,3 @@ some_character (c ∷ cs) e = omega arith
 pub no_word : (s : List ℕ) (at : ℕ) → length s ≤ at → words_at s at ≡ []
 unfolding words_at spoken split
 no_word s at h = rw (drop_of_length-le s h) (kept_none [])
-
--- ---- one of some words
-
-module _ (x : Word) (xs : List Word) (w : Word) where
-  pub is_first : same_word w x ≡ true → true ≡ is_one (x ∷ xs) w
-  unfolding is_one
-  is_first e = rw e
-
-  pub not_first : same_word w x ≡ false → is_one (x ∷ xs) w ≡ is_one xs w
-  unfolding is_one
-  not_first e = rw e
-
-pub only : (x w : Word) → is_one (x ∷ []) w ≡ same_word w x
-unfolding is_one
-only x w = by_test (same_word w x)
-  where
-    by_test : (t : Bool) → t || false ≡ t
-    by_test true = refl
-    by_test false = refl
-
-pub empty_word : (w : Word) → length w ≡ 0 → same_word w [] ≡ true
-empty_word [] e = refl
-empty_word (c ∷ cs) e = absurd (omega arith)
-
-pub not_empty : (w : Word) → (length w ≡ 0 → ⊥) → same_word w [] ≡ false
-not_empty [] n = absurd (n refl)
-not_empty (c ∷ cs) n = refl

@@ -1,11 +1,11 @@
 // A line as a person writes it, put into the session language: the same calls with decimal numbers, and `cost`, which that language has not.
 #![tactic(auto)]
 
-ghost use Rattle.std.specs.Prelude.{◌≡◌, ℕ, ◌+◌, ◌-◌, ◌*◌, ◌≤◌, ◌<◌, length, drop};
+ghost use Rattle.std.specs.Prelude.{◌≡◌, ℕ, ◌+◌, ◌-◌, ◌*◌, ◌≤◌, ◌<◌, length, drop, bytes_eq};
 ghost use Rattle.text.specs.Put.{Put};
 ghost use Rattle.wording.specs.Plain.{is_blank, is_small, words_at, spaced, field_of, fields, numbers, length_for, block_fields, edition_fields, made_fields, tail_of, formed, form_in, form, scheduling, rows, translated, translation};
 ghost use Rattle.std.specs.Bool.{beq};
-ghost use Rattle.std.specs.List.{prefix_len};
+ghost use Rattle.std.specs.List.{list_any, prefix_len};
 ghost use Rattle.wording.specs.Walked.{run_of, first_of, next_at, Behind, Wrote, Ran, Passed, Inside, Room};
 
 use decimal::read::{time_in, value_in};
@@ -73,35 +73,22 @@ fn past(line: &[u8], at: usize, blank: bool) -> usize
     at + run(&line[at..], blank)
 }
 
-// Whether a word means nothing.
+// The words that mean nothing.
+const SMALL: [&[u8]; 9] = [
+    b"", b"at", b"to", b"for", b"from", b"in", b"with", b"by", b"over",
+];
+
+// Whether a word is one of some.
+fn is_among(word: &[u8], words: &[&[u8]]) -> bool
+    ensures { result ≡ list_any (λ w. bytes_eq word.now w.now) words.now }
+{
+    words.iter().any(|w| word == *w)
+}
+
 fn is_small(word: &[u8]) -> bool
     ensures { result ≡ is_small word.now }
 {
-    if word.len() == 0 {
-        return true;
-    }
-    if same(word, b"at") {
-        return true;
-    }
-    if same(word, b"to") {
-        return true;
-    }
-    if same(word, b"for") {
-        return true;
-    }
-    if same(word, b"from") {
-        return true;
-    }
-    if same(word, b"in") {
-        return true;
-    }
-    if same(word, b"with") {
-        return true;
-    }
-    if same(word, b"by") {
-        return true;
-    }
-    same(word, b"over")
+    is_among(word, &SMALL)
 }
 
 // The next word that means something.
