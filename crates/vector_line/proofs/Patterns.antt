@@ -1,27 +1,13 @@
--- Patterns of NaNs, and floats that are the same. Over either format. Assumes nothing.
+-- Floats that are the same, over either format and over both. Assumes nothing.
 use mathlib.Core.Path.{◌≡◌, refl, sym, ap, ◌∙◌, subst}
-use mathlib.Core.Bool.{Bool, true, false, not}
-use Prim.Native.Nat.{ℕ, ◌*◌, ◌%◌, ◌≤◌, ◌<◌}
+use mathlib.Core.Bool.{Bool, true, false, true≢false}
 use lib.Dec.{T, eqb}
-use lib.Arith.{le→nltb}
-use borrow.Author.Tests.{lt-ltb, eq-eqb, ne_eqb}
-use lib.Ieee.{Float, nan, inf, fin, Format, ne, fits, is_nan, hid, ones, top, of_bits, to_bits, nan_bits}
-use lib.Ieee.Bits.{of_bits-to_bits, nan_bits_is, nan_bits_above}
+use borrow.Author.Tests.{eq-eqb, ne_eqb, eqb-true}
+use lib.Ieee.{Float, nan, Format, binary32, binary64, ne, fits, of_bits, to_bits}
+use lib.Ieee.Bits.{of_bits-to_bits}
 use lib.Ieee.Compare.{differs_from_itself, nan_differs}
-use lib.Ieee.Fits.{nan-fits}
+use lib.Ieee.Fits.{nan-fits, fits_widens}
 use Rattle.vector_line.specs.Line.{same}
-
-is_nan_lem : (x : Float) → is_nan x ≡ true → x ≡ nan
-unfolding is_nan
-is_nan_lem nan h = refl
-is_nan_lem (inf s) h = absurd (subst T (sym h) tt)
-is_nan_lem (fin s m e) h = absurd (subst T (sym h) tt)
-
-pub nan_pattern : (f : Format) (b : ℕ) → ones f * hid f < b % top f → of_bits f b ≡ nan
-nan_pattern f b h = is_nan_lem (of_bits f b) (sym (nan_bits_is f b) ∙ nan_bits_above f b ∙ lt-ltb (ones f * hid f) (b % top f) h)
-
-pub no_nan_pattern : (f : Format) (b : ℕ) → b % top f ≤ ones f * hid f → T (not (nan_bits f b))
-no_nan_pattern f b h = subst (λ (i : Bool). T (not i)) (sym (nan_bits_above f b)) (le→nltb (ones f * hid f) (b % top f) h)
 
 -- a test `x != x` decides whether x is the NaN
 pub nan_of : (x : Float) → ne x x ≡ true → x ≡ nan
@@ -44,3 +30,17 @@ same_not f x y t h e = sym (ne_eqb (to_bits f x) (to_bits f y) (λ k. none (sym 
   where
     none : x ≡ nan → ⊥
     none n = subst T (sym (ap (λ (z : Float). ne z z) n ∙ nan_differs) ∙ h) tt
+
+-- of two values of `f32`, that are the same as values of `f64` too
+pub same_wide : (x y v w : Float) → T (fits binary32 x) → T (fits binary32 y) → v ≡ x → w ≡ y → same binary64 v w ≡ same binary32 x y
+unfolding same
+same_wide x y v w p q d e = (λ i. eqb (to_bits binary64 (d i)) (to_bits binary64 (e i))) ∙ go (eqb (to_bits binary32 x) (to_bits binary32 y)) refl
+  where
+    go : (b : Bool) → eqb (to_bits binary32 x) (to_bits binary32 y) ≡ b → eqb (to_bits binary64 x) (to_bits binary64 y) ≡ b
+    go true h = eq-eqb (to_bits binary64 x) (to_bits binary64 y) (ap (to_bits binary64) (sym (of_bits-to_bits binary32 x p) ∙ ap (of_bits binary32) (eqb-true (to_bits binary32 x) (to_bits binary32 y) h) ∙ of_bits-to_bits binary32 y q))
+    go false h =
+        ne_eqb (to_bits binary64 x) (to_bits binary64 y)
+        (λ k. differ (sym (of_bits-to_bits binary64 x (fits_widens x p)) ∙ ap (of_bits binary64) k ∙ of_bits-to_bits binary64 y (fits_widens y q)))
+      where
+        differ : x ≡ y → ⊥
+        differ k = true≢false (sym (eq-eqb (to_bits binary32 x) (to_bits binary32 y) (ap (to_bits binary32) k)) ∙ h)

@@ -7,6 +7,8 @@ ghost use Rattle.std.specs.Float.{binary32, binary64};
 ghost use Rattle.std.specs.Float.Ieee.{of_bits};
 ghost use Rattle.vector_line.specs.Line.{digit_of, number_at, same, narrows_to, fuses32_to, fuses64_to, holds as holds_line};
 
+use std::num::{f32_from_bits_with_nan, f32_to_f64_with_nan, f64_from_bits_with_nan};
+
 // What a hexadecimal digit's character stands for.
 fn digit(c: u8) -> u64
     ensures { result ≡ digit_of c }
@@ -27,42 +29,15 @@ fn number(s: &[u8; 70], at: usize) -> u64
     v
 }
 
-// The `f32` and the `f64` of a pattern: every NaN is the one NaN.
+// The `f32` of a pattern: every NaN is the one NaN.
 fn float32(b: u64) -> f32
     ensures { result ≡ of_bits binary32 (b % 2 ^ 32) }
 {
-    let n = b % 0x1_0000_0000;
-    if n % 0x8000_0000 > 0x7f80_0000 {
-        0.0 / 0.0
-    } else {
-        f32::from_bits(n as u32)
-    }
-}
-
-fn float64(b: u64) -> f64
-    ensures { result ≡ of_bits binary64 b }
-{
-    if b % 0x8000_0000_0000_0000 > 0x7ff0_0000_0000_0000 {
-        0.0 / 0.0
-    } else {
-        f64::from_bits(b)
-    }
+    f32_from_bits_with_nan((b % 0x1_0000_0000) as u32)
 }
 
 // Whether two floats are the same: the two zeros differ, and a NaN is a NaN.
-fn same32(x: f32, y: f32) -> bool
-    ensures { result ≡ same binary32 x y }
-{
-    if x != x {
-        y != y
-    } else if y != y {
-        false
-    } else {
-        f32::to_bits(x) == f32::to_bits(y)
-    }
-}
-
-fn same64(x: f64, y: f64) -> bool
+fn same(x: f64, y: f64) -> bool
     ensures { result ≡ same binary64 x y }
 {
     if x != x {
@@ -78,15 +53,18 @@ fn same64(x: f64, y: f64) -> bool
 fn narrows(a: u64, w: u64) -> bool
     ensures { result ≡ narrows_to a w }
 {
-    same32(rounding::narrow(float64(a)), float32(w))
+    same(
+        f32_to_f64_with_nan(rounding::narrow(f64_from_bits_with_nan(a))),
+        f32_to_f64_with_nan(float32(w)),
+    )
 }
 
 fn fuses32(a: u64, b: u64, c: u64, w: u64) -> bool
     ensures { result ≡ fuses32_to a b c w }
 {
-    same32(
-        rounding::fused32(float32(a), float32(b), float32(c)),
-        float32(w),
+    same(
+        f32_to_f64_with_nan(rounding::fused32(float32(a), float32(b), float32(c))),
+        f32_to_f64_with_nan(float32(w)),
     )
 }
 
@@ -96,7 +74,10 @@ fn fuses64(a: u64, b: u64, c: u64, w: u64) -> bool
     if a > 1024 {
         return false;
     }
-    same64(rounding::fused64(a, float64(b), float64(c)), float64(w))
+    same(
+        rounding::fused64(a, f64_from_bits_with_nan(b), f64_from_bits_with_nan(c)),
+        f64_from_bits_with_nan(w),
+    )
 }
 
 // Whether a line holds.

@@ -1,11 +1,11 @@
--- `vector_line::same64` meets its contract. Assumes nothing.
+-- `vector_line::same` meets its contract. Assumes nothing.
 use mathlib.Core.Path.{refl, sym, subst}
 use lib.Dec.{T}
 use lib.Ieee.{binary64}
 use Rattle.rounding_laws.proofs.Decode.{no_nan_of}
 use Rattle.vector_line.specs.Line.{same}
 use Rattle.vector_line.proofs.Patterns.{nan_of, same_nan, same_not}
-use Rattle.vector_line.proofs.same64.Goals as goal
+use Rattle.vector_line.proofs.same.Goals as goal
 
 pub float_to_bits-result : goal.float_to_bits-result
 float_to_bits-result c = no_nan_of c.args.x c.if-x.false
