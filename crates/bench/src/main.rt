@@ -6,7 +6,7 @@ ghost use Rattle.std.specs.Prelude.{◌≤◌, length};
 ghost use Rattle.param.specs.Param.{SoundParam};
 ghost use Rattle.bench.specs.Blocks.{SoundBlocks};
 
-use beside::{Place, first_difference, same_answer, same_values};
+use beside::{first_difference, same_answer, same_values};
 use param::Processed;
 use sheet::{ByPlain, ByProcess, Played, Row};
 use std::io;
@@ -91,8 +91,8 @@ fn say_difference(
     requires { SoundParam r.param × SoundParam t.param }
 {
     match first_difference(output, samples) {
-        Place::None => say(stdout, b"none")?,
-        Place::At(i) => say_count(stdout, i as u64)?,
+        None => say(stdout, b"none")?,
+        Some(i) => say_count(stdout, i as u64)?,
     }
     if !same_answer(r, t) {
         say(stdout, b" (the answers differ)")?;

@@ -8,7 +8,6 @@ use Prim.Native.Nat.{ℕ}
 use lib.Dec.{T, eqb}
 use lib.Ieee.{Float, binary32, to_bits}
 use borrow.Author.Tests.{eq-eqb, eqb-true}
-use Rattle.rules.specs.declared.Refusal.TheVariants as Refusal
 use Rattle.rules.specs.Refusals.{number_of}
 use Rattle.text.proofs.Reading.{and_true}
 use Rattle.param.specs.declared.AudioParam.{AudioParam}

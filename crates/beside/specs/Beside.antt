@@ -1,24 +1,23 @@
 -- Where two runs of samples differ first, and when two results are the same.
 use Rattle.rules.specs.declared.Refusal.{Refusal}
-use Rattle.std.specs.Prelude.{◌≡◌, Bool, true, cond, List, [], ◌∷◌, ℕ, suc, eqb, Float, Result, Ok, Err}
+use Rattle.std.specs.Prelude.{◌≡◌, Bool, true, cond, List, [], ◌∷◌, ℕ, suc, eqb, Float, Option, Some, None, Result, Ok, Err}
 use Rattle.std.specs.Float.{binary32}
 use Rattle.std.specs.Float.Ieee.{to_bits}
 use Rattle.rules.specs.Refusals.{number_of}
-use Rattle.beside.specs.declared.Place.{Place}
 
 -- "All NaNs count as equal; the two zeros differ in a sample's bits"
 unfoldable pub same_value : Float → Float → Bool
 same_value x y = eqb (to_bits binary32 x) (to_bits binary32 y)
 
 -- the first place at which two lists differ, the first of them standing at n; where one is shorter, the place behind its end
-unfoldable pub differs_from : ℕ → List Float → List Float → Place
-differs_from n [] [] = Place.None
-differs_from n [] (y ∷ ys) = Place.At n
-differs_from n (x ∷ xs) [] = Place.At n
-differs_from n (x ∷ xs) (y ∷ ys) = cond (same_value x y) (differs_from (suc n) xs ys) (Place.At n)
+unfoldable pub differs_from : ℕ → List Float → List Float → Option ℕ
+differs_from n [] [] = None
+differs_from n [] (y ∷ ys) = Some n
+differs_from n (x ∷ xs) [] = Some n
+differs_from n (x ∷ xs) (y ∷ ys) = cond (same_value x y) (differs_from (suc n) xs ys) (Some n)
 
 -- "the first place that differs"
-abbrev pub first_difference : List Float → List Float → Place
+abbrev pub first_difference : List Float → List Float → Option ℕ
 first_difference xs ys = differs_from 0 xs ys
 
 -- 01's number of a refusal; 0 where the call is answered
@@ -39,6 +38,6 @@ pub record SameValue (x y : Float) (r : Bool) : Type 0 where
   pub one : r ≡ true → x ≡ y
 
 -- none is given only for samples that are the same
-pub record FirstPlace (xs ys : List Float) (r : Place) : Type 0 where
+pub record FirstPlace (xs ys : List Float) (r : Option ℕ) : Type 0 where
   pub is : r ≡ first_difference xs ys
-  pub none : r ≡ Place.None → xs ≡ ys
+  pub none : r ≡ None → xs ≡ ys

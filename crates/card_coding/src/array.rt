@@ -22,6 +22,7 @@ const HEAD: usize = 9;
 const VERSION: u64 = 1;
 
 // What is answered where an array, or a state, fails its test.
+// A number, since C has no `Result`.
 pub const BAD_CARD: u32 = 100;
 
 // ---- words

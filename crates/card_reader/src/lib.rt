@@ -173,6 +173,7 @@ impl CardReader {
     {
         let mut reader = self;
         let mut used = 0;
+        // a step is as long as a field, so no `for`
         while reader.goes_on(&bytes[used..]) {
             reader = reader.field_turn(&bytes[used..], numbers);
             used += field_length(&bytes[used..]);
@@ -209,6 +210,7 @@ impl CardReader {
         }
         let mut reader = self;
         let mut from = 0;
+        // a step is as long as the window has room, so no `for`
         while from < part.len() {
             let to = from + (WINDOW - reader.held).min(part.len() - from);
             reader = reader.absorb(&part[from..to], window, numbers);

@@ -16,6 +16,7 @@ use rules::{AutomationRate, Bounds, Refusal};
 
 const VERSION: u32 = 0x00_0800;
 
+// What is answered where a state fails its test: a number, since C has no `Result`.
 const BAD_STATE: u32 = 100;
 
 #[tactic(auto, unfolding(crate::specs::Exported::rate_of))]

@@ -50,6 +50,7 @@ fn read_file(
 {
     let mut reader = CardReader::open(rate, edition, numbers);
     let mut from = 0;
+    // a step is as long as a part, so no `for`
     while from < file.len() {
         let to = from + part.min(file.len() - from);
         // no part is too long, so each is taken
