@@ -67,7 +67,7 @@ fn is_direct(bounds: Bounds) -> bool
     false
 }
 
-// Of two the larger, and b where none is: one instruction.
+// Of two the larger, and b where none is: one instruction. (std's `max` leaves open which of two zeros it gives.)
 fn larger(a: f32, b: f32) -> f32
     ensures { result ≡ cond (lt b a) a b }
 {
