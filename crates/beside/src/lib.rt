@@ -56,6 +56,7 @@ fn same_param(p: AudioParam, q: AudioParam) -> bool
 }
 
 // Document 01's number of a refusal; 0 where the call is answered.
+// Compared by its number: an enum is compared by derives, and Refusal has none.
 #[tactic(auto, unfolding(crate::specs::Beside::number_for))]
 fn number_for(v: Result<(), Refusal>) -> u8
     ensures { result ≡ number_for v }
@@ -67,6 +68,7 @@ fn number_for(v: Result<(), Refusal>) -> u8
 }
 
 // Two answers to a block: verdict, carried parameter, steps, current value, whether one-valued.
+// No derive: of a float its bits are compared, so that a NaN is itself and the zeros differ.
 pub fn same_answer(r: Processed, t: Processed) -> bool
     requires { SoundParam r.param × SoundParam t.param }
     ensures { Tells (r ≡ t) result }

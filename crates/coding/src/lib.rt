@@ -108,6 +108,7 @@ pub fn decode(state: &[u64]) -> Outcome
     AudioParam::from_parts(bounds, rate, edition, intrinsic, timeline, block, end, last)
 }
 
+// A number, as those below: the state that a C caller keeps is an array of numbers.
 pub fn rate_word(rate: AutomationRate) -> u64
     ensures { result ≡ rate_word rate }
 {

@@ -15,6 +15,7 @@ pub struct Lines {
 }
 
 // A line: where it lies in the buffer, or that it is too long for it.
+// No Option: a line that is too long is a line, and is answered.
 #[derive(Clone, Copy)]
 pub enum Line {
     At { from: usize, to: usize },

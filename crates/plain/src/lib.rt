@@ -191,6 +191,7 @@ fn counted(look: Look) -> Look
 // ---- the heads
 
 // What a head does: it stops the walk and waits on, as it was or as what it has become; or it is consumed, and the walk goes on.
+// No Result: neither side is a refusal, and each has a value of its own.
 #[derive(Clone, Copy)]
 pub enum Turn {
     Stop(Look, Event),

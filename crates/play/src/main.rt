@@ -23,6 +23,7 @@ use wording::translate;
 
 // What goes on from line to line: `count` lines were taken, the first `at` characters of the answers wait to be written, and
 // `more` says that the input has not ended.
+// A flag and no Option: desk and lines are wanted also behind the end, for the last line.
 #[derive(Clone, Copy)]
 struct Played {
     desk: Desk,

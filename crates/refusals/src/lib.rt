@@ -11,6 +11,7 @@ use rules::{Bounds, Event, Refusal};
 pub mod block; // block.rt: the verdict on a block
 pub mod sound; // sound.rt: whether parts make a parameter
 
+// The numbers of the table, which answers, cards and C callers have.
 pub fn number_of(r: Refusal) -> u8
     ensures { result ≡ number_of r }
 {

@@ -12,6 +12,7 @@ use std::io;
 use std::io::{Read, Stdin, Stdout};
 
 // What goes on from line to line. The first `at` characters of the answers wait to be written; `more` says that the input has not ended.
+// A flag and no Option: desk and lines are wanted also behind the end, for the last line.
 #[derive(Clone, Copy)]
 struct Session {
     desk: Desk,

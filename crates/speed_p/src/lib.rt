@@ -5,6 +5,7 @@ use plain::process;
 
 // Blocks one behind the other, `advance` apart, each on the parameter that the last one left, or `again` and again on the parameter as it was: the steps of the last.
 // The block is called from one place, so that the compiler can put it into the loop.
+// As speed_tick but for the call: each is exported to C by itself, and is what is measured.
 #[unsafe(no_mangle)]
 pub extern "C" fn speed_plain(
     state: &[u64],

@@ -11,6 +11,7 @@ use std::io::{Read, Stdin, Stdout};
 use wording::translate;
 
 // What goes on from line to line; `more` says that the input has not ended.
+// A flag and no Option: the lines are wanted also behind the end, for the last line.
 #[derive(Clone, Copy)]
 struct Reading {
     lines: Lines,

@@ -9,8 +9,8 @@ ghost use Rattle.costs.specs.Costs as rule;
 ghost use Rattle.costs.specs.Seen.{command_seen, block_seen};
 ghost use Rattle.tally.specs.Tally.{capped, kept, steps_text, events_text, cost_text};
 
-use rules::Refusal;
 use costs::Totals;
+use rules::Refusal;
 use text::write::{put_count, put_word};
 
 // ---- counting
@@ -59,7 +59,13 @@ pub fn after_command(t: Totals, before: usize, after: usize) -> Totals
 }
 
 // Behind a block, by its verdict, the steps that it reports, and how many events wait before and after it.
-pub fn after_block(t: Totals, verdict: Result<(), Refusal>, steps: usize, before: usize, after: usize) -> Totals
+pub fn after_block(
+    t: Totals,
+    verdict: Result<(), Refusal>,
+    steps: usize,
+    before: usize,
+    after: usize,
+) -> Totals
     ensures { result ≡ kept (rule.plus t (block_seen verdict steps before after)) }
 {
     match verdict {

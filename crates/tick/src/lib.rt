@@ -6,8 +6,8 @@ ghost use Rattle.param.specs.Processed.{Processes};
 ghost use Rattle.block.specs.Asked.{asked};
 ghost use Rattle.tick.specs.Ticked.{with_param};
 
-use rules::Refusal;
 use param::{AudioParam, Processed};
+use rules::Refusal;
 
 // What a tick says; the parameter after it lies where the caller lent it.
 #[derive(Clone, Copy)]

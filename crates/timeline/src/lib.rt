@@ -371,6 +371,7 @@ impl AudioParamEventTimeline {
     }
 
     // What a cut at c leaves.
+    // Beside drop_heads: a test is asked of each event, there a part is copied as it stands.
     pub fn retain(self, c: f64, equal: bool) -> Self
         requires { Neat self }
         ensures { result ≡ made (those (stays equal c) (waiting self)) }

@@ -41,6 +41,7 @@ fn narrows(a: u64, w: u64) -> bool
     is_same(rounding::narrow(f64::of_bits(a)), f32::of_bits(w))
 }
 
+// No twin of fuses64, whose first factor is a whole number with a bound.
 fn fuses32(a: u64, b: u64, c: u64, w: u64) -> bool
     ensures { result ≡ fuses32_to a b c w }
 {

@@ -7,6 +7,7 @@ use std::io;
 use std::io::{Read, Stdin, Stdout};
 
 // Reads until the buffer is full or the input ends; how many bytes came.
+// A while: it goes on by what a read brought, not by one.
 fn read_full(mut stdin: Stdin, buf: &mut [u8]) -> io::Result<usize>
     ensures { MatchResult result (λ n. n ≤ length buf.new) (λ _. length buf.new ≡ length buf.old) }
 {

@@ -160,6 +160,7 @@ fn put_fields(
 }
 
 // How many words are left.
+// A while: it goes on by words, whose places differ.
 fn count_words(line: &[u8], at: usize) -> usize
     requires { at ≤ length line.now }
     ensures { result ≡ length (words_at line.now at) }
