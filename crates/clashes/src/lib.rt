@@ -65,7 +65,6 @@ fn event_in(head: Option<Event>) -> Option<Clash>
 }
 
 // The first waiting curve inside which the time lies.
-#[tactic(auto, unfolding(crate::specs::Clashes::covered_by))]
 fn covered_by(q: AudioParamEventTimeline, time: f64) -> Option<Clash>
     requires { Neat q }
     ensures { result ≡ covered_by (waiting q) time }
@@ -74,7 +73,6 @@ fn covered_by(q: AudioParamEventTimeline, time: f64) -> Option<Clash>
 }
 
 // The first waiting event that a curve would hold.
-#[tactic(auto, unfolding(crate::specs::Clashes::holding))]
 fn holding(q: AudioParamEventTimeline, time: f64, duration: f64) -> Option<Clash>
     requires { Neat q }
     ensures { result ≡ rule.holding (waiting q) time duration }
