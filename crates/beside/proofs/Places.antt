@@ -82,3 +82,7 @@ module _ {xs ys : List Float} where
   none_exactly None false p e = let z : ◌≡◌ {A = ℕ} 0 1 = cc in absurd (omega arith)
   none_exactly (Some i) true p e = let z : ◌≡◌ {A = ℕ} 0 1 = cc in absurd (omega arith)
   none_exactly (Some i) false p e = no (λ same. let n : first_difference xs ys ≡ None = none_for_equal same in let f = p.is in let z : ◌≡◌ {A = ℕ} 0 1 = cc in omega arith)
+
+  -- the same of a place that is known
+  pub none_exactly_not : {r : Option ℕ} {i : ℕ} → FirstPlace xs ys r → r ≡ Some i → Tells (xs ≡ ys) false
+  none_exactly_not {r} p e = none_exactly r false p (ap is_some e)
