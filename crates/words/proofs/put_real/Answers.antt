@@ -1,7 +1,6 @@
 -- `words::put_real` meets its contract: the bytes of its bits. Assumes nothing.
 use mathlib.Core.Path.{◌∙◌}
-use native.Mathlib.Omega.{arith}
-use Rattle.words.proofs.Turns.{half, put_bits}
+use Rattle.words.proofs.Turns.{put_bits}
 use Rattle.words.proofs.put_real.Goals as goal
 
 pub returns : goal.returns
