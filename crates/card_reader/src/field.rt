@@ -13,7 +13,7 @@ use param::{AudioParam, Outcome};
 use refusals::block::is_earlier;
 use refusals::sound::is_from_zero;
 use rules::Bounds;
-use words::{double_at, single_at, word_at};
+use words::{real_at, word_at};
 
 pub const RANGE: u8 = 6;
 
@@ -90,9 +90,9 @@ pub fn bounds_in(bytes: &[u8]) -> Bounds
     ensures { result ≡ bounds_in bytes.now }
 {
     Bounds {
-        min: single_at(bytes, 3),
-        default: single_at(bytes, 7),
-        max: single_at(bytes, 11),
+        min: real_at(bytes, 3),
+        default: real_at(bytes, 7),
+        max: real_at(bytes, 11),
     }
 }
 
@@ -102,9 +102,9 @@ pub fn time_in(bytes: &[u8]) -> f64
     ensures { result ≡ time_of (event_in bytes.now) }
 {
     if bytes[0] <= 4 {
-        double_at(bytes, 7)
+        real_at(bytes, 7)
     } else {
-        double_at(bytes, 3)
+        real_at(bytes, 3)
     }
 }
 
@@ -120,7 +120,7 @@ fn has_no_constant(bytes: &[u8]) -> bool
     requires { FieldFits bytes.now × (is_range bytes.now ≡ false) }
     ensures { result ≡ has_no_constant (event_in bytes.now) }
 {
-    bytes[0] == 4 && is_zero(double_at(bytes, 15))
+    bytes[0] == 4 && is_zero(real_at::<f64>(bytes, 15))
 }
 
 // An event earlier than the one before it, a time of -0, or a time constant of 0.
@@ -139,7 +139,7 @@ fn read_singles(bytes: &[u8], at: usize, values: &mut [f32])
     ensures { values.new ≡ singles_at bytes.now at (length values.old) }
 {
     for i in 0..values.len() {
-        values[i] = single_at(bytes, at + 4 * i);
+        values[i] = real_at(bytes, at + 4 * i);
     }
 }
 
@@ -149,7 +149,7 @@ fn worst_of(bytes: &[u8], at: usize, n: usize) -> f32
     ensures { is_finite result ≡ all_finite (singles_at bytes.now at n) }
 {
     for i in 0..n {
-        let x = single_at(bytes, at + 4 * i);
+        let x = real_at(bytes, at + 4 * i);
         if !is_finite(x) {
             return x;
         }
@@ -170,8 +170,8 @@ fn schedule_curve(p: AudioParam, bytes: &[u8], store: &mut [f32]) -> Outcome
     requires { SoundParam p × FieldFits bytes.now × (tag_of bytes.now ≡ 5) }
     ensures { Answers p store.old (event_in bytes.now) result store.new }
 {
-    let start = double_at(bytes, 3);
-    let duration = double_at(bytes, 11);
+    let start = real_at(bytes, 3);
+    let duration = real_at(bytes, 11);
     let n = (length_in(bytes) - 16) / 4;
     if AudioParam::STORE < n {
         let worst = worst_of(bytes, 19, n);
@@ -191,12 +191,12 @@ pub fn schedule(p: AudioParam, bytes: &[u8], store: &mut [f32]) -> Outcome
     if tag == 5 {
         return schedule_curve(p, bytes, store);
     }
-    let value = single_at(bytes, 3);
-    let time = double_at(bytes, 7);
+    let value = real_at(bytes, 3);
+    let time = real_at(bytes, 7);
     match tag {
         1 => p.set_value_at_time(value, time),
         2 => p.linear_ramp_to_value_at_time(value, time),
         3 => p.exponential_ramp_to_value_at_time(value, time),
-        _ => p.set_target_at_time(value, time, double_at(bytes, 15)),
+        _ => p.set_target_at_time(value, time, real_at(bytes, 15)),
     }
 }

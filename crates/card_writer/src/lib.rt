@@ -16,7 +16,7 @@ use refusals::sound::has_played;
 use rules::{Bounds, Event, Refusal};
 use text::write::put_byte;
 use timeline::length_of;
-use words::{put_double, put_number, put_single};
+use words::{put_number, put_real};
 
 // How many bytes the range's field has.
 const RANGE: usize = 15;
@@ -120,9 +120,9 @@ fn put_range(out: &mut [u8], at: usize, b: Bounds) -> usize
     ensures { Put out.old at (range_field b) out.new result }
 {
     let next = put_head(out, at, 6, 12);
-    let next = put_single(out, next, b.min);
-    let next = put_single(out, next, b.default);
-    put_single(out, next, b.max)
+    let next = put_real(out, next, b.min);
+    let next = put_real(out, next, b.default);
+    put_real(out, next, b.max)
 }
 
 // A step's field or a ramp's.
@@ -131,8 +131,8 @@ fn put_value(out: &mut [u8], at: usize, tag: u8, value: f32, time: f64) -> usize
     ensures { Put out.old at (field_of tag (single_bytes value ++ double_bytes time)) out.new result }
 {
     let next = put_head(out, at, tag, 12);
-    let next = put_single(out, next, value);
-    put_double(out, next, time)
+    let next = put_real(out, next, value);
+    put_real(out, next, time)
 }
 
 fn put_target(out: &mut [u8], at: usize, value: f32, time: f64, constant: f64) -> usize
@@ -140,9 +140,9 @@ fn put_target(out: &mut [u8], at: usize, value: f32, time: f64, constant: f64) -
     ensures { Put out.old at (field_of 4 (single_bytes value ++ (double_bytes time ++ double_bytes constant))) out.new result }
 {
     let next = put_head(out, at, 4, 20);
-    let next = put_single(out, next, value);
-    let next = put_double(out, next, time);
-    put_double(out, next, constant)
+    let next = put_real(out, next, value);
+    let next = put_real(out, next, time);
+    put_real(out, next, constant)
 }
 
 fn put_numbers(out: &mut [u8], at: usize, numbers: &[f32]) -> usize
@@ -151,7 +151,7 @@ fn put_numbers(out: &mut [u8], at: usize, numbers: &[f32]) -> usize
 {
     let mut next = at;
     for i in 0..numbers.len() {
-        next = put_single(out, next, numbers[i]);
+        next = put_real(out, next, numbers[i]);
     }
     next
 }
@@ -161,8 +161,8 @@ fn put_curve(out: &mut [u8], at: usize, start: f64, duration: f64, numbers: &[f3
     ensures { Put out.old at (field_of 5 (double_bytes start ++ (double_bytes duration ++ numbers_bytes numbers.now))) out.new result }
 {
     let next = put_head(out, at, 5, 16 + 4 * numbers.len());
-    let next = put_double(out, next, start);
-    let next = put_double(out, next, duration);
+    let next = put_real(out, next, start);
+    let next = put_real(out, next, duration);
     put_numbers(out, next, numbers)
 }
 

@@ -8,10 +8,14 @@ use native.Mathlib.Numerals.{add-one}
 use native.Mathlib.Omega.{arith}
 use lib.ListN.{length, get_or, set, take, get_or-append, length-append}
 use lib.Seq.{sets-eq, get_or-append-add, get_or-take}
-use lib.Ieee.{Float}
+use lib.Ieee.{Float, Format, binary32, binary64, to_bits}
 use Rattle.rules.specs.declared.Event.{Event}
-use Rattle.words.specs.Words.{SingleBits, DoubleBits}
+use Rattle.text.specs.Floats.{of_word}
 use Rattle.coding.specs.Coding.{event_words, place_of, time_in, event_of, event_at, events_in, flag_of, bits_of, words_of, words_for, written_at, TimeBits, PutsWords, PutsEvent}
+
+-- what `bits` ensures of a float: its bits give it back
+abbrev pub Bits : Format → Float → ℕ → Type 0
+Bits f x n = record { is : n ≡ to_bits f x; back : of_word f (to_bits f x) ≡ x }
 
 -- ---- one event
 
@@ -24,30 +28,30 @@ six (Event.Target v t c h) = refl
 six (Event.Curve s d n h) = refl
 
 module _ {s after : List ℕ} {at : ℕ} where
-  pub puts_words : {kind word other : ℕ} (time : Float) (hold : Option Float) {a f b : ℕ} → after ≡ written_at s at (kind ∷ word ∷ a ∷ other ∷ f ∷ b ∷ []) → DoubleBits time a
+  pub puts_words : {kind word other : ℕ} (time : Float) (hold : Option Float) {a f b : ℕ} → after ≡ written_at s at (kind ∷ word ∷ a ∷ other ∷ f ∷ b ∷ []) → Bits binary64 time a
       → f ≡ flag_of hold → TimeBits hold b → PutsWords s at kind word time other hold after
   puts_words time hold w a f b = record { is = w ∙ rw (a.is, f, b.is); time_back = a.back; hold_back = b.back }
 
   puts : (e : Event) {ws : List ℕ} → after ≡ written_at s at ws → ws ≡ words_of e → event_at (words_of e) 0 ≡ e → PutsEvent s at e after
   puts e a w b = record { is = a ∙ ap (written_at s at) w; back = b }
 
-  pub puts_step : {v t : Float} {a : ℕ} → PutsWords s at 0 a t 0 None after → SingleBits v a → PutsEvent s at (Event.Step v t) after
+  pub puts_step : {v t : Float} {a : ℕ} → PutsWords s at 0 a t 0 None after → Bits binary32 v a → PutsEvent s at (Event.Step v t) after
   unfolding words_of event_of
   puts_step {v} {t} p a = puts (Event.Step v t) p.is (rw a.is) (rw (a.back, p.time_back))
 
-  pub puts_linear : {v t : Float} {h : Option Float} {a : ℕ} → PutsWords s at 1 a t 0 h after → SingleBits v a → PutsEvent s at (Event.Linear v t h) after
+  pub puts_linear : {v t : Float} {h : Option Float} {a : ℕ} → PutsWords s at 1 a t 0 h after → Bits binary32 v a → PutsEvent s at (Event.Linear v t h) after
   unfolding words_of event_of
   puts_linear {v} {t} {h} p a = puts (Event.Linear v t h) p.is (rw a.is) (rw (a.back, p.time_back, p.hold_back))
 
-  pub puts_exponential : {v t : Float} {h : Option Float} {a : ℕ} → PutsWords s at 2 a t 0 h after → SingleBits v a → PutsEvent s at (Event.Exponential v t h) after
+  pub puts_exponential : {v t : Float} {h : Option Float} {a : ℕ} → PutsWords s at 2 a t 0 h after → Bits binary32 v a → PutsEvent s at (Event.Exponential v t h) after
   unfolding words_of event_of
   puts_exponential {v} {t} {h} p a = puts (Event.Exponential v t h) p.is (rw a.is) (rw (a.back, p.time_back, p.hold_back))
 
-  pub puts_target : {v t c : Float} {h : Option Float} {a o : ℕ} → PutsWords s at 3 a t o h after → SingleBits v a → DoubleBits c o → PutsEvent s at (Event.Target v t c h) after
+  pub puts_target : {v t c : Float} {h : Option Float} {a o : ℕ} → PutsWords s at 3 a t o h after → Bits binary32 v a → Bits binary64 c o → PutsEvent s at (Event.Target v t c h) after
   unfolding words_of event_of
   puts_target {v} {t} {c} {h} p a o = puts (Event.Target v t c h) p.is (rw (a.is, o.is)) (rw (a.back, p.time_back, o.back, p.hold_back))
 
-  pub puts_curve : {x d : Float} {n : ℕ} {h : Option Float} {o : ℕ} → PutsWords s at 4 n x o h after → DoubleBits d o → PutsEvent s at (Event.Curve x d n h) after
+  pub puts_curve : {x d : Float} {n : ℕ} {h : Option Float} {o : ℕ} → PutsWords s at 4 n x o h after → Bits binary64 d o → PutsEvent s at (Event.Curve x d n h) after
   unfolding words_of event_of
   puts_curve {x} {d} {n} {h} p o = puts (Event.Curve x d n h) p.is (rw o.is) (rw (p.time_back, o.back, p.hold_back))
 
@@ -68,7 +72,7 @@ pub missing_bits : TimeBits None 0
 unfolding flag_of bits_of time_in
 missing_bits = record { is = refl; back = refl }
 
-pub time_bits : {t : Float} {n : ℕ} → DoubleBits t n → TimeBits (Some t) n
+pub time_bits : {t : Float} {n : ℕ} → Bits binary64 t n → TimeBits (Some t) n
 unfolding flag_of bits_of time_in
 time_bits b = record { is = b.is; back = ap Some b.back }
 

@@ -7,7 +7,7 @@ use Prim.Native.Nat.{ℕ, ◌+◌, ◌*◌, ◌≤◌}
 use native.Mathlib.Omega.{arith}
 use lib.ListN.{length, get_or, set, take, drop, take-append-drop, length-append, length-drop}
 use lib.Seq.{sets, sets-eq, length-sets, take_at, take_all, drop-drop, drop-append-add, length-take-le}
-use lib.Ieee.{Float}
+use lib.Ieee.{Float, binary32}
 use Rattle.rules.specs.declared.Bounds.{Bounds}
 use Rattle.rules.specs.declared.AutomationRate.{AutomationRate}
 use Rattle.rules.specs.declared.AutomationRate.TheVariants as Rate
@@ -20,9 +20,8 @@ use Rattle.timeline.specs.declared.AudioParamEvent.{AudioParamEvent}
 use Rattle.timeline.specs.declared.AudioParamEventTimeline.{AudioParamEventTimeline}
 use Rattle.timeline.specs.Timeline.{made}
 use Rattle.timeline.proofs.Laws.{Filled, filled-made, waits_of}
-use Rattle.words.specs.Words.{SingleBits}
 use Rattle.coding.specs.Coding.{head_words, state_length, state_version, place_of, rate_in, rate_word, event_at, events_in, param_in, words_of, words_for, head_of, state_of, flag_of, last_flag, last_time, last_value, TimeBits, PutsEvent, PutsLast, PutsHead, Queues}
-use Rattle.coding.proofs.Words.{six, event_behind, events_front, events_more, words_more, words_length}
+use Rattle.coding.proofs.Words.{Bits, six, event_behind, events_front, events_more, words_more, words_length}
 
 -- ---- the queue of a state
 
@@ -97,7 +96,7 @@ head_length {p} {s} h long = ap length h.is ∙ simp (length-append, length-drop
 module _ (p : Param) (s : List ℕ) {b : Bounds} {r : AutomationRate} {e : Edition} {x : Float} {t u : Option Float} {l : Option Finished} {min default max rate edition value flag time mark end n : ℕ}
     {after : List ℕ} (last : PutsLast (sets s 0 (state_version ∷ min ∷ default ∷ max ∷ rate ∷ edition ∷ value ∷ flag ∷ time ∷ mark ∷ end ∷ [])) l after) where
   pub puts_head : length s ≡ state_length → b ≡ p.bounds → r ≡ p.rate → e ≡ p.edition → x ≡ p.intrinsic → t ≡ p.last_block → u ≡ p.last_end → l ≡ p.last → n ≡ length p.queue
-      → SingleBits b.min min → SingleBits b.default default → SingleBits b.max max → rate ≡ rate_word r → edition ≡ number_of_edition e → SingleBits x value → flag ≡ flag_of t → TimeBits t time
+      → Bits binary32 b.min min → Bits binary32 b.default default → Bits binary32 b.max max → rate ≡ rate_word r → edition ≡ number_of_edition e → Bits binary32 x value → flag ≡ flag_of t → TimeBits t time
       → mark ≡ flag_of u → TimeBits u end → PutsHead s p (set after 14 n)
   puts_head long eb er ee ex et eu el en a d m ew ed v ef h eg k =
       record {

@@ -3,7 +3,7 @@ ghost use Rattle.std.specs.Prelude.{◌≡◌, ◌+◌, ◌≤◌, length};
 ghost use Rattle.coding.specs.Coding.{time_in, event_of, event_at, flag_of, TimeBits, PutsWords, PutsEvent};
 
 use rules::Event;
-use words::{double_bits, double_in, single_bits, single_in};
+use text::real::Real;
 
 pub fn time_in(flag: u64, time: u64) -> Option<f64>
     ensures { result ≡ time_in flag time }
@@ -11,7 +11,7 @@ pub fn time_in(flag: u64, time: u64) -> Option<f64>
     if flag == 0 {
         None
     } else {
-        Some(double_in(time))
+        Some(f64::of_bits(time))
     }
 }
 
@@ -27,7 +27,7 @@ pub fn time_bits(t: Option<f64>) -> u64
 {
     match t {
         None => 0,
-        Some(x) => double_bits(x),
+        Some(x) => x.bits(),
     }
 }
 
@@ -36,9 +36,9 @@ pub fn time_bits(t: Option<f64>) -> u64
 fn event_of(kind: u64, word: u64, time: u64, other: u64, hold: Option<f64>) -> Event
     ensures { result ≡ event_of kind word time other hold }
 {
-    let value = single_in(word);
-    let time = double_in(time);
-    let other = double_in(other);
+    let value = f32::of_bits(word);
+    let time = f64::of_bits(time);
+    let other = f64::of_bits(other);
     match kind {
         0 => Event::Step { value, time },
         1 => Event::Linear { value, time, hold },
@@ -80,7 +80,7 @@ fn put_words(
     requires { at + 6 ≤ length state.old }
     ensures { PutsWords state.old at kind word time other hold state.new }
 {
-    let time = double_bits(time);
+    let time = time.bits();
     let flag = flag_of(hold);
     let hold = time_bits(hold);
     state[at] = kind;
@@ -97,14 +97,12 @@ pub fn put_event(state: &mut [u64], at: usize, e: Event)
     ensures { PutsEvent state.old at e state.new }
 {
     match e {
-        Event::Step { value, time } => {
-            put_words(state, at, 0, single_bits(value), time, 0, None)
-        }
+        Event::Step { value, time } => { put_words(state, at, 0, value.bits(), time, 0, None) }
         Event::Linear { value, time, hold } => {
-            put_words(state, at, 1, single_bits(value), time, 0, hold)
+            put_words(state, at, 1, value.bits(), time, 0, hold)
         }
         Event::Exponential { value, time, hold } => {
-            put_words(state, at, 2, single_bits(value), time, 0, hold)
+            put_words(state, at, 2, value.bits(), time, 0, hold)
         }
         Event::Target {
             value,
@@ -112,8 +110,8 @@ pub fn put_event(state: &mut [u64], at: usize, e: Event)
             constant,
             hold,
         } => {
-            let other = double_bits(constant);
-            put_words(state, at, 3, single_bits(value), time, other, hold)
+            let other = constant.bits();
+            put_words(state, at, 3, value.bits(), time, other, hold)
         }
         Event::Curve {
             start,
@@ -121,7 +119,7 @@ pub fn put_event(state: &mut [u64], at: usize, e: Event)
             len,
             hold,
         } => {
-            let other = double_bits(duration);
+            let other = duration.bits();
             put_words(state, at, 4, len as u64, start, other, hold)
         }
     }

@@ -10,8 +10,8 @@ use event::{event_at, flag_of, put_event, time_bits, time_in};
 use param::{AudioParam, Outcome, edition_of};
 use refusals::is_edition;
 use rules::{AutomationRate, Bounds, Edition, Finished};
+use text::real::Real;
 use timeline::{AudioParamEvent, AudioParamEventTimeline};
-use words::{double_bits, double_in, single_bits, single_in};
 
 pub mod event; // event.rt: one waiting event
 
@@ -42,8 +42,8 @@ fn last_in(flag: u64, time: u64, value: u64) -> Option<Finished>
         None
     } else {
         Some(Finished {
-            time: double_in(time),
-            value: single_in(value),
+            time: f64::of_bits(time),
+            value: f32::of_bits(value),
         })
     }
 }
@@ -94,13 +94,13 @@ pub fn decode(state: &[u64]) -> Outcome
         return none();
     }
     let bounds = Bounds {
-        min: single_in(state[1]),
-        default: single_in(state[2]),
-        max: single_in(state[3]),
+        min: f32::of_bits(state[1]),
+        default: f32::of_bits(state[2]),
+        max: f32::of_bits(state[3]),
     };
     let rate = rate_in(state[4]);
     let edition = edition_of(state[5]);
-    let intrinsic = single_in(state[6]);
+    let intrinsic = f32::of_bits(state[6]);
     let block = time_in(state[7], state[8]);
     let end = time_in(state[9], state[10]);
     let last = last_in(state[11], state[12], state[13]);
@@ -139,8 +139,8 @@ fn put_last(state: &mut [u64], last: Option<Finished>)
         }
         Some(l) => {
             state[11] = 1;
-            state[12] = double_bits(l.time);
-            state[13] = single_bits(l.value);
+            state[12] = l.time.bits();
+            state[13] = l.value.bits();
         }
     }
 }
@@ -154,12 +154,12 @@ fn put_head(state: &mut [u64], p: AudioParam)
     let block = p.last_block_time();
     let end = p.last_block_end();
     state[0] = VERSION;
-    state[1] = single_bits(bounds.min);
-    state[2] = single_bits(bounds.default);
-    state[3] = single_bits(bounds.max);
+    state[1] = bounds.min.bits();
+    state[2] = bounds.default.bits();
+    state[3] = bounds.max.bits();
     state[4] = rate_word(p.automation_rate());
     state[5] = edition_word(p.edition());
-    state[6] = single_bits(p.intrinsic_value());
+    state[6] = p.intrinsic_value().bits();
     state[7] = flag_of(block);
     state[8] = time_bits(block);
     state[9] = flag_of(end);

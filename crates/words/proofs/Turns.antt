@@ -1,5 +1,5 @@
 -- What the code makes of single bytes: the next one read, four in one sum, two words in one, the next one written. Assumes nothing.
-use mathlib.Core.Path.{◌≡◌, refl}
+use mathlib.Core.Path.{◌≡◌, refl, sym, ap, ◌∙◌}
 use mathlib.Core.List.{List, [], ◌∷◌, ◌++◌}
 use Prim.Native.Nat.{ℕ, suc, ◌+◌, ◌-◌, ◌*◌, ◌/◌, ◌%◌, ◌^◌, ◌≤◌, ◌<◌}
 use native.Mathlib.Nat.{mul_right_comm, pow-zero, pow-suc}
@@ -7,9 +7,11 @@ use native.Mathlib.Numerals.{add-one}
 use native.Mathlib.Omega.{arith}
 use lib.ListN.{length, get_or, set, take, drop, length-drop}
 use lib.Seq.{drop-cons, drop-drop, length-take-le, take-add}
-use Rattle.text.specs.Put.{put}
-use Rattle.text.proofs.Writing.{put_none, put_first}
-use Rattle.words.specs.Words.{bytes_of, word_in, AreBytes, word_at}
+use lib.Ieee.{Float, Format, binary32, binary64, to_bits}
+use Rattle.text.specs.Floats.{digits_for, of_word}
+use Rattle.text.specs.Put.{put, Put}
+use Rattle.text.proofs.Writing.{put_none, put_first, put_same}
+use Rattle.words.specs.Words.{bytes_of, word_in, AreBytes, word_at, width_of, single_in, double_in, single_at, double_at, real_at, single_bytes, double_bytes, real_bytes}
 use Rattle.words.proofs.Bytes.{word_at_small}
 
 -- ---- read
@@ -71,3 +73,26 @@ put-turn out at k i left h room =
 pub put-over : (out : List ℕ) (at k i left : ℕ) → k ≤ i → put out (at + i) (bytes_of (k - i) left) ≡ out
 unfolding bytes_of
 put-over out at k i left h = let none : k - i ≡ 0 = omega arith in rw none (put_none out (at + i))
+
+-- ---- floats of either format
+
+module _ {k : ℕ} where
+  pub half : (f : Format) → k ≡ digits_for f → k / 2 ≡ width_of f
+  half binary32 e = omega (arith, e)
+  half binary64 e = omega (arith, e)
+
+  -- the four bytes of the one are a float of it, the eight of the other
+  pub single_word : (f : Format) (bs : List ℕ) (at : ℕ) {n : ℕ} → k ≡ digits_for f → ¬ (k ≡ 16) → n ≡ word_at 4 bs at → of_word f n ≡ real_at f bs at
+  unfolding single_at
+  single_word binary32 bs at e other w = ap single_in w
+  single_word binary64 bs at e other w = absurd (other e)
+
+  pub double_word : (f : Format) (bs : List ℕ) (at : ℕ) {low high : ℕ} → k ≡ digits_for f → k ≡ 16 → at + width_of f ≤ length bs → low ≡ word_at 4 bs at → high ≡ word_at 4 bs (at + 4) → of_word f (low + 0x1_0000_0000 * high) ≡ real_at f bs at
+  unfolding double_at
+  double_word binary32 bs at e long room l h = absurd (omega (arith, e, long))
+  double_word binary64 bs at e long room l h = ap double_in (rw (l, h) (sym (word_parts 4 4 bs at (omega arith))))
+
+  pub put_bits : (f : Format) {l l' : List ℕ} {at next : ℕ} (n : ℕ) (x : Float) → k ≡ digits_for f → n ≡ to_bits f x → Put l at (bytes_of (k / 2) n) l' next → Put l at (real_bytes f x) l' next
+  unfolding single_bytes double_bytes
+  put_bits binary32 n x e b = put_same (ap (λ (j : ℕ). bytes_of j n) (half binary32 e) ∙ ap (bytes_of 4) b)
+  put_bits binary64 n x e b = put_same (ap (λ (j : ℕ). bytes_of j n) (half binary64 e) ∙ ap (bytes_of 8) b)

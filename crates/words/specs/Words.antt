@@ -1,6 +1,6 @@
 -- Numbers as bytes, "low byte first", and floats as their bits (02, C-11).
-use Rattle.std.specs.Prelude.{◌≡◌, List, [], ◌∷◌, ◌++◌, ℕ, zero, suc, ◌+◌, ◌*◌, ◌/◌, ◌%◌, ◌^◌, ◌<◌, T, take, drop, Float}
-use Rattle.std.specs.Float.{binary32, binary64}
+use Rattle.std.specs.Prelude.{List, [], ◌∷◌, ◌++◌, ℕ, zero, suc, ◌+◌, ◌*◌, ◌/◌, ◌%◌, ◌^◌, ◌<◌, T, take, drop, Float}
+use Rattle.std.specs.Float.{Format, binary32, binary64}
 use Rattle.std.specs.Float.Ieee.{fits, of_bits, to_bits}
 
 -- ---- whole numbers
@@ -60,13 +60,17 @@ unfoldable pub AreSingles : List Float → Type 0
 AreSingles [] = Unit
 AreSingles (x ∷ xs) = T (fits binary32 x) × AreSingles xs
 
--- ---- what the functions ensure
+-- ---- either format
 
--- a float's bits give it back
-pub record SingleBits (x : Float) (n : ℕ) : Type 0 where
-  pub is : n ≡ to_bits binary32 x
-  pub back : single_in (to_bits binary32 x) ≡ x
+-- how many bytes it takes
+abbrev pub width_of : Format → ℕ
+width_of binary32 = 4
+width_of binary64 = 8
 
-pub record DoubleBits (x : Float) (n : ℕ) : Type 0 where
-  pub is : n ≡ to_bits binary64 x
-  pub back : double_in (to_bits binary64 x) ≡ x
+abbrev pub real_at : Format → List ℕ → ℕ → Float
+real_at binary32 bs at = single_at bs at
+real_at binary64 bs at = double_at bs at
+
+abbrev pub real_bytes : Format → Float → List ℕ
+real_bytes binary32 x = single_bytes x
+real_bytes binary64 x = double_bytes x

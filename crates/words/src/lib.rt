@@ -1,37 +1,11 @@
-// Numbers and floats as bytes, low byte first, and floats as their bits, with one pattern for every NaN.
+// Numbers and floats as bytes, low byte first; a float is its bits, with one pattern for every NaN.
 #![tactic(auto)]
 
 ghost use Rattle.std.specs.Prelude.{◌≡◌, ◌+◌, ◌≤◌, length};
 ghost use Rattle.text.specs.Put.{Put};
-ghost use Rattle.words.specs.Words.{single_in, double_in, SingleBits, DoubleBits, bytes_of, word_at, single_at, double_at, single_bytes, double_bytes};
+ghost use Rattle.words.specs.Words.{bytes_of, word_at, width_of, real_at, real_bytes};
 
 use text::real::Real;
-
-// ---- floats as numbers
-
-pub fn single_bits(x: f32) -> u64
-    ensures { SingleBits x result }
-{
-    x.bits()
-}
-
-pub fn double_bits(x: f64) -> u64
-    ensures { DoubleBits x result }
-{
-    x.bits()
-}
-
-pub fn single_in(word: u64) -> f32
-    ensures { result ≡ single_in word }
-{
-    f32::of_bits(word)
-}
-
-pub fn double_in(word: u64) -> f64
-    ensures { result ≡ double_in word }
-{
-    f64::of_bits(word)
-}
 
 // ---- read from bytes
 
@@ -59,18 +33,16 @@ fn four_at(bytes: &[u8], at: usize) -> u64
     a + 0x100 * b + 0x1_0000 * c + 0x100_0000 * d
 }
 
-pub fn single_at(bytes: &[u8], at: usize) -> f32
-    requires { at + 4 ≤ length bytes.now }
-    ensures { result ≡ single_at bytes.now at }
+pub fn real_at<T: Real>(bytes: &[u8], at: usize) -> T
+    requires { at + width_of T.format ≤ length bytes.now }
+    ensures { T.value result ≡ real_at T.format bytes.now at }
 {
-    single_in(four_at(bytes, at))
-}
-
-pub fn double_at(bytes: &[u8], at: usize) -> f64
-    requires { at + 8 ≤ length bytes.now }
-    ensures { result ≡ double_at bytes.now at }
-{
-    double_in(four_at(bytes, at) + 0x1_0000_0000 * four_at(bytes, at + 4))
+    let low = four_at(bytes, at);
+    if T::DIGITS == 16 {
+        T::of_bits(low + 0x1_0000_0000 * four_at(bytes, at + 4))
+    } else {
+        T::of_bits(low)
+    }
 }
 
 // ---- written; each gives the place behind
@@ -88,16 +60,9 @@ pub fn put_number(out: &mut [u8], at: usize, n: u64, k: usize) -> usize
     at + k
 }
 
-pub fn put_single(out: &mut [u8], at: usize, x: f32) -> usize
-    requires { at + 4 ≤ length out.old }
-    ensures { Put out.old at (single_bytes x) out.new result }
+pub fn put_real<T: Real>(out: &mut [u8], at: usize, x: T) -> usize
+    requires { at + width_of T.format ≤ length out.old }
+    ensures { Put out.old at (real_bytes T.format (T.value x)) out.new result }
 {
-    put_number(out, at, single_bits(x), 4)
-}
-
-pub fn put_double(out: &mut [u8], at: usize, x: f64) -> usize
-    requires { at + 8 ≤ length out.old }
-    ensures { Put out.old at (double_bytes x) out.new result }
-{
-    put_number(out, at, double_bits(x), 8)
+    put_number(out, at, x.bits(), T::DIGITS / 2)
 }

@@ -8,13 +8,13 @@ use Rattle.words.specs.Words.{bytes_of, double_bytes}
 use Rattle.card.proofs.Written.{curve_long}
 use Rattle.card_writer.proofs.put_curve.Goals as goal
 
-pub put_double-next-requires : goal.put_double-next-requires
+pub put_real-next-requires : goal.put_real-next-requires
 unfolding double_bytes bytes_of
-put_double-next-requires c = omega arith
+put_real-next-requires c = omega arith
 
-pub put_double-next-requires-2 : goal.put_double-next-requires-2
+pub put_real-next-requires-2 : goal.put_real-next-requires-2
 unfolding double_bytes bytes_of
-put_double-next-requires-2 c = omega arith
+put_real-next-requires-2 c = omega arith
 
 pub put_numbers-requires : goal.put_numbers-requires
 unfolding double_bytes bytes_of
@@ -25,4 +25,4 @@ unfolding double_bytes bytes_of
 returns c =
     let a = c.args in
     let head = put_same (ap (λ (n : ℕ). 5 ∷ bytes_of 2 n) (sym (curve_long a.start a.duration a.numbers.now))) c.put_head-next.ensures in
-    put_then (head) (put_then c.put_double-next.ensures (put_then c.put_double-next-2.ensures c.put_numbers.ensures (omega arith)) (omega arith)) (omega arith)
+    put_then (head) (put_then c.put_real-next.ensures (put_then c.put_real-next-2.ensures c.put_numbers.ensures (omega arith)) (omega arith)) (omega arith)

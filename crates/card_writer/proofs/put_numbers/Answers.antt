@@ -8,14 +8,14 @@ use Rattle.card_writer.proofs.put_numbers.Goals as goal
 pub loop-i-init : goal.loop-i-init
 loop-i-init c = (omega arith, refl, omega arith, λ after r q. q)
 
-pub put_single-next-requires : goal.put_single-next-requires
-put_single-next-requires c = omega arith
+pub put_real-next-requires : goal.put_real-next-requires
+put_real-next-requires c = omega arith
 
 pub loop-i-preserved : goal.loop-i-preserved
 unfolding single_bytes bytes_of
 loop-i-preserved c =
     let l = c.loop-i in
-    let put = c.put_single-next.ensures in
+    let put = c.put_real-next.ensures in
     (omega arith, omega arith, omega arith, leaves_fewer l.invariant.3 (numbers-next _ l.i _ c.loop-i-test.true) put (omega arith))
 
 pub returns : goal.returns

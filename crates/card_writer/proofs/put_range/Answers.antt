@@ -5,19 +5,19 @@ use Rattle.words.specs.Words.{bytes_of, single_bytes}
 use Rattle.card.specs.Card.{range_field}
 use Rattle.card_writer.proofs.put_range.Goals as goal
 
-pub put_single-next-requires : goal.put_single-next-requires
+pub put_real-next-requires : goal.put_real-next-requires
 unfolding bytes_of single_bytes
-put_single-next-requires c = omega arith
+put_real-next-requires c = omega arith
 
-pub put_single-next-requires-2 : goal.put_single-next-requires-2
+pub put_real-next-requires-2 : goal.put_real-next-requires-2
 unfolding bytes_of single_bytes
-put_single-next-requires-2 c = omega arith
+put_real-next-requires-2 c = omega arith
 
-pub put_single-requires : goal.put_single-requires
+pub put_real-requires : goal.put_real-requires
 unfolding bytes_of single_bytes
-put_single-requires c = omega arith
+put_real-requires c = omega arith
 
 pub returns : goal.returns
 unfolding bytes_of single_bytes range_field
 returns c =
-    put_then c.put_head-next.ensures (put_then c.put_single-next.ensures (put_then c.put_single-next-2.ensures c.put_single.ensures (omega arith)) (omega arith)) (omega arith)
+    put_then c.put_head-next.ensures (put_then c.put_real-next.ensures (put_then c.put_real-next-2.ensures c.put_real.ensures (omega arith)) (omega arith)) (omega arith)

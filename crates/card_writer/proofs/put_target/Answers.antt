@@ -4,19 +4,19 @@ use Rattle.text.proofs.Writing.{put_then}
 use Rattle.words.specs.Words.{bytes_of, single_bytes, double_bytes}
 use Rattle.card_writer.proofs.put_target.Goals as goal
 
-pub put_single-next-requires : goal.put_single-next-requires
+pub put_real-next-requires : goal.put_real-next-requires
 unfolding bytes_of single_bytes double_bytes
-put_single-next-requires c = omega arith
+put_real-next-requires c = omega arith
 
-pub put_double-next-requires : goal.put_double-next-requires
+pub put_real-next-requires-2 : goal.put_real-next-requires-2
 unfolding bytes_of single_bytes double_bytes
-put_double-next-requires c = omega arith
+put_real-next-requires-2 c = omega arith
 
-pub put_double-requires : goal.put_double-requires
+pub put_real-requires : goal.put_real-requires
 unfolding bytes_of single_bytes double_bytes
-put_double-requires c = omega arith
+put_real-requires c = omega arith
 
 pub returns : goal.returns
 unfolding bytes_of single_bytes double_bytes
 returns c =
-    put_then c.put_head-next.ensures (put_then c.put_single-next.ensures (put_then c.put_double-next.ensures c.put_double.ensures (omega arith)) (omega arith)) (omega arith)
+    put_then c.put_head-next.ensures (put_then c.put_real-next.ensures (put_then c.put_real-next-2.ensures c.put_real.ensures (omega arith)) (omega arith)) (omega arith)

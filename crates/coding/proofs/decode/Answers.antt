@@ -20,4 +20,4 @@ returns-then-not-is_edition c =
 pub returns : goal.returns
 returns c =
     decodes c.args.state.now c.queue_in-timeline.result c.if-state-ne-LENGTH.false c.if-state-ne-VERSION.false (omega (arith, c.if-state-gt1.false)) (sym c.is_edition.ensures ∙ c.if-not-is_edition.false) c.queue_in-timeline.ensures
-    (rw (c.single_in.ensures, c.single_in-2.ensures, c.single_in-3.ensures, c.rate_in-rate.ensures, c.edition_of-edition.ensures, c.single_in-intrinsic.ensures, c.time_in-block.ensures, c.time_in-end.ensures, c.last_in-last.ensures) at c.from_parts.ensures)
+    (rw (c.of_bits.ensures, c.of_bits-2.ensures, c.of_bits-3.ensures, c.rate_in-rate.ensures, c.edition_of-edition.ensures, c.of_bits-intrinsic.ensures, c.time_in-block.ensures, c.time_in-end.ensures, c.last_in-last.ensures) at c.from_parts.ensures)

@@ -9,4 +9,4 @@ returns-then-flag-eq0 c = rw (eq-eqb _ 0 c.if-flag-eq0.true)
 
 pub returns-else-flag-eq0 : goal.returns-else-flag-eq0
 unfolding last_in
-returns-else-flag-eq0 c = rw (ne_eqb _ 0 c.if-flag-eq0.false, c.double_in.ensures, c.single_in.ensures)
+returns-else-flag-eq0 c = rw (ne_eqb _ 0 c.if-flag-eq0.false, c.of_bits.ensures, c.of_bits-else-flag-eq0.ensures)

@@ -51,12 +51,12 @@ returns c =
     c.last_block_end-end.ensures
     c.last_event.ensures
     c.len.ensures
-    c.single_bits.ensures
-    c.single_bits-2.ensures
-    c.single_bits-3.ensures
+    c.bits.ensures
+    c.bits-2.ensures
+    c.bits-3.ensures
     c.rate_word.ensures
     c.edition_word.ensures
-    c.single_bits-4.ensures
+    c.bits-4.ensures
     c.flag_of.ensures
     c.time_bits.ensures
     c.flag_of-2.ensures

@@ -10,6 +10,6 @@ returns-in-None c = rw c.in-None.is (record { is = refl; back = refl })
 pub returns-in-Some : goal.returns-in-Some
 unfolding last_in last_flag last_time last_value
 returns-in-Some c =
-    let t = c.double_bits.ensures in
-    let v = c.single_bits.ensures in
+    let t = c.bits.ensures in
+    let v = c.bits-in-Some.ensures in
     rw c.in-Some.is (record { is = rw (t.is, v.is); back = rw (t.back, v.back) })

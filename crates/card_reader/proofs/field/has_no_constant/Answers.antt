@@ -11,14 +11,14 @@ use Rattle.card_reader.proofs.field.has_no_constant.Goals as goal
 pub bounds-bytes-0 : goal.bounds-bytes-0
 bounds-bytes-0 c = omega (arith, room c.args.bytes.now c.requires.0.whole c.requires.0.right)
 
-pub double_at-requires : goal.double_at-requires
+pub real_at-requires : goal.real_at-requires
 unfolding tag_of
-double_at-requires c = target_room c.args.bytes.now c.requires.0.whole c.requires.0.right c.if-bytes-eq4.true
+real_at-requires c = target_room c.args.bytes.now c.requires.0.whole c.requires.0.right c.if-bytes-eq4.true
 
 pub returns-then-bytes-eq4 : goal.returns-then-bytes-eq4
 unfolding tag_of
 returns-then-bytes-eq4 c =
-    c.is_zero.ensures ∙ ap is_zero c.double_at.ensures ∙ sym (constant_in c.args.bytes.now c.if-bytes-eq4.true)
+    c.is_zero.ensures ∙ ap is_zero c.real_at.ensures ∙ sym (constant_in c.args.bytes.now c.if-bytes-eq4.true)
 
 pub returns-else-bytes-eq4 : goal.returns-else-bytes-eq4
 unfolding tag_of

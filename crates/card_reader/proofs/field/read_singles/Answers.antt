@@ -16,7 +16,7 @@ loop-i-preserved c =
     let l = c.loop-i in (
       simp length-set (omega arith),
       simp length-set l.invariant.1,
-      l.invariant.2 ∙ rw c.single_at.ensures (read-turn a.bytes.now a.at (length a.values.now) l.values l.i (omega arith) (omega (arith, l.invariant.1, c.loop-i-test.true))),
+      l.invariant.2 ∙ rw c.real_at.ensures (read-turn a.bytes.now a.at (length a.values.now) l.values l.i (omega arith) (omega (arith, l.invariant.1, c.loop-i-test.true))),
     )
 
 pub returns : goal.returns

@@ -19,36 +19,36 @@ pub schedule_curve-requires : goal.schedule_curve-requires
 unfolding tag_of
 schedule_curve-requires c = (c.requires.0, c.requires.1, c.if-tag-eq5.true)
 
-pub single_at-value-requires : goal.single_at-value-requires
-single_at-value-requires c = omega (arith, long (goal.at.single_at-value-requires c).Start)
+pub real_at-value-requires : goal.real_at-value-requires
+real_at-value-requires c = omega (arith, long (goal.at.real_at-value-requires c).Start)
 
-pub double_at-time-requires : goal.double_at-time-requires
-double_at-time-requires c = long (goal.at.double_at-time-requires c).Start
+pub real_at-time-requires : goal.real_at-time-requires
+real_at-time-requires c = long (goal.at.real_at-time-requires c).Start
 
-pub double_at-requires : goal.double_at-requires
+pub real_at-requires : goal.real_at-requires
 unfolding tag_of
-double_at-requires c =
+real_at-requires c =
     target_room c.args.bytes.now c.requires.1.whole c.requires.1.right
     (target_tag c.args.bytes.now c.requires.1.tag c.requires.2 c.if-tag-eq5.false (λ e. omega (arith, e)) (λ e. omega (arith, e)) (λ e. omega (arith, e)))
 
 pub returns-in-1 : goal.returns-in-1
 unfolding tag_of
 returns-in-1 c =
-    does_step c.args.bytes.now c.single_at-value.ensures c.double_at-time.ensures c.in-1.is c.set_value_at_time.ensures
+    does_step c.args.bytes.now c.real_at-value.ensures c.real_at-time.ensures c.in-1.is c.set_value_at_time.ensures
 
 pub returns-in-2 : goal.returns-in-2
 unfolding tag_of
 returns-in-2 c =
-    does_linear c.args.bytes.now c.single_at-value.ensures c.double_at-time.ensures c.in-2.is c.linear_ramp_to_value_at_time.ensures
+    does_linear c.args.bytes.now c.real_at-value.ensures c.real_at-time.ensures c.in-2.is c.linear_ramp_to_value_at_time.ensures
 
 pub returns-in-3 : goal.returns-in-3
 unfolding tag_of
 returns-in-3 c =
-    does_exponential c.args.bytes.now c.single_at-value.ensures c.double_at-time.ensures c.in-3.is c.exponential_ramp_to_value_at_time.ensures
+    does_exponential c.args.bytes.now c.real_at-value.ensures c.real_at-time.ensures c.in-3.is c.exponential_ramp_to_value_at_time.ensures
 
 pub returns-in_default : goal.returns-in_default
 unfolding tag_of
 returns-in_default c =
-    does_target c.args.bytes.now c.single_at-value.ensures c.double_at-time.ensures c.double_at.ensures
+    does_target c.args.bytes.now c.real_at-value.ensures c.real_at-time.ensures c.real_at.ensures
     (target_tag c.args.bytes.now c.requires.1.tag c.requires.2 c.if-tag-eq5.false (λ e. omega (arith, e)) (λ e. omega (arith, e)) (λ e. omega (arith, e)))
     c.set_target_at_time.ensures

@@ -34,11 +34,11 @@ long c =
     let bytes = c.args.bytes.now in
     ap length (numbers c) ∙ length-singles bytes 19 (numbers_in bytes) ∙ sym (count bytes c.length_in.ensures.0)
 
-pub double_at-start-requires : goal.double_at-start-requires
-double_at-start-requires c = omega (arith, full (goal.at.double_at-start-requires c).Start)
+pub real_at-start-requires : goal.real_at-start-requires
+real_at-start-requires c = omega (arith, full (goal.at.real_at-start-requires c).Start)
 
-pub double_at-duration-requires : goal.double_at-duration-requires
-double_at-duration-requires c = omega (arith, full (goal.at.double_at-duration-requires c).Start)
+pub real_at-duration-requires : goal.real_at-duration-requires
+real_at-duration-requires c = omega (arith, full (goal.at.real_at-duration-requires c).Start)
 
 pub length_in-requires : goal.length_in-requires
 length_in-requires c = omega (arith, full (goal.at.length_in-requires c).Start)
@@ -54,7 +54,7 @@ pub returns-then-n-gt-STORE : goal.returns-then-n-gt-STORE
 returns-then-n-gt-STORE c =
     let bytes = c.args.bytes.now in
     let numbers = singles_at bytes 19 (numbers_in bytes) in
-    does_curve bytes c.requires.2 c.double_at-start.ensures c.double_at-duration.ensures refl
+    does_curve bytes c.requires.2 c.real_at-start.ensures c.real_at-duration.ensures refl
     (c.schedule_long.ensures numbers (omega (arith, length-singles bytes 19 (numbers_in bytes), count bytes c.length_in.ensures.0, c.if-n-gt-STORE.true)) (rw (count bytes c.length_in.ensures.0) at c.worst_of-worst.ensures))
 
 pub slice_bounds-read_singles-end : goal.slice_bounds-read_singles-end
@@ -72,5 +72,5 @@ slice_bounds-set_value_curve_at_time-end c = sym (length-take-le _ _ (rw (length
 pub returns : goal.returns
 returns c =
     let r = (goal.at.returns c).After-read_singles in
-    does_curve c.args.bytes.now c.requires.2 c.double_at-start.ensures c.double_at-duration.ensures (take_at _ _ _ (long r) ∙ numbers r)
+    does_curve c.args.bytes.now c.requires.2 c.real_at-start.ensures c.real_at-duration.ensures (take_at _ _ _ (long r) ∙ numbers r)
     c.set_value_curve_at_time.ensures

@@ -15,13 +15,13 @@ pub returns-then-not-is_finite : goal.returns-then-not-is_finite
 returns-then-not-is_finite c =
     let a = c.args in
     let odd = found c.is_finite.ensures c.if-not-is_finite.true in
-    odd ∙ sym (c.loop-i.invariant.1 ∙ finite_not a.bytes.now a.at a.n c.loop-i.i (omega arith) (rw c.single_at-x.ensures at odd))
+    odd ∙ sym (c.loop-i.invariant.1 ∙ finite_not a.bytes.now a.at a.n c.loop-i.i (omega arith) (rw c.real_at-x.ensures at odd))
 
 pub loop-i-preserved : goal.loop-i-preserved
 loop-i-preserved c =
     let a = c.args in
     let fine = found c.is_finite.ensures c.if-not-is_finite.false in
-    (omega arith, c.loop-i.invariant.1 ∙ finite_turn a.bytes.now a.at a.n c.loop-i.i (omega arith) (rw c.single_at-x.ensures at fine))
+    (omega arith, c.loop-i.invariant.1 ∙ finite_turn a.bytes.now a.at a.n c.loop-i.i (omega arith) (rw c.real_at-x.ensures at fine))
 
 pub returns : goal.returns
 unfolding is_finite of_bits of_fields odd

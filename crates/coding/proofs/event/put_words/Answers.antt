@@ -22,4 +22,4 @@ bounds-state-at-6 c = simp length-set (omega arith)
 pub returns : goal.returns
 returns c =
     let a = c.args in
-    puts_words a.time a.hold (puts_six a.state.now a.at a.kind a.word _ a.other _ _ c.requires) c.double_bits-time.ensures c.flag_of-flag.ensures c.time_bits-hold.ensures
+    puts_words a.time a.hold (puts_six a.state.now a.at a.kind a.word _ a.other _ _ c.requires) c.bits-time.ensures c.flag_of-flag.ensures c.time_bits-hold.ensures

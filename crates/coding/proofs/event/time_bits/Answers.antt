@@ -6,4 +6,4 @@ pub returns-in-None : goal.returns-in-None
 returns-in-None c = rw c.in-None.is missing_bits
 
 pub returns-in-Some : goal.returns-in-Some
-returns-in-Some c = rw c.in-Some.is (time_bits c.double_bits.ensures)
+returns-in-Some c = rw c.in-Some.is (time_bits c.bits.ensures)
