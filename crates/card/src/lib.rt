@@ -32,6 +32,7 @@ pub struct Judged {
 }
 
 // 02's number, or document 01's.
+#[tactic(auto, unfolding(crate::specs::Card::fault_number))]
 pub fn number_of(fault: Fault) -> u8
     ensures { result ≡ fault_number fault }
 {
@@ -47,6 +48,7 @@ pub fn number_of(fault: Fault) -> u8
     }
 }
 
+#[tactic(auto, unfolding(crate::specs::Card::is_accepted))]
 pub fn is_accepted(verdict: Result<(), Fault>) -> bool
     ensures { result ≡ is_accepted verdict }
 {

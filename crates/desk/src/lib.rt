@@ -259,7 +259,7 @@ fn played(desk: Desk, r: Processed) -> Desk
     }
 }
 
-// A block by either renderer.
+// A block by either renderer: the word of the session picks it, here alone.
 fn render(
     by: Renderer,
     p: AudioParam,
