@@ -6,10 +6,22 @@ ghost use Rattle.std.proofs.Math.Seq.{paste};
 ghost use Rattle.rules.specs.Numbers.{most_events, plus_zero};
 ghost use Rattle.rules.specs.Queue.{lengths_of, attached, those, inserted, cancelled, held};
 ghost use Rattle.timeline.specs.Timeline.{Neat, waiting, is_kept};
-ghost use Rattle.curves.specs.Curves.{packed_in, Leaves, curve_of};
+ghost use Rattle.curves.specs.Curves.{moved, packed_in, Leaves, curve_of};
 
 use rules::Event;
 use timeline::AudioParamEventTimeline;
+
+// Numbers go to a later place: from the last on. A loop of its own: std's copy within a slice becomes memmove here, and C's archive wants memcpy and memset alone.
+fn move_up(part: &mut [f32], from: usize, to: usize, n: usize)
+    requires { (from ≤ to) × (to + n ≤ length part.old) }
+    ensures { part.new ≡ moved part.old from to n }
+{
+    let mut i = n;
+    while 0 < i {
+        i -= 1;
+        part[to + i] = part[from + i];
+    }
+}
 
 pub fn write(part: &mut [f32], at: usize, values: &[f32])
     requires { at + length values.now ≤ length part.old }
@@ -59,7 +71,7 @@ pub fn insert(
     let used = q.lengths();
     let place = q.place_behind(start);
     let at = q.offset_of(place);
-    part.copy_within(at..used, at + len);
+    move_up(part, at, at + len, used - at);
     write(part, at, values);
     zero_behind(part, used + len);
     let hold = None;

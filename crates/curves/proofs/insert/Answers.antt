@@ -22,14 +22,15 @@ within d = omega (arith, offset_most (waiting d.args.q) d.place_behind-place.res
 pub overflow_add-at : goal.overflow_add-at
 overflow_add-at c = record { fits = omega (arith, within (goal.at.overflow_add-at c).After-offset_of-at, c.well_formed) }
 
-pub copy_within-requires-clause-start_le_end : goal.copy_within-requires-clause-start_le_end
-copy_within-requires-clause-start_le_end c = within (goal.at.copy_within-requires-clause-start_le_end c).After-offset_of-at
+pub overflow_sub-used : goal.overflow_sub-used
+overflow_sub-used c = within (goal.at.overflow_sub-used c).After-offset_of-at
 
-pub copy_within-requires-clause-dest_in_bounds : goal.copy_within-requires-clause-dest_in_bounds
-copy_within-requires-clause-dest_in_bounds c = omega (arith, within (goal.at.copy_within-requires-clause-dest_in_bounds c).After-offset_of-at)
+pub move_up-requires : goal.move_up-requires
+move_up-requires c = (omega arith, omega (arith, within (goal.at.move_up-requires c).After-offset_of-at))
 
 pub write-requires : goal.write-requires
-write-requires c = omega (arith, within (goal.at.write-requires c).After-offset_of-at, c.copy_within.ensures.len)
+write-requires c =
+    omega (arith, within (goal.at.write-requires c).After-offset_of-at, c.move_up.auto.part)
 
 pub put_at-requires : goal.put_at-requires
 put_at-requires c =
@@ -55,5 +56,5 @@ returns c =
           c.zero_behind.ensures
           ∙ inserted-part a.start a.duration xs q o c.requires.2 u at c.lengths-used.ensures
           (c.offset_of-at.ensures ∙ ap (λ (k : ℕ). lengths_of (take k q)) p) c.write.new.part
-          (c.write.ensures ∙ ap (λ (s : List Float). paste s at xs (length xs)) c.copy_within.ensures.after);
+          (c.write.ensures ∙ ap (λ (s : List Float). paste s at xs (length xs)) c.move_up.ensures);
     }
