@@ -1,11 +1,32 @@
--- A copy within a part of the store from the last number on, turn by turn. Assumes nothing.
+-- The loops over a part of the store, turn by turn: a copy from the first number on, and one from the last on. Assumes nothing.
 use mathlib.Core.Path.{◌≡◌, sym, ap, ◌∙◌}
 use mathlib.Core.List.{List, ◌∷◌, ◌++◌, append_assoc, append-nil}
 use Prim.Native.Nat.{ℕ, suc, ◌+◌, ◌-◌, ◌≤◌, ◌<◌}
 use native.Mathlib.Nat.{add-zero}
+use native.Mathlib.Numerals.{add-one}
 use native.Mathlib.Omega.{arith}
 use lib.ListN.{length, take, drop, get_or, set, take-append-drop, get_or-append}
-use lib.Seq.{paste, length-take-le, take-suc, drop-cons, set_at, append_snoc, get_or-take}
+use lib.Seq.{paste, paste-suc, length_paste_head, length-take-le, take-suc, drop-cons, set_at, append_snoc, get_or-append-add, get_or-drop, get_or-take}
+
+-- ---- from the first on: p is o with the first j of s copied to place `at`
+
+module _ {A : Type 0} (z : A) (o s : List A) (at j : ℕ) (p : List A) (e : p ≡ paste o at s j) (hd : at + j < length o) (hs : j < length s) where
+  pub paste_turn : (k : ℕ) (y : A) → k ≡ at + j → y ≡ get_or s j z → set p k y ≡ paste o at s (j + 1)
+  paste_turn k y f g = rw (f, g, e, add-one, paste-suc o at s j z hd hs)
+
+  -- what stands behind the copy is as it was
+  pub paste_past : (k : ℕ) → at + j ≤ k → get_or p k z ≡ get_or o k z
+  paste_past k h =
+      let a : at ≤ length o = omega arith in
+      let b : j ≤ length s = omega arith in
+      let l : length (take at o ++ take j s) ≡ at + j = length_paste_head o at s j a b in
+      let m : k ≡ length (take at o ++ take j s) + (k - (at + j)) = omega arith in
+      let n : at + j + (k - (at + j)) ≡ k = omega arith in
+      ap (λ (q : List A). get_or q k z) e
+      ∙ ap (λ (i : ℕ). get_or (paste o at s j) i z) m
+      ∙ get_or-append-add (take at o ++ take j s) (drop (at + j) o) (k - (at + j)) z
+      ∙ get_or-drop (at + j) o (k - (at + j)) z
+      ∙ ap (λ (i : ℕ). get_or o i z) n
 
 -- ---- from the last on: of the n from place `from`, all but the first i are copied to place `to`
 

@@ -23,11 +23,16 @@ fn move_up(part: &mut [f32], from: usize, to: usize, n: usize)
     }
 }
 
+// A loop of its own, as move_up: std's copy from a slice becomes memmove here.
 pub fn write(part: &mut [f32], at: usize, values: &[f32])
     requires { at + length values.now ≤ length part.old }
     ensures { part.new ≡ paste part.old at values.now (length values.now) }
 {
-    part[at..at + values.len()].copy_from_slice(values);
+    let mut i = 0usize;
+    while i < values.len() {
+        part[at + i] = values[i];
+        i += 1;
+    }
 }
 
 // What stands behind the numbers in use becomes 0.
