@@ -5,6 +5,7 @@
 ghost use Rattle.std.specs.Prelude.{◌≡◌, true, false, ◌&&◌, min, ◌+◌, ◌^◌, ◌≤◌, ◌<◌, leb, length, take};
 ghost use Rattle.rules.specs.Numbers.{store_length};
 ghost use Rattle.param.specs.Param.{SoundParam};
+ghost use Rattle.text.specs.Put.{Put};
 ghost use Rattle.card.specs.Card.{is_accepted, is_whole, is_range, contents_turn, field_turn};
 ghost use Rattle.card_reader.specs.Reader.{FieldFits, reading_of, window_length, part_length, SoundReader, SoundWindow, refused_reader, kept_reader, Opens, Does, ended, Takes, Feeds, TakesPart, Loads};
 
@@ -16,7 +17,6 @@ use field::{
 use lines::moved;
 use param::AudioParam;
 use rules::{AutomationRate, Bounds, Refusal};
-use text::write::put_word;
 
 pub mod field; // field.rt: what stands in a field
 
@@ -56,6 +56,19 @@ pub struct Taken {
 pub struct Loaded {
     pub says: Judged,
     pub param: AudioParam,
+}
+
+// As text's, by a loop of its own: std's copy from a slice becomes memmove here, and C's archive wants memcpy and memset alone.
+fn put_word(out: &mut [u8], at: usize, word: &[u8]) -> usize
+    requires { at + length word.now ≤ length out.old }
+    ensures { Put out.old at word.now out.new result }
+{
+    let mut i = 0;
+    while i < word.len() {
+        out[at + i] = word[i];
+        i += 1;
+    }
+    at + word.len()
 }
 
 impl CardReader {
