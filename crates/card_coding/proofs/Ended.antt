@@ -26,7 +26,7 @@ use Rattle.card_reader.specs.declared.Loaded as code
 use Rattle.card_reader.specs.Reader.{reading_of, Loads}
 use Rattle.card_coding.specs.Array.{verdict_number, is_going, reading_in, is_card, Keeps, Numbers, ReadsCard}
 use Rattle.card_coding.specs.Calls.{bad_card, Ended, ended_as, refused_end, ended, EndsCard}
-use Rattle.card_coding.proofs.Kept.{kept_zero}
+use Rattle.card_coding.proofs.Kept.{by_number}
 
 -- the caller's parameter is given back only where nothing is written over it
 same_end : (q : Reader) (p o : Param) (store : List Float) (state : List ℕ) → ended_as (loaded q p store) state ≡ ended_as (loaded q o store) state
@@ -147,4 +147,4 @@ module _ (card : List ℕ) (numbers : List Float) (window : List ℕ) (before : 
           ends (rw kept e.is) (λ _. (back.0, back.1 ∙ param_is ∙ same-param ∙ is))
 
       pub ends_left : is_accepted l.says.verdict ≡ false → EndsCard card numbers window before (record { number = n; at = l.says.at; state = before.state; store = left })
-      ends_left refused = ends (rw refused) (λ e. clash (sym (kept_zero l.says.verdict) ∙ eq-eqb _ 0 (sym m.is ∙ e)) refused)
+      ends_left refused = ends (rw refused) (λ e. clash ((by_number l.says.verdict m).0 e) refused)

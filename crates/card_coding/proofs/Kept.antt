@@ -65,6 +65,10 @@ unfolding verdict_number is_accepted
 kept_zero (Ok _) = refl
 kept_zero (Err f) = ne_eqb (fault_number f) 0 (fault_number_lem f)
 
+-- by the number that is answered
+pub by_number : (v : Result Unit Fault) {n : ℕ} → Numbers v n → (n ≡ 0 → is_accepted v ≡ true) × ((n ≡ 0 → ⊥) → is_accepted v ≡ false)
+by_number v m = (λ z. sym (kept_zero v) ∙ eq-eqb _ 0 (sym m.is ∙ z), λ z. sym (kept_zero v) ∙ ne_eqb _ 0 (λ e. z (m.is ∙ e)))
+
 -- ---- the test
 
 module _ (card : List ℕ) (numbers : List Float) (window : List ℕ) where

@@ -38,7 +38,7 @@ pub no_clash : (q : List Event) (call : Call)
     → ((v t : Float) → call ≡ Call.Exponential v t → ⊥)
     → ((v t c : Float) → call ≡ Call.Target v t c → ⊥)
     → ((t d : Float) (n : ℕ) → call ≡ Call.Curve t d n → ⊥)
-    → None ≡ clash_of q call
+    → None ≡ clash_of q (Some call)
 unfolding clash_of
 no_clash q Call.Nothing set step linear exponential target curve = refl
 no_clash q (Call.Make b rate n) set step linear exponential target curve = refl

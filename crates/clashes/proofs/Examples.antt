@@ -29,7 +29,7 @@ queue =
     ∷ Event.Linear plus_zero (time 0x4028000000000000) (Some (time 0x4024000000000000)) ∷ []
 
 abbrev Says : Call → String → Type 0
-Says call sentence = clash_text (clash_of queue call) ≡ codes sentence
+Says call sentence = clash_text (clash_of queue (Some call)) ≡ codes sentence
 
 -- steps at 1 and 7.5; curves from 3, from 6 for 2, and from 8 for 3; a step at 6, which is not refused
 pub examples :

@@ -40,24 +40,25 @@ covered_by q t = curve_in (first_of (those (covers (taken_time t)) q))
 unfoldable pub holding : List Event → Float → Float → Option Clash
 holding q t d = let start = taken_time t in event_in (first_of (those (is_filed_inside start (curve_end start d None)) q))
 
--- what a call runs into: "An immediate set is a step at time 0"; of a curve, first the curve that its "start lies inside"
-unfoldable pub clash_of : List Event → Call → Option Clash
-clash_of q Call.Nothing = None
-clash_of q (Call.Make b rate n) = None
-clash_of q (Call.Set v) = covered_by q plus_zero
-clash_of q (Call.Step v t) = covered_by q t
-clash_of q (Call.Linear v t) = covered_by q t
-clash_of q (Call.Exponential v t) = covered_by q t
-clash_of q (Call.Target v t c) = covered_by q t
-clash_of q (Call.Curve t d n) = option_or (covered_by q t) (holding q t d)
-clash_of q (Call.Cancel t) = None
-clash_of q (Call.Hold t) = None
-clash_of q (Call.Block by t p n o i) = None
-clash_of q (Call.Lend n) = None
-clash_of q (Call.Poke i v) = None
-clash_of q Call.State = None
-clash_of q Call.Save = None
-clash_of q (Call.Load part n rate edition) = None
+-- what a call runs into, a line that is not read being none: "An immediate set is a step at time 0"; of a curve, first the curve that its "start lies inside"
+unfoldable pub clash_of : List Event → Option Call → Option Clash
+clash_of q None = None
+clash_of q (Some Call.Nothing) = None
+clash_of q (Some (Call.Make b rate n)) = None
+clash_of q (Some (Call.Set v)) = covered_by q plus_zero
+clash_of q (Some (Call.Step v t)) = covered_by q t
+clash_of q (Some (Call.Linear v t)) = covered_by q t
+clash_of q (Some (Call.Exponential v t)) = covered_by q t
+clash_of q (Some (Call.Target v t c)) = covered_by q t
+clash_of q (Some (Call.Curve t d n)) = option_or (covered_by q t) (holding q t d)
+clash_of q (Some (Call.Cancel t)) = None
+clash_of q (Some (Call.Hold t)) = None
+clash_of q (Some (Call.Block by t p n o i)) = None
+clash_of q (Some (Call.Lend n)) = None
+clash_of q (Some (Call.Poke i v)) = None
+clash_of q (Some Call.State) = None
+clash_of q (Some Call.Save) = None
+clash_of q (Some (Call.Load part n rate edition)) = None
 
 -- ---- in words
 

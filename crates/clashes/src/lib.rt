@@ -82,11 +82,14 @@ fn holding(q: AudioParamEventTimeline, time: f64, duration: f64) -> Option<Clash
     event_in(q.filed_inside(start, end))
 }
 
-// What the call runs into, these events waiting.
-pub fn clash_of(q: AudioParamEventTimeline, call: Call) -> Option<Clash>
+// What the call runs into, these events waiting; a line that is not read runs into nothing.
+pub fn clash_of(q: AudioParamEventTimeline, call: Option<Call>) -> Option<Clash>
     requires { Neat q }
     ensures { result ≡ clash_of (waiting q) call }
 {
+    let Some(call) = call else {
+        return None;
+    };
     match call {
         Call::Set { .. } => covered_by(q, 0.0),
         Call::Step { time, .. } => covered_by(q, time),

@@ -41,7 +41,8 @@ fn number_of(verdict: Result<(), Refusal>) -> u32
     }
 }
 
-// The parameter of a state that passes its test.
+// The parameter of a state that passes its test. Not inlined, else each exported call has room for one parameter more on the stack.
+#[inline(never)]
 fn param_in(state: &[u64]) -> Option<AudioParam>
     ensures { Holds state.now result }
 {
@@ -52,16 +53,24 @@ fn param_in(state: &[u64]) -> Option<AudioParam>
     Some(d.param)
 }
 
-// What a call answers: its number, and its parameter written where it is answered.
+// What is answered: a verdict's number, and the parameter written where the verdict is Ok.
+fn answer(verdict: Result<(), Refusal>, p: AudioParam, state: &mut [u64]) -> u32
+    requires { SoundParam p × (length state.old ≡ state_length) }
+    ensures { Closes verdict (param_of p) state.old result state.new }
+{
+    let number = number_of(verdict);
+    if verdict.is_ok() {
+        coding::encode(p, state);
+    }
+    number
+}
+
+// What a call answers. A block has no outcome: to make one would copy its parameter once more.
 fn close(said: Outcome, state: &mut [u64]) -> u32
     requires { SoundParam said.param × (length state.old ≡ state_length) }
     ensures { Closes said.verdict (param_of said.param) state.old result state.new }
 {
-    let number = number_of(said.verdict);
-    if said.verdict.is_ok() {
-        coding::encode(said.param, state);
-    }
-    number
+    answer(said.verdict, said.param, state)
 }
 
 // A parameter made and written over a state of the right length; refused, the empty one.
@@ -232,11 +241,7 @@ pub extern "C" fn crackledray_block(
     *steps = r.steps;
     *current = r.current;
     *one = r.one;
-    let said = Outcome {
-        verdict: r.verdict,
-        param: r.param,
-    };
-    close(said, state)
+    answer(r.verdict, r.param, state)
 }
 
 // ---- a schedule file for the memory card (02, C-11)

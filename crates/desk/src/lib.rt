@@ -65,7 +65,8 @@ fn word(desk: Desk, out: &mut [u8], at: usize, word: &[u8]) -> Answered
     Answered { desk, next }
 }
 
-// What a call says, and the parameter after it.
+// What a call says, and the parameter after it. Inlined, as the next, else each call's answer is copied once more by either.
+#[inline(always)]
 fn told(r: Outcome, lent: usize, totals: Totals, out: &mut [u8], at: usize) -> Answered
     requires { at + 42000 ≤ length out.old }
     ensures { Told r lent totals out.old at result out.new }
@@ -80,6 +81,7 @@ fn told(r: Outcome, lent: usize, totals: Totals, out: &mut [u8], at: usize) -> A
 }
 
 // The same of a call that schedules or cancels, with its cost.
+#[inline(always)]
 fn called(desk: Desk, r: Outcome, out: &mut [u8], at: usize) -> Answered
     requires { SoundParam desk.param × SoundParam r.param × (at + 42000 ≤ length out.old) }
     ensures { Told r desk.lent (after_command desk r.param) out.old at result out.new }

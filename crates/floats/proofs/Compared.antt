@@ -30,6 +30,14 @@ not_above (inf true) h = refl
 not_above (inf false) h = absurd (true≢false h)
 not_above (fin s m e) h = absurd (true≢false h)
 
+-- both tests at once
+pub between : (x : Float) → (lt (inf true) x && lt x (inf false)) ≡ is_finite x
+between x = go (lt (inf true) x) refl
+  where
+    go : (b : Bool) → lt (inf true) x ≡ b → (b && lt x (inf false)) ≡ is_finite x
+    go true h = below_all x h
+    go false h = sym h ∙ not_above x h
+
 -- what the kit calls finite
 pub finite_is : (x : Float) → is_finite x ≡ finite x
 unfolding is_finite

@@ -8,7 +8,6 @@ use native.Mathlib.Omega.{arith}
 use lib.ListN.{length, take, drop, length-append}
 use lib.Seq.{take_at}
 use lib.Ieee.{Float}
-use Rattle.std.proofs.lemmas.Option.{none-some, same_Some}
 use Rattle.rules.specs.declared.Event.{Event}
 use Rattle.text.specs.Put.{put, Put}
 use Rattle.text.specs.Words.{same_word}
@@ -76,16 +75,11 @@ module _ (n : ℕ) (clash : Option Clash) (answer : List ℕ) where
     unfolding told
     told-reply e = rw (read, e)
 
--- the call that was read runs into what its line runs into
-pub heard_clash : (q : List Event) (o : Option Said) (call : Call) (numbers : List Float) (file : List ℕ) → Heard o (Some call) numbers file → clash_of q call ≡ clash_in q o
-unfolding clash_in
-heard_clash q None call numbers file h = absurd (none-some call (sym h))
-heard_clash q (Some s) call numbers file h = ap (clash_of q) (same_Some call s.0 h.0)
-
-pub unheard_clash : (q : List Event) (o : Option Said) (numbers : List Float) (file : List ℕ) → Heard o None numbers file → None ≡ clash_in q o
-unfolding clash_in
-unheard_clash q None numbers file h = refl
-unheard_clash q (Some s) numbers file h = absurd (none-some s.0 h.0)
+-- the call that was read runs into what its line runs into, and so does none where the line is not read
+pub heard_clash : (q : List Event) (o : Option Said) (call : Option Call) (numbers : List Float) (file : List ℕ) → Heard o call numbers file → clash_of q call ≡ clash_in q o
+unfolding clash_in clash_of
+heard_clash q None call numbers file h = ap (clash_of q) h
+heard_clash q (Some s) call numbers file h = ap (clash_of q) h.0
 
 -- ---- by the line's translation
 

@@ -24,7 +24,7 @@ not_read n = codes "line " ++ (decimal_of n ++ codes " is not read: no call, or 
 -- what a line runs into, these events waiting
 unfoldable pub clash_in : List Event → Option Said → Option Clash
 clash_in q None = None
-clash_in q (Some s) = clash_of q s.0
+clash_in q (Some s) = clash_of q (Some s.0)
 
 -- an answer of the session language for a person; for `unread`, which line it is, and for `refused 11`, what is in the way
 unfoldable pub told : ℕ → Option Clash → List ℕ → List ℕ

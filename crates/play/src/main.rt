@@ -48,7 +48,7 @@ fn clash_in(desk: Desk, line: &[u8], numbers: &mut [f32], file: &mut [u8]) -> Op
     requires { SoundDesk desk × (5000 ≤ length numbers.old) × (30000 ≤ length file.old) }
     ensures { result ≡ clash_in (param_of desk.param).queue (call_of line.now) }
 {
-    let call = read_call(line, numbers, file)?;
+    let call = read_call(line, numbers, file);
     let p = desk.param;
     clash_of(p.timeline(), call)
 }

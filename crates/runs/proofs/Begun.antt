@@ -4,7 +4,9 @@ use lib.Ieee.{Float, binary64, add, lt}
 use Rattle.rules.specs.Numbers.{run}
 use Rattle.rules.specs.Walk.{from_start}
 use Rattle.kernels.proofs.Powers.{both}
+use Rattle.runs.specs.After.{after}
 use Rattle.runs.specs.Passes.{begun}
+use Rattle.runs.proofs.Filling.{after_first}
 
 module _ (start dt : Float) where
   -- then nothing is held back
@@ -18,3 +20,11 @@ module _ (start dt : Float) where
       now_on : (b : Bool) → not b ≡ true → cond b v (s t) ≡ s t
       now_on true h = absurd (true≢false (sym h))
       now_on false h = refl
+
+  -- and so it is where no time lies before the start
+  pub none_before : (n : ℕ) (t : Float) → ((j : ℕ) → lt (after dt j t) start ≡ false) → begun start dt n t ≡ true
+  unfolding begun after
+  none_before zero t h = refl
+  none_before (suc n) t h =
+      let e : lt t start ≡ false = h 0 in
+      rw e (none_before n (add binary64 t dt) (λ j. rw (after_first dt j t) (h (suc j))))

@@ -287,6 +287,7 @@ pub trait Renderer {
         ensures { Processes p store.old (asked «time» n1 count input.now output.old) result output.new store.new };
 }
 
+#[derive(Clone, Copy)]
 pub struct ByProcess;
 
 impl Renderer for ByProcess {
@@ -303,6 +304,7 @@ impl Renderer for ByProcess {
     }
 }
 
+#[derive(Clone, Copy)]
 pub struct ByTick;
 
 impl Renderer for ByTick {
@@ -319,6 +321,7 @@ impl Renderer for ByTick {
     }
 }
 
+#[derive(Clone, Copy)]
 pub struct ByPlain;
 
 impl Renderer for ByPlain {

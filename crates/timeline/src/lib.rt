@@ -311,11 +311,13 @@ impl AudioParamEventTimeline {
         requires { Neat self × (self.len < most_events) × (place ≤ self.len) }
         ensures { result ≡ made (put_at place e (waiting self)) }
     {
-        let mut q = self;
-        q.slots.copy_within(place..self.len, place + 1);
-        q.slots[place].event = e;
-        q.len += 1;
-        q
+        let mut slots = self.slots;
+        slots.copy_within(place..self.len, place + 1);
+        slots[place].event = e;
+        Self {
+            slots,
+            len: self.len + 1,
+        }
     }
 
     // An event arrives: it goes behind all of equal or smaller time.

@@ -6,8 +6,8 @@ use Rattle.crackledray.proofs.crackledray_block.Goals as goal
 pub returns-in_default : goal.returns-in_default
 returns-in_default c = plays_bad _ c.in_default.ensures refl
 
-pub close-requires : goal.close-requires
-close-requires c = (c.process-r.ensures.sound, c.in-Some.ensures.long)
+pub answer-requires : goal.answer-requires
+answer-requires c = (c.process-r.ensures.sound, c.in-Some.ensures.long)
 
 pub returns : goal.returns
-returns c = plays c.in-Some.ensures _ c.process-r.ensures c.close.ensures
+returns c = plays c.in-Some.ensures _ c.process-r.ensures c.answer.ensures

@@ -1,11 +1,5 @@
 -- `fill_value` meets its contract: the places lent take one value. Assumes nothing.
-use mathlib.Core.Path.{refl, sym, ◌∙◌}
-use Prim.Native.Nat.{◌-◌}
-use lib.ListN.{length}
-use borrow.Rule.Slice.PartMut.{mid_of}
-use Rattle.rules.specs.Numbers.{time_at}
-use Rattle.laws.proofs.Places.{run_alike}
-use Rattle.fills.proofs.Along.{none, upward, lent}
+use Rattle.fills.proofs.Along.{none, upward, alike}
 use Rattle.fills.proofs.fill_value.Goals as goal
 
 pub returns-then-writes_none : goal.returns-then-writes_none
@@ -18,7 +12,4 @@ pub slice_bounds-fill-start : goal.slice_bounds-fill-start
 slice_bounds-fill-start c = upward c.args.infos c.requires c.writes_none.ensures c.if-writes_none.false
 
 pub returns : goal.returns
-returns c =
-    let a = c.args in
-    lent a.infos c.requires c.writes_none.ensures c.if-writes_none.false {sample = λ s. a.value} {t = time_at a.infos a.filled} refl
-    (c.fill.ensures.after (λ y e. e) ∙ sym (run_alike a.value a.infos.dt (length (mid_of a.filled (a.to - a.filled) a.buffer.now)) (time_at a.infos a.filled)))
+returns c = alike c.args.infos c.requires c.writes_none.ensures c.if-writes_none.false (c.fill.ensures.after (λ y e. e))

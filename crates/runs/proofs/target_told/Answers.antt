@@ -1,13 +1,13 @@
 -- `runs::target_told` meets its contract. Assumes nothing.
-use Rattle.std.proofs.Common.{◌≡◌, ℕ, ◌+◌, ◌-◌, ◌*◌, ◌/◌, ◌^◌, ◌≤◌, length, sym, ◌∙◌, subst, arith, eqb-true}
+use Rattle.std.proofs.Common.{◌≡◌, true, ℕ, ◌+◌, ◌-◌, ◌*◌, ◌/◌, ◌^◌, ◌≤◌, length, sym, ◌∙◌, subst, arith, eqb-true}
 use lib.Ieee.{Float}
 use Rattle.std.specs.Prelude.{Option, Some, None, IfSome}
 use Rattle.std.specs.Option.{unwrap_or}
-use Rattle.rules.specs.Walk.{from_start}
 use Rattle.samples.specs.At.{target_at}
 use Rattle.phases.specs.Once.{Once}
 use Rattle.runs.specs.Rising.{Rises}
-use Rattle.runs.proofs.Filling.{run-same}
+use Rattle.runs.specs.Passes.{begun}
+use Rattle.runs.proofs.Begun.{run-begun, none_before}
 use Rattle.runs.proofs.Later.{not_before}
 use Rattle.runs.proofs.target_told.Goals as goal
 
@@ -33,11 +33,11 @@ target_shown-requires c =
     }
 
 pub returns-then-start_time-times : goal.returns-then-start_time-times
-unfolding from_start
 returns-then-start_time-times c = λ t v.
     let a = c.args in
     let r : Rises a.start_time a.constant a.times.first a.times.period = record { steady = c.is_steady_for.ensures c.if-is_steady_for.true; started = c.is_begun.ensures c.if-is_begun.true } in
-    let sample = target_at a.start_time a.constant a.line.«c» a.line.a in
+    let begins : begun a.start_time a.times.period (length a.out.now) a.times.first ≡ true =
+    none_before a.start_time a.times.period (length a.out.now) a.times.first
+    (not_before a.start_time a.constant a.times.first a.times.period r.steady.start_plain.2 r.started.time_plain.2 r.steady.period_plain.2 r) in
     c.target_shown.ensures t
-    ∙ run-same sample (from_start a.start_time v sample) a.times.period (length a.out.now) a.times.first
-    (λ k h. rw (not_before a.start_time a.constant a.times.first a.times.period r.steady.start_plain.2 r.started.time_plain.2 r.steady.period_plain.2 r k))
+    ∙ sym (run-begun a.start_time a.times.period v (target_at a.start_time a.constant a.line.«c» a.line.a) (length a.out.now) a.times.first begins)

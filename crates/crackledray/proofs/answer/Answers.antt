@@ -1,7 +1,7 @@
--- `close` meets its contract. Assumes nothing.
+-- `answer` meets its contract. Assumes nothing.
 use Rattle.refusals.proofs.Rows.{found}
 use Rattle.crackledray.proofs.Closing.{closes_answered, closes_refused}
-use Rattle.crackledray.proofs.close.Goals as goal
+use Rattle.crackledray.proofs.answer.Goals as goal
 
 pub returns-then-is_ok : goal.returns-then-is_ok
 returns-then-is_ok c =
