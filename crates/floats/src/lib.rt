@@ -12,7 +12,7 @@ pub trait Real: Copy {
     fn widened(self) -> f64
         ensures { result ≡ number self };
 
-    // Whether it lies between the infinities: in its own format, since widening asks each `f32` whether it is a NaN; by `&`, without a branch.
+    // Whether it lies between the infinities: in its own format, since widening asks each `f32` whether it is a NaN.
     fn is_between(self) -> bool
         ensures { result ≡ is_finite (number self) };
 }

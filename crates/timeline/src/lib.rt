@@ -306,7 +306,7 @@ impl AudioParamEventTimeline {
         self.filed_inside(start, end).is_some()
     }
 
-    // The queue with one event more, at a place.
+    // The queue with one event more, at a place. The slots alone are moved: of a whole queue, lent to do so, more copies are made.
     pub fn put_at(self, place: usize, e: Event) -> Self
         requires { Neat self × (self.len < most_events) × (place ≤ self.len) }
         ensures { result ≡ made (put_at place e (waiting self)) }
