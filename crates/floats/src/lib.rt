@@ -12,9 +12,13 @@ pub trait Real: Copy {
     fn widened(self) -> f64
         ensures { result ≡ number self };
 
-    // Whether it lies between the infinities: in its own format, since widening asks each `f32` whether it is a NaN.
+    // Whether it lies between the infinities. The types below ask it in their own format, since widening asks each `f32` whether it is a NaN.
     fn is_between(self) -> bool
-        ensures { result ≡ is_finite (number self) };
+        ensures { result ≡ is_finite (number self) }
+    {
+        let y = self.widened();
+        f64::NEG_INFINITY < y && y < f64::INFINITY
+    }
 }
 
 impl Real for f32 {
@@ -97,4 +101,48 @@ pub fn later_of(s: f64, t: f64) -> f64
     ensures { result ≡ later_of s t }
 {
     if s < t { t } else { s }
+}
+
+#[cfg(test)]
+mod tests {
+    use super::*;
+
+    // A caller's own type, with nothing of its own but `widened`.
+    #[derive(Clone, Copy)]
+    struct Reading {
+        value: f64,
+    }
+
+    impl Real for Reading {
+        ghost number = { λ r. r.value };
+
+        fn widened(self) -> f64 {
+            self.value
+        }
+    }
+
+    #[test]
+    fn a_reading_is_finite(rt: HostRuntime) {
+        for value in [400.0, -0.0] {
+            assert!(rt; is_finite(Reading { value }));
+        }
+        for value in [f64::INFINITY, f64::NEG_INFINITY, f64::NAN] {
+            assert!(rt; !is_finite(Reading { value }));
+        }
+    }
+
+    #[test]
+    fn a_reading_has_a_sign(rt: HostRuntime) {
+        for (value, is_above, is_below) in [
+            (400.0, true, false),
+            (-0.0, false, false),
+            (-5e-324, false, true),
+            (f64::NAN, false, false),
+        ] {
+            let x = Reading { value };
+            assert_eq!(rt; is_positive(x), is_above);
+            assert_eq!(rt; is_negative(x), is_below);
+            assert_eq!(rt; is_zero(x), value == 0.0);
+        }
+    }
 }

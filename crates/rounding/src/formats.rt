@@ -127,3 +127,73 @@ impl Binary for f64 {
         f64::from_bits(pattern)
     }
 }
+
+#[cfg(test)]
+mod tests {
+    use super::*;
+    use crate::{Parts, norm};
+
+    // A caller's own type, with nothing of its own but what the two traits ask.
+    #[derive(Clone, Copy)]
+    struct Volts {
+        held: f64,
+    }
+
+    impl Real for Volts {
+        ghost number = { λ x. x.held };
+
+        fn widened(self) -> f64 {
+            self.held
+        }
+    }
+
+    impl Binary for Volts {
+        const DIGITS: u64 = 53;
+
+        const LEAD: u64 = 0x10_0000_0000_0000;
+
+        const SIGN: u64 = 0x8000_0000_0000_0000;
+
+        const ONES: u64 = 0x7ff;
+
+        const SHIFT: u64 = 842;
+
+        ghost DIGITS = { 53 };
+
+        ghost LEAD = { 0x10_0000_0000_0000 };
+
+        ghost SIGN = { 0x8000_0000_0000_0000 };
+
+        ghost ONES = { 0x7ff };
+
+        ghost SHIFT = { 842 };
+
+        ghost unit = { 1139 };
+
+        ghost format = { binary64 };
+
+        ghost widths = { record { digits_is = refl; lead_is = refl; sign_is = refl; ones_is = refl } };
+
+        ghost units = { (refl, lit≤ tt, lit≤ tt) };
+
+        fn to_pattern(self) -> u64 {
+            self.held.to_pattern()
+        }
+
+        fn from_pattern(pattern: u64) -> Volts {
+            Volts {
+                held: f64::from_pattern(pattern),
+            }
+        }
+    }
+
+    // `norm` counts in units of 2^-1139. 400 is 25/16 times 256, so its significand is 0x19 and zeros.
+    #[test]
+    fn volts_are_rounded_and_parted(rt: HostRuntime) {
+        let x: Volts = norm(true, 400, 1139);
+        assert_eq!(rt; x.held, -400.0);
+        let parts = Parts::of(Volts { held: -400.0 });
+        assert!(rt; parts.neg);
+        assert_eq!(rt; parts.m, 0x19_0000_0000_0000);
+    }
+}
