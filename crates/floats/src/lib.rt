@@ -12,12 +12,12 @@ pub trait Real: Copy {
     fn widened(self) -> f64
         ensures { result ≡ number self };
 
-    // Whether it lies between the infinities. The types below ask it in their own format, since widening asks each `f32` whether it is a NaN.
+    // Whether it lies between the infinities. A type may ask it in its own format: widening asks each `f32` whether it is a NaN.
     fn is_between(self) -> bool
         ensures { result ≡ is_finite (number self) }
     {
         let y = self.widened();
-        f64::NEG_INFINITY < y && y < f64::INFINITY
+        (f64::NEG_INFINITY < y) & (y < f64::INFINITY)
     }
 }
 
@@ -123,7 +123,7 @@ mod tests {
 
     #[test]
     fn a_reading_is_finite(rt: HostRuntime) {
-        for value in [400.0, -0.0] {
+        for value in [400.0, -0.0, f64::MAX, f64::MIN] {
             assert!(rt; is_finite(Reading { value }));
         }
         for value in [f64::INFINITY, f64::NEG_INFINITY, f64::NAN] {

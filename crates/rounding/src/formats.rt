@@ -148,15 +148,15 @@ mod tests {
     }
 
     impl Binary for Volts {
-        const DIGITS: u64 = 53;
+        const DIGITS: u64 = <f64 as Binary>::DIGITS;
 
-        const LEAD: u64 = 0x10_0000_0000_0000;
+        const LEAD: u64 = <f64 as Binary>::LEAD;
 
-        const SIGN: u64 = 0x8000_0000_0000_0000;
+        const SIGN: u64 = <f64 as Binary>::SIGN;
 
-        const ONES: u64 = 0x7ff;
+        const ONES: u64 = <f64 as Binary>::ONES;
 
-        const SHIFT: u64 = 842;
+        const SHIFT: u64 = <f64 as Binary>::SHIFT;
 
         ghost DIGITS = { 53 };
 
@@ -187,7 +187,7 @@ mod tests {
         }
     }
 
-    // `norm` counts in units of 2^-1139. 400 is 25/16 times 256, so its significand is 0x19 and zeros.
+    // `norm` counts in units of 2^-1139. 400 is 0x19 and zeros, times 2^1030 of the smallest value, 2^-1074.
     #[test]
     fn volts_are_rounded_and_parted(rt: HostRuntime) {
         let x: Volts = norm(true, 400, 1139);
@@ -195,5 +195,6 @@ mod tests {
         let parts = Parts::of(Volts { held: -400.0 });
         assert!(rt; parts.neg);
         assert_eq!(rt; parts.m, 0x19_0000_0000_0000);
+        assert_eq!(rt; parts.j, 1030);
     }
 }
